@@ -64,7 +64,7 @@ fn edges() -> Vec<[i32; 3]> {
 }
 
 /// Triples at which some exact channel, 510 C of 1,200,000, is a whole number and a half.
-fn ties() -> Vec<[i32; 3]> {
+pub fn ties() -> Vec<[i32; 3]> {
     let mut all = Vec::new();
     let mut seen = 0usize;
     for h in 0..360 {

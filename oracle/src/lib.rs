@@ -7,7 +7,12 @@
 
 pub mod adler;
 pub mod colours;
+pub mod grammar;
+pub mod list;
 pub mod random;
+pub mod record;
+pub mod run;
+pub mod text;
 
 pub mod decoder {
     include!(concat!(env!("OUT_DIR"), "/decoder.rs"));
