@@ -1,0 +1,2 @@
+pub mod Adler
+pub mod Numbers
