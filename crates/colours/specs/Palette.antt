@@ -30,10 +30,7 @@ pick false a b = b
 
 -- register n holds the colour; above 255 nothing changes
 unfoldable pub stored : Palette → ℕ → ℕ → Palette
-stored p n color =
-    pick (ltb n 256)
-    (ofTable (set (p .colors) n color))
-    p
+stored p n color = pick (ltb n 256) (ofTable (set (p .colors) n color)) p
 
 -- register n set by percents of red, green and blue
 unfoldable pub setRgb : Palette → ℕ → ℤ → ℤ → ℤ → Palette

@@ -1,0 +1,59 @@
+-- `colour_answers::compare::hues` is safe and ends.
+-- Assumes nothing.
+use Prim.Native.Nat.{_≤_, _-_}
+use borrow.Author.Needs.{needs}
+use Rattle.colour_answers.proofs.compare.hues.Statement.{statement}
+use Rattle.colour_answers.proofs.compare.hues.Tie as tie
+
+abbrev Inv-loop : tie.InvT-loop
+Inv-loop stored tally₀ hue₀ tally hue = hue ≤ 360
+
+abbrev μ-loop : tie.MeasureT-loop
+μ-loop stored tally₀ hue₀ tally hue = 360 - hue
+
+loop-holds : tie.Need-loop-holds Inv-loop μ-loop
+loop-holds c = search needs
+
+cast-checksum : tie.Need-cast-checksum Inv-loop μ-loop
+cast-checksum c = search needs
+
+checksum-requires : tie.Need-checksum-requires Inv-loop μ-loop
+checksum-requires c κs = search needs
+
+mul-number-at : tie.Need-mul-number-at Inv-loop μ-loop
+mul-number-at c = search needs
+
+number-at-requires : tie.Need-number-at-requires Inv-loop μ-loop
+number-at-requires c κs = search needs
+
+with-requires : tie.Need-with-requires Inv-loop μ-loop
+with-requires c κs = search needs
+
+add-hue : tie.Need-add-hue Inv-loop μ-loop
+add-hue c = search needs
+
+loop-less : tie.Need-loop-less Inv-loop μ-loop
+loop-less c = search needs
+
+loop-again : tie.Need-loop-again Inv-loop μ-loop
+loop-again c = search needs
+
+returns : tie.Need-returns Inv-loop μ-loop
+returns c = search needs
+
+pub hues-spec : {M : Type 1} → statement M
+hues-spec =
+    tie.close
+    (tie.spec
+    Inv-loop
+    μ-loop
+    loop-holds
+    cast-checksum
+    checksum-requires
+    mul-number-at
+    number-at-requires
+    with-requires
+    add-hue
+    loop-less
+    loop-again
+    returns)

@@ -1,0 +1,55 @@
+-- `colour_answers::compare::samples` is safe and ends.
+-- Assumes nothing.
+use Prim.Native.Nat.{_≤_, _-_}
+use borrow.Author.Needs.{needs}
+use Rattle.colour_answers.proofs.compare.samples.Statement.{statement}
+use Rattle.colour_answers.proofs.compare.samples.Tie as tie
+
+abbrev Inv-loop : tie.InvT-loop
+Inv-loop stored count tally₀ i₀ tally i = i ≤ count
+
+abbrev μ-loop : tie.MeasureT-loop
+μ-loop stored count tally₀ i₀ tally i = count - i
+
+loop-holds : tie.Need-loop-holds Inv-loop μ-loop
+loop-holds c = search needs
+
+cast-sample : tie.Need-cast-sample Inv-loop μ-loop
+cast-sample c = search needs
+
+mul-sample : tie.Need-mul-sample Inv-loop μ-loop
+mul-sample c = search needs
+
+add-sample : tie.Need-add-sample Inv-loop μ-loop
+add-sample c = search needs
+
+sample-requires : tie.Need-sample-requires Inv-loop μ-loop
+sample-requires c κs = search needs
+
+add-i : tie.Need-add-i Inv-loop μ-loop
+add-i c = search needs
+
+loop-less : tie.Need-loop-less Inv-loop μ-loop
+loop-less c = search needs
+
+loop-again : tie.Need-loop-again Inv-loop μ-loop
+loop-again c = search needs
+
+returns : tie.Need-returns Inv-loop μ-loop
+returns c = search needs
+
+pub samples-spec : {M : Type 1} → statement M
+samples-spec =
+    tie.close
+    (tie.spec
+    Inv-loop
+    μ-loop
+    loop-holds
+    cast-sample
+    mul-sample
+    add-sample
+    sample-requires
+    add-i
+    loop-less
+    loop-again
+    returns)
