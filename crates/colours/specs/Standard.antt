@@ -50,7 +50,9 @@ pick false a b = b
 unfoldable pub standardAt : ℕ → ℕ
 standardAt n = pick (ltb n 16) (getD base n 0) (pick (ltb n 232) (cube (n - 16)) (grey (n - 232)))
 
--- f at i and at the numbers after it, n of them
+-- f at i and at the numbers after it, n of them. The `let` lets a proof read one without working out the rest
 unfoldable pub listed : (ℕ → ℕ) → ℕ → ℕ → List ℕ
 listed f i zero = []
-listed f i (suc n) = f i ∷ listed f (suc i) n
+listed f i (suc n) =
+    let rest = listed f (suc i) n in
+    f i ∷ rest

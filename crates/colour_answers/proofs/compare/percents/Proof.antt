@@ -1,7 +1,7 @@
 -- `colour_answers::compare::percents` is safe and ends.
 -- Assumes nothing.
 use Prim.Native.Nat.{_≤_, _-_}
-use borrow.Author.Needs.{needs}
+use native.Mathlib.Omega.{arith}
 use Rattle.colour_answers.proofs.compare.percents.Statement.{statement}
 use Rattle.colour_answers.proofs.compare.percents.Tie as tie
 
@@ -12,40 +12,40 @@ abbrev μ-loop : tie.MeasureT-loop
 μ-loop stored tally₀ above₀ tally above = 701 - above
 
 loop-holds : tie.Need-loop-holds Inv-loop μ-loop
-loop-holds c = search needs
+loop-holds c = omega arith
 
 wrapping-sub-u32-requires : tie.Need-wrapping-sub-u32-requires Inv-loop μ-loop
-wrapping-sub-u32-requires c κs = search needs
+wrapping-sub-u32-requires c κs = tt
 
 signed-requires : tie.Need-signed-requires Inv-loop μ-loop
-signed-requires c κs = search needs
+signed-requires c κs = tt
 
 cast-percent : tie.Need-cast-percent Inv-loop μ-loop
-cast-percent c = search needs
+cast-percent c = omega arith
 
 add-percent : tie.Need-add-percent Inv-loop μ-loop
-add-percent c = search needs
+add-percent c = omega arith
 
 percent-requires : tie.Need-percent-requires Inv-loop μ-loop
-percent-requires c κs = search needs
+percent-requires c κs = tt
 
 add-above : tie.Need-add-above Inv-loop μ-loop
-add-above c = search needs
+add-above c = omega arith
 
 loop-less : tie.Need-loop-less Inv-loop μ-loop
-loop-less c = search needs
+loop-less c = omega arith
 
 loop-again : tie.Need-loop-again Inv-loop μ-loop
-loop-again c = search needs
+loop-again c = omega arith
 
 percent-requires-2 : tie.Need-percent-requires-2 Inv-loop μ-loop
-percent-requires-2 c κs = search needs
+percent-requires-2 c κs = tt
 
 percent-requires-3 : tie.Need-percent-requires-3 Inv-loop μ-loop
-percent-requires-3 c κs = search needs
+percent-requires-3 c κs = tt
 
 returns : tie.Need-returns Inv-loop μ-loop
-returns c = search needs
+returns c = tt
 
 pub percents-spec : {M : Type 1} → statement M
 percents-spec =
