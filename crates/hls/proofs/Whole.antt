@@ -12,7 +12,7 @@ use mir.Val.{Fits, SFits, ofZ, toZ}
 use mir.ValLaws.{toZ-ofZ, sfits-le}
 use borrow.Author.Tests.{ltb-true, ltb-false, le-ltb}
 use Rattle.hls.specs.Percent.{held, percentByte}
-use Rattle.hls.specs.Turn.{modulo360}
+use Rattle.hls.specs.Turn.{modulo360, turned}
 
 -- ---- a number that the machine holds: z is what is read back from its bits
 
@@ -82,6 +82,10 @@ pub modulo-lt : (h : ℤ) → modulo360 h < 361
 unfolding modulo360
 modulo-lt (pos n) = omega arith
 modulo-lt (negsuc n) = omega arith
+
+pub turned-lt : (h : ℤ) → turned h < 360
+unfolding turned
+turned-lt h = omega arith
 
 pub quot-fits : {z : ℤ} → (h : ℤ) → z ≡ h → SFits w32 h → SFits w32 (quotZ z (pos 360))
 quot-fits h e f = subst (λ (x : ℤ). SFits w32 (quotZ x (pos 360))) (sym e) (sfits-le (less h) f)
