@@ -1,11 +1,11 @@
 -- Document 01, Colours: the 256 standard registers by their three rules. The source holds them as numbers.
 -- Assumes nothing.
-use Prim.Native.Nat.{ℕ, zero, suc, _+_, _-_, _*_, _/_, _%_}
-use mathlib.Core.Bool.{Bool, true, false}
+use Prim.Native.Nat.{ℕ, zero, suc, _-_, _*_, _/_, _%_}
 use mathlib.Core.List.{List, [], _∷_}
 use lib.Dec.{ltb}
 use lib.IntN.{pos}
 use lib.ListN.{getD}
+use Rattle.hls.specs.Hls.{pick}
 use Rattle.hls.specs.Percent.{percentByte}
 use Rattle.colours.specs.Packing.{packed}
 
@@ -41,10 +41,6 @@ cube k = percents (20 * (k / 36)) (20 * (k / 6 % 6)) (20 * (k % 6))
 -- registers 232 to 255, the k-th of 24: a grey of 100k / 23 percent, rounded down
 unfoldable pub grey : ℕ → ℕ
 grey k = percents (100 * k / 23) (100 * k / 23) (100 * k / 23)
-
-abbrev pub pick : Bool → ℕ → ℕ → ℕ
-pick true a b = a
-pick false a b = b
 
 -- the colour of standard register n
 unfoldable pub standardAt : ℕ → ℕ
