@@ -4,7 +4,7 @@ ghost use lib.Ieee.{toUnsigned};
 ghost use Rattle.hls.specs.Percent.{held, percentByte};
 ghost use Rattle.hls.specs.Turn.{modulo360};
 ghost use Rattle.hls.specs.Hls.{raised, lowered, hueToRgb, upper, hlsBytes};
-ghost use Rattle.hls.specs.Exact.{exactChannels, AllBeside};
+ghost use Rattle.hls.specs.Exact.{exactHls, AllBeside};
 
 // Clamps a percent to 0 to 100.
 fn clamp_percent(v: i32) -> u32
@@ -96,7 +96,7 @@ fn floor_to_byte(w: f64) -> u8
 
 pub fn hls_to_rgb(h: i32, l: i32, s: i32) -> [u8; 3]
     ensures { λ r. ⌜ r ≡ hlsBytes h l s ⌝ }
-    ensures { λ r. ⌜ AllBeside (exactChannels h l s) r ⌝ }
+    ensures { λ r. ⌜ AllBeside (exactHls h l s) r ⌝ }
 {
     if s <= 0 {
         let gray = percent_to_byte(l);
