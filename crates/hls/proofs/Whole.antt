@@ -70,6 +70,10 @@ percent-is {n} v e = rw e (ap (λ (x : ℕ). (x + 50) / 100) (swap (held v)))
     swap : (x : ℕ) → x * 255 ≡ 255 * x
     swap x = omega arith
 
+pub percent-byte-lt : (v : ℤ) → percentByte v < 256
+unfolding percentByte
+percent-byte-lt v = omega (arith, held-le v)
+
 -- ---- the remainder
 
 pub modulo-lt : (h : ℤ) → modulo360 h < 361

@@ -1,4 +1,4 @@
--- HLS in whole numbers, as document 01 states it: C is 600,000 times a channel.
+-- HLS in whole numbers, as document 01 states it: C is 600,000 times a channel. No difference here is below 0: 100 L ≤ Q ≤ 200 L (`ends`, proofs/Channels.antt), so P ≤ Q too.
 use mathlib.Core.List.{List, [], _∷_, map}
 use Prim.Native.Nat.{ℕ, _+_, _-_, _*_, _/_, _%_, _≤_, _<_}
 use mathlib.Core.Path.{_≡_}
