@@ -1,24 +1,24 @@
 -- Each byte of HLS stands beside the exact one: never above it, at most one below, and equal but at an exact tie. Assumes nothing.
-use mathlib.Core.Path.{_≡_, refl, sym, ap, _∙_, subst}
-use mathlib.Core.Bool.{Bool, true, false, not, _&&_, Bool·beq}
-use mathlib.Core.List.{List, [], _∷_, map}
-use Prim.Native.Nat.{ℕ, zero, suc, _+_, _-_, _*_, _/_, _%_, _≤_, _<_, min}
-use native.Mathlib.Nat.{le-refl, mul-le-mul-right, le-div-iff-mul-le, div-lt-iff-lt-mul, lt-of-mul-lt-mul-right}
+use mathlib.Core.Path.{_≡_, refl, sym, _∙_, subst}
+use mathlib.Core.Bool.{Bool, true, false, _&&_, Bool·beq}
+use mathlib.Core.List.{List, map}
+use Prim.Native.Nat.{ℕ, _+_, _-_, _*_, _/_, _%_, _≤_, _<_, min}
+use native.Mathlib.Nat.{mul-le-mul-right, le-div-iff-mul-le, div-lt-iff-lt-mul, lt-of-mul-lt-mul-right}
 use native.Mathlib.Omega.{arith}
-use lib.Dec.{T, ltb, ltb→lt, lit<, lit≤}
+use lib.Dec.{T, ltb, ltb→lt, lit≤}
 use lib.IntN.{ℤ, pos, negsuc}
 use lib.Signed.{leZ}
 use lib.Ieee.{Float, nan, inf, fin, up, down, lt, toUnsigned}
 use borrow.Author.Tests.{leb-true}
 use lib.Ieee.Fits.{and-l, and-r, down-pos}
 use Rattle.hls.specs.Percent.{held, percentByte}
-use Rattle.hls.specs.Turn.{modulo360, turned}
+use Rattle.hls.specs.Turn.{turned}
 use Rattle.hls.specs.Hls.{pick, add, sub, mul, div, f½, f1, f2, f3, f6, f100, f255, f360, over, raised, lowered, placed, hueToRgb, upper, upperBy, channelByte, between, coloured, grey, hlsBytes}
-use Rattle.hls.specs.Exact.{exactQ, exactP, exactC, exactTurns, exactChannels, exactByte, Beside, AllBeside}
+use Rattle.hls.specs.Exact.{exactQ, exactP, exactC, exactTurns, exactHls, exactByte, Beside, AllBeside}
 use Rattle.hls.proofs.Whole.{held-le, turned-lt}
 use Rattle.hls.proofs.Near.{N, Near, Above, add-near, mul-near}
 use Rattle.hls.proofs.Sweep.{stands, percent-stands, turn-stands, hue-stands, percent-at, hue-at, above-of}
-use Rattle.hls.proofs.Channels.{Ends, ends, Channel, upper-near, lower-near, place-near}
+use Rattle.hls.proofs.Channels.{ends, Channel, upper-near, lower-near, place-near}
 
 -- ---- a channel's byte
 
@@ -193,7 +193,7 @@ grey-beside l n =
     let c : exactC (200 * l - exactQ l 0) (exactQ l 0) n ≡ 6000 * l = rw (p, grey-q l) (flat (100 * l) n ∙ omega arith) in
     same-beside _ _ (rw c (omega arith))
 
-pub all-beside : (h l s : ℤ) → AllBeside (exactChannels h l s) (hlsBytes h l s)
+pub all-beside : (h l s : ℤ) → AllBeside (exactHls h l s) (hlsBytes h l s)
 all-beside h l s = go (leZ s (pos 0)) refl
   where
     none : (s : ℤ) → leZ s (pos 0) ≡ true → held s ≡ 0
@@ -205,9 +205,9 @@ all-beside h l s = go (leZ s (pos 0)) refl
         unfold grey percentByte exactTurns in
         rw e (grey-beside (held l) ((turned h + 120) % 360), (grey-beside (held l) (turned h), (grey-beside (held l) ((turned h + 240) % 360), tt)))
 
-    go : (b : Bool) → leZ s (pos 0) ≡ b → AllBeside (exactChannels h l s) (hlsBytes h l s)
-    go true e = unfold exactChannels hlsBytes in rw e (all-grey (held s) (none s e))
-    go false e = unfold exactChannels hlsBytes in rw e (colour-beside (held l) (held s) (turned h) (held-le l) (held-le s) (turned-lt h))
+    go : (b : Bool) → leZ s (pos 0) ≡ b → AllBeside (exactHls h l s) (hlsBytes h l s)
+    go true e = unfold exactHls hlsBytes in rw e (all-grey (held s) (none s e))
+    go false e = unfold exactHls hlsBytes in rw e (colour-beside (held l) (held s) (turned h) (held-le l) (held-le s) (turned-lt h))
 
-pub beside-too : (h l s : ℤ) {r : List ℕ} → r ≡ hlsBytes h l s → (r ≡ hlsBytes h l s) × AllBeside (exactChannels h l s) r
-beside-too h l s e = (e, subst (λ (r : List ℕ). AllBeside (exactChannels h l s) r) (sym e) (all-beside h l s))
+pub beside-too : (h l s : ℤ) {r : List ℕ} → r ≡ hlsBytes h l s → (r ≡ hlsBytes h l s) × AllBeside (exactHls h l s) r
+beside-too h l s e = (e, subst (λ (r : List ℕ). AllBeside (exactHls h l s) r) (sym e) (all-beside h l s))

@@ -1,18 +1,18 @@
 -- From lightness and saturation to a channel, with the distance from the exact one: P and Q count 360,000,000 units, C 6,000,000. Assumes nothing.
-use mathlib.Core.Path.{_≡_, refl, sym, ap, _∙_, subst}
-use mathlib.Core.Bool.{Bool, true, false, not, _&&_, _||_, Bool·beq}
+use mathlib.Core.Path.{_≡_, sym, ap, _∙_, subst}
+use mathlib.Core.Bool.{Bool, true, false, not, _&&_, _||_}
 use mathlib.Core.Logic.{_⊎_, inl, inr}
-use Prim.Native.Nat.{ℕ, zero, suc, _+_, _-_, _*_, _/_, _%_, _≤_, _<_}
-use native.Mathlib.Nat.{le-trans, le-refl, mul-le-mul-left, mul-le-mul-right}
+use Prim.Native.Nat.{ℕ, _+_, _-_, _*_, _≤_, _<_}
+use native.Mathlib.Nat.{le-refl, mul-le-mul-left, mul-le-mul-right}
 use native.Mathlib.Omega.{arith}
-use lib.Dec.{T, leb, ltb, eqb, leb→le, ltb→lt, nltb→le, eqb→eq, lit<, lit≤}
-use lib.Ieee.{Float, fin, lt}
+use lib.Dec.{T, leb, ltb, eqb, leb→le, ltb→lt, nltb→le, eqb→eq, lit≤}
+use lib.Ieee.{Float}
 use lib.Ieee.Fits.{and-l, and-r}
 use borrow.Author.Tests.{lt-ltb, le-ltb}
-use Rattle.hls.specs.Hls.{pick, add, sub, mul, div, f½, f1, f2, f3, f6, upper, upperBy, channel}
-use Rattle.hls.specs.Exact.{exactQ, exactP, exactC}
+use Rattle.hls.specs.Hls.{pick, add, sub, mul, div, f1, f2, f3, f6, upperBy, channel}
+use Rattle.hls.specs.Exact.{exactQ, exactC}
 use Rattle.hls.proofs.Near.{N, Near, Above, add-near, sub-near, mul-near, settle, above-near}
-use Rattle.hls.proofs.Sweep.{stands, percent-stands, place-stands, above-of}
+use Rattle.hls.proofs.Sweep.{stands, place-stands, above-of}
 
 -- ---- the exact ends
 

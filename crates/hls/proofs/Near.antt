@@ -1,14 +1,13 @@
 -- How far an f64 is from an exact number. Every exact number is counted in units of 1 / N, so fine that one rounding below 1,024 adds less than one unit to the distance.
 -- An exact number is written as a difference u - v of two natural numbers, so that one law serves both signs. Assumes nothing.
-use mathlib.Core.Path.{_≡_, refl, sym, ap, _∙_, subst}
-use mathlib.Core.Bool.{Bool, true, false, not, _&&_, cond}
-use Prim.Native.Nat.{ℕ, zero, suc, _+_, _-_, _*_, _/_, _%_, _^_, _≤_, _<_, compare}
-use native.Mathlib.Nat.{le-trans, le-of-eq, lt-of-le-of-lt, mul-comm, mul-pos, mul-le-mul-right, mul-lt-mul-of-pos-right, le-of-mul-le-mul-right, lt-of-mul-lt-mul-right, div-lt-iff-lt-mul, div-add-mod', mod-lt}
+use mathlib.Core.Path.{_≡_, sym, ap, subst}
+use mathlib.Core.Bool.{Bool, true, false, not, cond}
+use Prim.Native.Nat.{ℕ, _+_, _-_, _*_, _/_, _%_, _^_, _≤_, _<_, compare}
+use native.Mathlib.Nat.{le-trans, le-of-eq, lt-of-le-of-lt, mul-comm, mul-pos, mul-le-mul-right, mul-lt-mul-of-pos-right, le-of-mul-le-mul-right, div-lt-iff-lt-mul, div-add-mod', mod-lt}
 use native.Mathlib.Omega.{arith}
 use lib.Dec.{T, ltb, ltb→lt, nltb→le, lit<, lit≤}
 use lib.Pow.{pow-pos, pow-mono}
-use lib.IntN.{ℤ}
-use lib.Ieee.{Float, nan, inf, fin, binary64, up, down, nearest, round, neg, sum, add, sub, mul}
+use lib.Ieee.{Float, nan, inf, fin, binary64, up, down, round, neg, sum, add, sub, mul}
 use lib.Ieee.Digits.{size-le}
 use lib.Ieee.Exact.{HasValue, units-val}
 use lib.Ieee.Fits.{nearest-le, round-is, down-pos}
@@ -110,9 +109,6 @@ taken nan s g a c u v k C is hi lo h = absurd is
 taken (inf t) s g a c u v k C is hi lo h = absurd is
 taken (fin t m e) s g a c u v k C is hi lo h = subst (λ (x : Bool). Nearby x (m * up e) (down e) u v (k + 1)) (sym (is .0)) (go s h)
   where
-    y : ℕ
-    y = m * up e
-
     near : (u v : ℕ) → Nearby false a c u v k → Nearby false (m * up e) (down e) u v (k + 1)
     near u v h =
         moved (m * up e) (down e) a c u v k C

@@ -1,17 +1,15 @@
 -- What is computed: of each of the 101 percents and of each of the 3 x 360 turns, that its f64 stands where it should. Assumes nothing.
-use mathlib.Core.Path.{_≡_, refl, sym, ap, _∙_, subst}
-use mathlib.Core.Bool.{Bool, true, false, not, _&&_, _||_, Bool·beq}
+use mathlib.Core.Path.{_≡_, refl, sym, subst}
+use mathlib.Core.Bool.{Bool, true, false, _&&_, _||_, Bool·beq}
 use mathlib.Core.Logic.{inl, inr}
 use Prim.Native.Nat.{ℕ, zero, suc, _+_, _-_, _*_, _%_, _≤_, _<_}
 use native.Mathlib.Nat.{eq-or-lt-of-le, le-of-suc-le-suc, not-suc-le-zero}
 use native.Mathlib.Omega.{arith}
 use lib.Dec.{T, leb, ltb, eqb, leb→le}
-use lib.IntN.{pos, negsuc}
 use lib.Ieee as Ieee
-use lib.Ieee.{Float, nan, inf, fin, up, down, lt, round, size, span, climb, odd, units, sum, ofInt, neg}
+use lib.Ieee.{Float, nan, inf, fin, up, down, lt, round, ofInt}
 use lib.Ieee.Fits.{and-l, and-r}
-use lib.Count.{trailingZeros}
-use Rattle.hls.specs.Hls.{add, sub, div, f0, f½, f1, f2, f3, f6, f100, f360, over, raised, lowered}
+use Rattle.hls.specs.Hls.{add, sub, div, f½, f1, f2, f3, f6, f100, f360, over, raised, lowered}
 use Rattle.hls.proofs.Near.{N, Above}
 
 -- f of every number below n
