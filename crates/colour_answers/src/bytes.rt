@@ -1,10 +1,10 @@
-// Numbers as the file stores them: four bytes, the lowest first.
+// What stands at a place of the file. A place past its end holds nothing, and no byte equals that.
 
 fn wide(byte: u8) -> u32 {
     byte as u32
 }
 
-// The number stored at a place, or 0 where fewer than four bytes stand there.
+// The number of four bytes, the lowest first; 0 where fewer stand there.
 pub fn number_at(stored: &[u8], at: usize) -> u32 {
     if stored.len() < 4 {
         return 0;
@@ -24,4 +24,27 @@ pub fn signed(bits: u32) -> i32 {
         return bits as i32;
     }
     -1 - ((0xffff_ffff - bits) as i32)
+}
+
+pub fn is_byte(stored: &[u8], at: usize, byte: u8) -> bool {
+    if at < stored.len() {
+        return stored[at] == byte;
+    }
+    false
+}
+
+pub fn is_rgb(stored: &[u8], at: usize, rgb: [u8; 3]) -> bool {
+    if stored.len() < 3 {
+        return false;
+    }
+    if stored.len() - 3 < at {
+        return false;
+    }
+    if stored[at] != rgb[0] {
+        return false;
+    }
+    if stored[at + 1] != rgb[1] {
+        return false;
+    }
+    stored[at + 2] == rgb[2]
 }

@@ -5,7 +5,7 @@ use mathlib.Core.List.{List, [], _∷_}
 use Prim.Native.Nat.{ℕ, _+_, _*_, _/_, _%_, _^_, _<_}
 use native.Mathlib.Omega.{arith}
 use lib.Bits.{bitOr, or-shifted}
-use lib.IntN.{ℤ}
+use lib.IntN.{ℤ, pos}
 use lib.ListN.{getD}
 use mir.Syntax.{w32}
 use mir.Val.{SFits, toZ, ofZ}
@@ -39,6 +39,10 @@ joined r g b hr hg hb =
 -- a signed number as a callee has it: read back from its bits
 abbrev pub passed : ℤ → ℤ
 passed v = toZ w32 (ofZ w32 v)
+
+-- for a caller that passes an unsigned number as a signed one
+pub passed-pos : (v : ℕ) → v < 2 ^ 31 → passed (pos v) ≡ pos v
+passed-pos v h = toZ-ofZ w32 (pos v) (record { sfits = h })
 
 -- storing what three percents pack to is setting by them
 pub sets-rgb : (p : Palette) (n color red green blue : ℕ) (r g b : ℤ) → SFits w32 r → SFits w32 g → SFits w32 b

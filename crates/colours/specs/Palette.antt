@@ -1,13 +1,12 @@
--- Document 01, Colours: a palette, read and set by register. `ofTable` alone knows what a palette is made of.
+-- Document 01, Colours: a palette, read and set by register. Only `ofTable`, `registerOf` and `stored` look inside one.
 -- Assumes nothing.
 use Prim.Native.Nat.{ℕ, min}
-use mathlib.Core.Bool.{Bool, true, false}
 use mathlib.Core.List.{List}
 use lib.Dec.{ltb}
 use lib.IntN.{ℤ}
 use lib.ListN.{getD, set}
 use Rattle.hls.specs.Percent.{percentByte}
-use Rattle.hls.specs.Hls.{hlsBytes}
+use Rattle.hls.specs.Hls.{pick, hlsBytes}
 use Rattle.colours.specs.declared.Palette.{Palette}
 use Rattle.colours.specs.Packing.{packed, pixelOf}
 use Rattle.colours.specs.Standard.{standardAt, listed}
@@ -24,16 +23,9 @@ standard = ofTable (listed standardAt 0 256)
 unfoldable pub registerOf : Palette → ℕ → List ℕ
 registerOf p n = pixelOf (getD (p .colors) (min n 255) 0)
 
-abbrev pub pick : Bool → Palette → Palette → Palette
-pick true a b = a
-pick false a b = b
-
 -- register n holds the colour; above 255 nothing changes
 unfoldable pub stored : Palette → ℕ → ℕ → Palette
-stored p n color =
-    pick (ltb n 256)
-    (ofTable (set (p .colors) n color))
-    p
+stored p n color = pick (ltb n 256) (ofTable (set (p .colors) n color)) p
 
 -- register n set by percents of red, green and blue
 unfoldable pub setRgb : Palette → ℕ → ℤ → ℤ → ℤ → Palette

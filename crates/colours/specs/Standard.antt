@@ -1,11 +1,11 @@
 -- Document 01, Colours: the 256 standard registers by their three rules. The source holds them as numbers.
 -- Assumes nothing.
-use Prim.Native.Nat.{ℕ, zero, suc, _+_, _-_, _*_, _/_, _%_}
-use mathlib.Core.Bool.{Bool, true, false}
+use Prim.Native.Nat.{ℕ, zero, suc, _-_, _*_, _/_, _%_}
 use mathlib.Core.List.{List, [], _∷_}
 use lib.Dec.{ltb}
 use lib.IntN.{pos}
 use lib.ListN.{getD}
+use Rattle.hls.specs.Hls.{pick}
 use Rattle.hls.specs.Percent.{percentByte}
 use Rattle.colours.specs.Packing.{packed}
 
@@ -42,15 +42,13 @@ cube k = percents (20 * (k / 36)) (20 * (k / 6 % 6)) (20 * (k % 6))
 unfoldable pub grey : ℕ → ℕ
 grey k = percents (100 * k / 23) (100 * k / 23) (100 * k / 23)
 
-abbrev pub pick : Bool → ℕ → ℕ → ℕ
-pick true a b = a
-pick false a b = b
-
 -- the colour of standard register n
 unfoldable pub standardAt : ℕ → ℕ
 standardAt n = pick (ltb n 16) (getD base n 0) (pick (ltb n 232) (cube (n - 16)) (grey (n - 232)))
 
--- f at i and at the numbers after it, n of them
+-- f at i and at the numbers after it, n of them. The `let` lets a proof read one without working out the rest
 unfoldable pub listed : (ℕ → ℕ) → ℕ → ℕ → List ℕ
 listed f i zero = []
-listed f i (suc n) = f i ∷ listed f (suc i) n
+listed f i (suc n) =
+    let rest = listed f (suc i) n in
+    f i ∷ rest

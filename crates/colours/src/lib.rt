@@ -41,9 +41,10 @@ pub fn rgb_bytes(colors: &[u32; 256], index: usize) -> [u8; 4]
 fn store(colors: &mut [u32; 256], index: usize, color: u32)
     ensures { λ _. ⌜ ofTable (now (colors .exit)) ≡ stored (ofTable (now (colors .entry))) index color ⌝ }
 {
-    if index < 256 {
-        colors[index] = color;
+    if index >= 256 {
+        return;
     }
+    colors[index] = color;
 }
 
 // Register `index` set by percents of red, green and blue.

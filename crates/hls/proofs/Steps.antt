@@ -1,15 +1,18 @@
 -- Laws of the functions on f64: what a test picks, and the cast to a byte. Assumes nothing.
 use mathlib.Core.Path.{_≡_, refl, sym, ap, _∙_, subst}
 use mathlib.Core.Bool.{Bool, true, false, true≢false}
-use mathlib.Core.List.{List, [], _∷_}
+use mathlib.Core.List.{[], _∷_}
 use Prim.Native.Nat.{ℕ, zero, suc, _+_, _*_, _-_, _/_, _%_, _^_, _≤_, _<_, min}
 use native.Mathlib.Nat.{zero-div, le-div-iff-mul-le, div-lt-iff-lt-mul}
 use native.Mathlib.Omega.{arith}
-use lib.Dec.{T, ltb, lt→ltb}
-use lib.IntN.{ℤ, pos, negsuc}
+use lib.Dec.{T, lt→ltb, lit<}
+use lib.IntN.{ℤ, pos}
 use lib.Signed.{leZ}
 use lib.Ieee.{Float, nan, inf, fin, up, down, lt, toUnsigned}
+use lib.Ieee.Casts.{toUnsigned-lt}
 use lib.Ieee.Fits.{down-pos}
+use lib.ListN.{getD}
+use Rattle.hls.proofs.Whole.{percent-byte-lt}
 use borrow.Author.Tests.{ltb-true, ltb-false}
 use Rattle.hls.specs.Hls.{pick, add, sub, mul, div, f0, f1, f2, f3, f100, f255, f360, over, raised, lowered, placed, hueToRgb, upper, channelByte, between, coloured, grey, hlsBytes}
 use Rattle.hls.specs.Percent.{held, percentByte}
@@ -100,3 +103,18 @@ pub colour-is :
 unfolding hlsBytes coloured between turned
 colour-is h l s {z} {m} {L} {S} {q} {r} {g} {b} {x} {y} {w} e t m-is L-is S-is q-is r-is g-is b-is x-is y-is w-is =
     pick-no _ _ (subst (λ (z : ℤ). leZ z (pos 0) ≡ false) e t) (cc)
+
+-- each of the three is a byte
+pub hls-byte-lt : (h l s : ℤ) (i : ℕ) → getD (hlsBytes h l s) i 0 < 256
+unfolding hlsBytes grey coloured between channelByte
+hls-byte-lt h l s = go (leZ s (pos 0))
+  where
+    each : (x y z : ℕ) → x < 256 → y < 256 → z < 256 → (i : ℕ) → getD (x ∷ y ∷ z ∷ []) i 0 < 256
+    each x y z a b c zero = a
+    each x y z a b c (suc zero) = b
+    each x y z a b c (suc (suc zero)) = c
+    each x y z a b c (suc (suc (suc i))) = lit< tt
+
+    go : (b : Bool) (i : ℕ) → getD (pick b (grey (percentByte l)) (coloured (over (turned h) f360) (over (held l) f100) (over (held s) f100))) i 0 < 256
+    go true = each _ _ _ (percent-byte-lt l) (percent-byte-lt l) (percent-byte-lt l)
+    go false = each _ _ _ (toUnsigned-lt 8 _) (toUnsigned-lt 8 _) (toUnsigned-lt 8 _)

@@ -1,27 +1,24 @@
 -- Laws of the two functions on i32: the clamp to a percent and the remainder that is never negative. Assumes nothing.
 use mathlib.Core.Path.{_≡_, refl, sym, ap, _∙_, subst}
-use mathlib.Core.Bool.{Bool, true, false}
+use mathlib.Core.Bool.{true, false}
 use Prim.Native.Nat.{ℕ, zero, suc, _+_, _*_, _-_, _/_, _%_, _≤_, _<_, min}
-use native.Mathlib.Nat.{lt-trans, lt-of-le-of-lt}
+use native.Mathlib.Nat.{lt-trans}
 use native.Mathlib.Omega.{arith}
 use lib.IntN.{ℤ, pos, negsuc, negℤ, natAbs, _+ℤ_, subℕ}
 use lib.Signed.{mag, ltZ, nonNeg, quotZ, remZ, mag-rem}
 use lib.Dec.{T, lit<}
-use mir.Syntax.{w8, w32}
+use mir.Syntax.{w32}
 use mir.Val.{Fits, SFits, ofZ, toZ}
 use mir.ValLaws.{toZ-ofZ, sfits-le}
 use borrow.Author.Tests.{ltb-true, ltb-false, le-ltb}
 use Rattle.hls.specs.Percent.{held, percentByte}
-use Rattle.hls.specs.Turn.{modulo360}
+use Rattle.hls.specs.Turn.{modulo360, turned}
 
 -- ---- a number that the machine holds: z is what is read back from its bits
 
-small : {z : ℤ} {m : ℕ} → z ≡ pos m → m < 361 → SFits w32 z
-small e h = subst (λ (z : ℤ). SFits w32 z) (sym e) (record { sfits = lt-trans h (lit< tt) })
-
 -- a small z fits, is read back as it is, and is cast to an unsigned number as it is
-pub sum-fits : {z : ℤ} {m : ℕ} → z ≡ pos m → m < 361 → SFits w32 z
-sum-fits = small
+pub small : {z : ℤ} {m : ℕ} → z ≡ pos m → m < 361 → SFits w32 z
+small e h = subst (λ (z : ℤ). SFits w32 z) (sym e) (record { sfits = lt-trans h (lit< tt) })
 
 read : {z : ℤ} {m : ℕ} → z ≡ pos m → m < 361 → toZ w32 (ofZ w32 z) ≡ pos m
 read {z} e h = toZ-ofZ w32 z (small e h) ∙ e
@@ -73,8 +70,9 @@ percent-is {n} v e = rw e (ap (λ (x : ℕ). (x + 50) / 100) (swap (held v)))
     swap : (x : ℕ) → x * 255 ≡ 255 * x
     swap x = omega arith
 
-pub percent-fits : {n : ℕ} (v : ℤ) → n ≡ held v → n ≤ 100
-percent-fits v e = omega (arith, held-le v)
+pub percent-byte-lt : (v : ℤ) → percentByte v < 256
+unfolding percentByte
+percent-byte-lt v = omega (arith, held-le v)
 
 -- ---- the remainder
 
@@ -82,6 +80,10 @@ pub modulo-lt : (h : ℤ) → modulo360 h < 361
 unfolding modulo360
 modulo-lt (pos n) = omega arith
 modulo-lt (negsuc n) = omega arith
+
+pub turned-lt : (h : ℤ) → turned h < 360
+unfolding turned
+turned-lt h = omega arith
 
 pub quot-fits : {z : ℤ} → (h : ℤ) → z ≡ h → SFits w32 h → SFits w32 (quotZ z (pos 360))
 quot-fits h e f = subst (λ (x : ℤ). SFits w32 (quotZ x (pos 360))) (sym e) (sfits-le (less h) f)

@@ -1,4 +1,4 @@
--- HLS in whole numbers, as document 01 states it: C is 600,000 times a channel.
+-- HLS in whole numbers, as document 01 states it: C is 600,000 times a channel. No difference here is below 0: 100 L ≤ Q ≤ 200 L (`ends`, proofs/Channels.antt), so P ≤ Q too.
 use mathlib.Core.List.{List, [], _∷_, map}
 use Prim.Native.Nat.{ℕ, _+_, _-_, _*_, _/_, _%_, _≤_, _<_}
 use mathlib.Core.Path.{_≡_}
@@ -27,15 +27,12 @@ unfoldable pub exactTurns : ℕ → List ℕ
 exactTurns hue = (hue + 120) % 360 ∷ hue ∷ (hue + 240) % 360 ∷ []
 
 -- C for red, green, blue
-unfoldable pub exactChannels : ℤ → ℤ → ℤ → List ℕ
-exactChannels h l s = map (exactC (exactP (held l) (held s)) (exactQ (held l) (held s))) (exactTurns (turned h))
+unfoldable pub exactHls : ℤ → ℤ → ℤ → List ℕ
+exactHls h l s = map (exactC (exactP (held l) (held s)) (exactQ (held l) (held s))) (exactTurns (turned h))
 
 -- the byte of a C
 unfoldable pub exactByte : ℕ → ℕ
 exactByte c = (510 * c + 600000) / 1200000
-
-unfoldable pub exactHls : ℤ → ℤ → ℤ → List ℕ
-exactHls h l s = map exactByte (exactChannels h l s)
 
 -- a byte is never above the exact one, at most one below it, and equal to it but at an exact tie
 pub record Beside (c b : ℕ) : Type 0 where
@@ -43,7 +40,7 @@ pub record Beside (c b : ℕ) : Type 0 where
   pub near : exactByte c ≤ b + 1
   pub same : 0 < (510 * c + 600000) % 1200000 → b ≡ exactByte c
 
--- each byte beside its channel, in order
+-- each byte beside its C, in order
 abbrev pub AllBeside : List ℕ → List ℕ → Type 0
 AllBeside [] [] = Unit
 AllBeside [] (b ∷ bs) = ⊥

@@ -4,6 +4,7 @@ ghost use lib.Ieee.{toUnsigned};
 ghost use Rattle.hls.specs.Percent.{held, percentByte};
 ghost use Rattle.hls.specs.Turn.{modulo360};
 ghost use Rattle.hls.specs.Hls.{raised, lowered, hueToRgb, upper, hlsBytes};
+ghost use Rattle.hls.specs.Exact.{exactHls, AllBeside};
 
 // Clamps a percent to 0 to 100.
 fn clamp_percent(v: i32) -> u32
@@ -18,6 +19,7 @@ fn clamp_percent(v: i32) -> u32
     v as u32
 }
 
+// Any number is a percent: it is held to 0 to 100.
 pub fn percent_to_byte(value: i32) -> u8
     ensures { λ r. ⌜ r ≡ percentByte value ⌝ }
 {
@@ -45,6 +47,7 @@ fn raise(t: f64) -> f64
     t
 }
 
+// The second of them.
 fn lower(t: f64) -> f64
     ensures { λ r. ⌜ r ≡ lowered t ⌝ }
 {
@@ -93,8 +96,11 @@ fn floor_to_byte(w: f64) -> u8
     0
 }
 
+// Two promises: the bytes are those of the f64 steps in the Rust's order, and each stands beside the
+// byte of the whole-number formula.
 pub fn hls_to_rgb(h: i32, l: i32, s: i32) -> [u8; 3]
     ensures { λ r. ⌜ r ≡ hlsBytes h l s ⌝ }
+    ensures { λ r. ⌜ AllBeside (exactHls h l s) r ⌝ }
 {
     if s <= 0 {
         let gray = percent_to_byte(l);

@@ -28,7 +28,7 @@ returns : tie.Need-returns
 returns c =
     let start : tie.Start = c .before .before .before .before in
     c .store .ensures
-    ∙ sets-hls _ _ _ _ _ _ _ (start .fits .h) (start .fits .l) (start .fits .s) (c .before .before .before .hls-to-rgb .ensures) (c .before .pack-rgb .ensures)
+    ∙ sets-hls _ _ _ _ _ _ _ (start .fits .h) (start .fits .l) (start .fits .s) (c .before .before .before .hls-to-rgb .ensures .0) (c .before .pack-rgb .ensures)
 
 pub define-hls-spec : {M : Type 1} → statement M
 define-hls-spec =

@@ -1,6 +1,4 @@
 -- `hls::clamp_percent` meets its contract: a law for each of the three ways. Assumes nothing.
-use lib.IntN.{ℤ}
-use lib.Signed.{ltZ}
 use mathlib.Core.Path.{_≡_}
 use native.Mathlib.Omega.{arith}
 use mir.Syntax.{w32}

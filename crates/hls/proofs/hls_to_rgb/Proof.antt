@@ -11,6 +11,7 @@ use Rattle.hls.specs.Turn.{modulo360}
 use Rattle.hls.specs.Hls.{over, channelByte}
 use Rattle.hls.proofs.Whole.{modulo-lt}
 use Rattle.hls.proofs.Steps.{grey-is, colour-is}
+use Rattle.hls.proofs.Beside.{beside-too}
 use Rattle.hls.proofs.hls_to_rgb.Statement.{statement}
 use Rattle.hls.proofs.hls_to_rgb.Tie as tie
 
@@ -20,8 +21,9 @@ percent-to-byte-requires c κs = search needs
 returns : tie.Need-returns
 returns c =
     let a = c .before .before in
-    grey-is (a .args .h) (a .args .l) (a .args .s) (toZ-ofZ w32 (a .args .s) (a .fits .s)) (c .before .if1 .taken)
-    (c .percent-to-byte .ensures ∙ ap percentByte (toZ-ofZ w32 (a .args .l) (a .fits .l)))
+    beside-too (a .args .h) (a .args .l) (a .args .s)
+    (grey-is (a .args .h) (a .args .l) (a .args .s) (toZ-ofZ w32 (a .args .s) (a .fits .s)) (c .before .if1 .taken)
+    (c .percent-to-byte .ensures ∙ ap percentByte (toZ-ofZ w32 (a .args .l) (a .fits .l))))
 
 rem-euclid-360-requires : tie.Need-rem-euclid-360-requires
 rem-euclid-360-requires c κs = search needs
@@ -72,13 +74,14 @@ returns-2 c =
     let k = u .before .before in
     let m = k .before .before .before .before in
     let a = m .before .before in
-    colour-is (a .args .h) (a .args .l) (a .args .s) (toZ-ofZ w32 (a .args .s) (a .fits .s)) (m .before .if1 .left)
+    beside-too (a .args .h) (a .args .l) (a .args .s)
+    (colour-is (a .args .h) (a .args .l) (a .args .s) (toZ-ofZ w32 (a .args .s) (a .fits .s)) (m .before .if1 .left)
     (m .rem-euclid-360 .ensures ∙ ap modulo360 (toZ-ofZ w32 (a .args .h) (a .fits .h)))
     (k .before .before .clamp-percent .ensures ∙ ap held (toZ-ofZ w32 (a .args .l) (a .fits .l)))
     (k .clamp-percent2 .ensures ∙ ap held (toZ-ofZ w32 (a .args .s) (a .fits .s)))
     (u .upper-end .ensures)
     (c .before .before .before .before .before .hue-to-rgb .ensures) (c .before .before .before .before .hue-to-rgb2 .ensures) (c .before .before .before .hue-to-rgb3 .ensures)
-    (c .before .before .floor-to-byte .ensures) (c .before .floor-to-byte2 .ensures) (c .floor-to-byte3 .ensures)
+    (c .before .before .floor-to-byte .ensures) (c .before .floor-to-byte2 .ensures) (c .floor-to-byte3 .ensures))
 
 pub hls-to-rgb-spec : {M : Type 1} → statement M
 hls-to-rgb-spec =

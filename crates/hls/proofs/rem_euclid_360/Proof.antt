@@ -7,7 +7,7 @@ use mir.Syntax.{w32}
 use mir.Val.{toZ, ofZ}
 use mir.ValLaws.{toZ-ofZ}
 use Rattle.hls.specs.Turn.{modulo360}
-use Rattle.hls.proofs.Whole.{quot-fits, rest-is, rest-below, rest-above, modulo-lt, sum-fits, cast-fits, cast-is}
+use Rattle.hls.proofs.Whole.{quot-fits, rest-is, rest-below, rest-above, modulo-lt, small, cast-fits, cast-is}
 use Rattle.hls.proofs.rem_euclid_360.Statement.{statement}
 use Rattle.hls.proofs.rem_euclid_360.Tie as tie
 
@@ -18,7 +18,7 @@ mended : (c : tie.Then1) → toZ w32 (ofZ w32 (remZ (toZ w32 (ofZ w32 (c .before
 mended c = rest-below (c .before .args .h) (rest-is (c .before .args .h) (c .before .fits .h)) (c .if1 .taken)
 
 add-result : tie.Need-add-result
-add-result c = sum-fits (mended c) (modulo-lt (c .before .args .h))
+add-result c = small (mended c) (modulo-lt (c .before .args .h))
 
 cast-result : tie.Need-cast-result
 cast-result c = cast-fits (mended c) (modulo-lt (c .before .args .h))
