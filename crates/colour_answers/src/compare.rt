@@ -1,9 +1,9 @@
 // The stored answers, part by part, beside ours.
 use crate::bytes::is_byte;
 use crate::bytes::is_rgb;
-use crate::bytes::number_at;
-use crate::bytes::signed;
 use crate::hues::checksum;
+use answers::number_at;
+use answers::signed;
 use colours::Palette;
 ghost use Prim.Native.Nat.{_<_, _^_};
 

@@ -1,11 +1,5 @@
 // The checksum of a hue's colours: Adler-32 over red, green and blue of each lightness and saturation, saturation fastest.
-
-// Adler-32 with one byte more. The sum of sums stands in the upper half.
-fn with_byte(sum: u32, byte: u8) -> u32 {
-    let low = (sum % 65536 + (byte as u32)) % 65521;
-    let high = (sum / 65536 + low) % 65521;
-    high * 65536 + low
-}
+use answers::with_byte;
 
 fn with_lightness(start: u32, hue: i32, lightness: i32) -> u32 {
     let mut sum = start;
