@@ -2,11 +2,8 @@
 use std::{env, fs, path::Path, process::exit};
 
 /// Each file of the sources and the name under which `include!` finds it.
-const FILES: [(&str, &str); 3] = [
-    ("decoder.rs", "decoder.rs"),
-    ("decoder/dcs_stream.rs", "dcs_stream.rs"),
-    ("sixel_image.rs", "sixel_image.rs"),
-];
+const FILES: [(&str, &str); 3] =
+    [("decoder.rs", "decoder.rs"), ("decoder/dcs_stream.rs", "dcs_stream.rs"), ("sixel_image.rs", "sixel_image.rs")];
 
 /// Each limit of lib.rs, the variable that changes it for a build, and its value in icy_sixel 0.7.0.
 const LIMITS: [(&str, &str, usize); 4] = [

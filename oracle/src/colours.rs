@@ -50,7 +50,33 @@ pub fn samples() -> Vec<[i32; 3]> {
 
 /// Every meeting of an edge of i32, of a segment of the hue circle, and of the percents.
 fn edges() -> Vec<[i32; 3]> {
-    let hues = [i32::MIN, i32::MIN + 1, -721, -720, -361, -360, -359, -120, -1, 0, 60, 119, 120, 121, 180, 239, 240, 241, 300, 359, 360, 361, 720, i32::MAX - 1, i32::MAX];
+    let hues = [
+        i32::MIN,
+        i32::MIN + 1,
+        -721,
+        -720,
+        -361,
+        -360,
+        -359,
+        -120,
+        -1,
+        0,
+        60,
+        119,
+        120,
+        121,
+        180,
+        239,
+        240,
+        241,
+        300,
+        359,
+        360,
+        361,
+        720,
+        i32::MAX - 1,
+        i32::MAX,
+    ];
     let percents = [i32::MIN, -1, 0, 1, 49, 50, 51, 99, 100, 101, i32::MAX];
     let mut all = Vec::new();
     for h in hues {

@@ -82,7 +82,8 @@ fn part(random: &mut Random) -> Vec<u8> {
         12 => raster(random),
         13 => b"$".to_vec(),
         14 => b"-".to_vec(),
-        _ => vec![random.pick(&[0x00, 0x0a, 0x0d, 0x17, 0x19, 0x1c, 0x7f, b' ', b'%', b'/', b':', b'>', b';', b'5', 0xa0, 0xff])],
+        _ => vec![random
+            .pick(&[0x00, 0x0a, 0x0d, 0x17, 0x19, 0x1c, 0x7f, b' ', b'%', b'/', b':', b'>', b';', b'5', 0xa0, 0xff])],
     }
 }
 
@@ -112,7 +113,9 @@ fn count(random: &mut Random) -> Vec<u8> {
 fn value(random: &mut Random) -> Vec<u8> {
     match random.below(12) {
         0 => String::new(),
-        1 => random.pick(&["255", "256", "300", "359", "360", "65535", "65536", "2147483647", "2147483648", "99999999999"]).into(),
+        1 => random
+            .pick(&["255", "256", "300", "359", "360", "65535", "65536", "2147483647", "2147483648", "99999999999"])
+            .into(),
         2 => format!("0{}", random.below(400)),
         3..=6 => random.below(4).to_string(),
         _ => random.below(101).to_string(),

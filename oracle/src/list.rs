@@ -22,7 +22,7 @@ pub fn records(name: &str, hand: &str, share: u64) -> Vec<u8> {
     }
     let written = hand_written(hand);
     let mut decoder = SixelDecoder::new();
-    for (case, shown) in written.iter().map(|case| (case, true)).chain(made(name, share).iter().map(|case| (case, false))) {
+    for (at, case) in written.iter().chain(&made(name, share)).enumerate() {
         let before = decoder.clone();
         let answer = run(&mut decoder, case);
         let pixels = answer.size[0] * answer.size[1];
@@ -30,7 +30,7 @@ pub fn records(name: &str, hand: &str, share: u64) -> Vec<u8> {
             decoder = before;
             continue;
         }
-        out.extend(record::session(case, &answer, shown && pixels <= SHOWN));
+        out.extend(record::session(case, &answer, at < written.len() && pixels <= SHOWN));
     }
     out
 }
@@ -140,11 +140,10 @@ fn every_split() -> Vec<Case> {
         b"\x9099999;1;q~!3\x9b",
     ];
     let mut all = Vec::new();
-    for (entry, stream) in payload.map(|stream| (PLAIN, stream)).into_iter().chain(framed.map(|stream| (Entry::Dcs, stream))) {
-        for at in 0..=stream.len() {
-            all.push(Case { reset: true, entry, abort: false, pieces: vec![stream[..at].to_vec(), stream[at..].to_vec()] });
-        }
-        all.push(Case { reset: true, entry, abort: false, pieces: stream.iter().map(|&byte| vec![byte]).collect() });
+    for (entry, stream) in payload.map(|s| (PLAIN, s)).into_iter().chain(framed.map(|s| (Entry::Dcs, s))) {
+        let halves = (0..=stream.len()).map(|at| vec![stream[..at].to_vec(), stream[at..].to_vec()]);
+        let bytes = stream.iter().map(|&byte| vec![byte]).collect();
+        all.extend(halves.chain([bytes]).map(|pieces| Case { reset: true, entry, abort: false, pieces }));
     }
     all
 }
@@ -177,20 +176,16 @@ fn at_limits() -> Vec<Case> {
 
 /// Numbers about and past 2,147,483,647 and 65,535 in every place that holds a number.
 fn past_numbers() -> Vec<Case> {
-    let numbers = [
-        "255", "256", "65535", "65536", "99999", "100000", "2147483646", "2147483647", "2147483648", "4294967295", "4294967296",
-        "4294967297", "9999999999", "9223372036854775808", "18446744073709551615", "18446744073709551616",
-        "18446744073709551617", "99999999999999999999999999", "00000000000000000000000000000002",
-    ];
-    let forms = [
-        "!@~", "!2!@~", "#@~", "#@;2;100;0;0~", "#1;@;100;50;50~", "#1;2;@;0;0~", "#1;2;0;@;0~", "#1;2;0;0;@~", "#1;1;@;50;100~",
-        "#1;1;120;@;100~", "#1;1;120;50;@~", "#1;2;9;9;9;@~", "\"@;1~", "\"@;2147483647~", "\"1;@~", "\"4294967294;@~", "\"1;1;@;1~",
-        "\"1;1;1;@~", "\"1;1;2;2;@~",
-    ];
+    let numbers = "255 256 65535 65536 99999 100000 2147483646 2147483647 2147483648 4294967295 4294967296 4294967297 \
+                   9999999999 9223372036854775808 18446744073709551615 18446744073709551616 18446744073709551617 \
+                   99999999999999999999999999 00000000000000000000000000000002";
+    let forms = r#"!@~ !2!@~ #@~ #@;2;100;0;0~ #1;@;100;50;50~ #1;2;@;0;0~ #1;2;0;@;0~ #1;2;0;0;@~ #1;1;@;50;100~
+                   #1;1;120;@;100~ #1;1;120;50;@~ #1;2;9;9;9;@~ "@;1~ "@;2147483647~ "1;@~ "4294967294;@~ "1;1;@;1~
+                   "1;1;1;@~ "1;1;2;2;@~"#;
     let headers = ["\x1bP@q~\x1b\\", "\x1bP;@q~\x1b\\", "\x1bP;;@q~\x1b\\", "\x1bP;;;@q~\x1b\\"];
     let mut all = Vec::new();
-    for number in numbers {
-        all.extend(forms.map(|form| fresh(PLAIN, form.replacen('@', number, 1).as_bytes())));
+    for number in numbers.split_whitespace() {
+        all.extend(forms.split_whitespace().map(|form| fresh(PLAIN, form.replacen('@', number, 1).as_bytes())));
         all.extend(headers.map(|form| fresh(Entry::Dcs, form.replacen('@', number, 1).as_bytes())));
         all.extend(headers.map(|form| fresh(Entry::OneShot, form.replacen('@', number, 1).as_bytes())));
     }
@@ -204,7 +199,7 @@ fn ties() -> Vec<Case> {
 
 /// P1, P2 and P3 with and without a number.
 fn settings() -> Vec<Case> {
-    let ones = [None, Some(0), Some(1), Some(2), Some(3), Some(4), Some(5), Some(6), Some(7), Some(8), Some(9), Some(10), Some(65_535)];
+    let ones = [None].into_iter().chain((0..=10).map(Some)).chain([Some(65_535)]);
     let twos = [None, Some(0), Some(1), Some(2), Some(3), Some(65_535)];
     let mut all = Vec::new();
     for p1 in ones {
@@ -227,7 +222,9 @@ fn random_cases(name: &str, share: u64) -> Vec<Case> {
         let (entry, stream) = match random.below(6) {
             0 => (Entry::OneShot, grammar::one_shot(&mut random, parts)),
             1..=2 => (Entry::Dcs, grammar::dcs(&mut random, parts)),
-            _ => (Entry::Payload([p(&mut random), p(&mut random), p(&mut random)]), grammar::payload(&mut random, parts)),
+            _ => {
+                (Entry::Payload([p(&mut random), p(&mut random), p(&mut random)]), grammar::payload(&mut random, parts))
+            }
         };
         let stream = if random.below(3) == 0 { grammar::damaged(&mut random, &stream) } else { stream };
         let whole = entry == Entry::OneShot;

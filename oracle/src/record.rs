@@ -28,7 +28,8 @@ pub fn session(case: &Case, answer: &Answer, full: bool) -> Vec<u8> {
         (_, true) => 1,
         (_, false) => 2,
     };
-    let mut body = vec![kind, flags, answer.refusal, u8::from(answer.at_finish), status, byte, answer.ratio, background];
+    let mut body =
+        vec![kind, flags, answer.refusal, u8::from(answer.at_finish), status, byte, answer.ratio, background];
     let mut numbers: Vec<u32> = LIMITS.iter().map(|&limit| limit as u32).collect();
     numbers.extend(settings.map(|setting| setting.map_or(NONE, u32::from)));
     numbers.extend([answer.consumed as u32, answer.part as u32]);
@@ -86,7 +87,11 @@ pub fn pack(records: &[u8]) -> Vec<u8> {
         at += length;
     }
     let all = blocks.len() as u32;
-    blocks.into_iter().enumerate().flat_map(|(number, (count, records))| block(number as u32, all, count, records)).collect()
+    blocks
+        .into_iter()
+        .enumerate()
+        .flat_map(|(number, (count, records))| block(number as u32, all, count, records))
+        .collect()
 }
 
 fn block(number: u32, all: u32, count: u32, records: Vec<u8>) -> Vec<u8> {

@@ -1,5 +1,5 @@
 //! One case put to the Rust, and its whole answer.
-use crate::decoder::{peek_header, peek_part, SixelDecoder, Standing};
+use crate::decoder::{peek_header, peek_part, SixelDcsStreamDecoder, SixelDecoder, SixelStreamDecoder, Standing};
 use crate::{DcsSettings, PixelAspectRatio, Result, SixelDcsFeedStatus, SixelError, SixelFeedStatus, SixelImage};
 
 #[derive(Clone, Copy, PartialEq)]
@@ -66,8 +66,11 @@ pub fn run(decoder: &mut SixelDecoder, case: &Case) -> Answer {
     let before = decoder.clone();
     let bytes = case.pieces.concat();
     let calls = match case.entry {
-        Entry::Payload([p1, p2, p3]) => payload(decoder, DcsSettings::new(p1, p2, p3), case),
-        Entry::Dcs => dcs(decoder, case),
+        Entry::Payload([p1, p2, p3]) => {
+            let session = decoder.begin_frame(DcsSettings::new(p1, p2, p3)).expect("a frame opens");
+            calls(session, case)
+        }
+        Entry::Dcs => calls(decoder.begin_dcs(), case),
         Entry::OneShot => one_shot(decoder, &bytes),
     };
     let (begun, part) = match case.entry {
@@ -113,20 +116,55 @@ fn answer(calls: Calls, standing: Option<Standing>, part: usize, registers: Vec<
     }
 }
 
-fn payload(decoder: &mut SixelDecoder, settings: DcsSettings, case: &Case) -> Calls {
+/// What both kinds of session can do.
+trait Session {
+    fn give(&mut self, piece: &[u8]) -> Result<(usize, Status)>;
+    fn end(self) -> Result<SixelImage>;
+}
+
+impl Session for SixelStreamDecoder<'_> {
+    fn give(&mut self, piece: &[u8]) -> Result<(usize, Status)> {
+        let progress = self.feed(piece)?;
+        let status = match progress.status {
+            SixelFeedStatus::NeedMoreData => Status::More,
+            SixelFeedStatus::Terminated(byte) => Status::Ended(byte),
+        };
+        Ok((progress.consumed, status))
+    }
+
+    fn end(self) -> Result<SixelImage> {
+        self.finish()
+    }
+}
+
+impl Session for SixelDcsStreamDecoder<'_> {
+    fn give(&mut self, piece: &[u8]) -> Result<(usize, Status)> {
+        let progress = self.feed(piece)?;
+        let status = match progress.status {
+            SixelDcsFeedStatus::NeedMoreData => Status::More,
+            SixelDcsFeedStatus::Complete => Status::Complete,
+            SixelDcsFeedStatus::Cancelled(byte) => Status::Cancelled(byte),
+            SixelDcsFeedStatus::Interrupted(byte) => Status::Interrupted(byte),
+        };
+        Ok((progress.consumed, status))
+    }
+
+    fn end(self) -> Result<SixelImage> {
+        self.finish()
+    }
+}
+
+/// Hands the pieces over in turn, until one is refused; then finishes the session or drops it.
+fn calls(mut session: impl Session, case: &Case) -> Calls {
     let mut calls = Calls { status: Status::More, consumed: 0, at_finish: false, result: Ok(None) };
-    let mut session = decoder.begin_frame(settings).expect("a frame opens");
     for piece in &case.pieces {
-        match session.feed(piece) {
-            Ok(progress) => {
-                calls.consumed += progress.consumed;
-                calls.status = match progress.status {
-                    SixelFeedStatus::NeedMoreData => Status::More,
-                    SixelFeedStatus::Terminated(byte) => Status::Ended(byte),
-                };
+        match session.give(piece) {
+            Ok((consumed, status)) => {
+                calls.consumed += consumed;
+                calls.status = status;
             }
             Err(error) => {
-                assert!(session.feed(b"").is_err() && session.feed(b"~").is_err() && session.finish().is_err());
+                assert!(has_failed(session), "a refused session refuses all that follows");
                 calls.result = Err(error);
                 return calls;
             }
@@ -134,37 +172,15 @@ fn payload(decoder: &mut SixelDecoder, settings: DcsSettings, case: &Case) -> Ca
     }
     if !case.abort {
         calls.at_finish = true;
-        calls.result = session.finish().map(Some);
+        calls.result = session.end().map(Some);
     }
     calls
 }
 
-fn dcs(decoder: &mut SixelDecoder, case: &Case) -> Calls {
-    let mut calls = Calls { status: Status::More, consumed: 0, at_finish: false, result: Ok(None) };
-    let mut session = decoder.begin_dcs();
-    for piece in &case.pieces {
-        match session.feed(piece) {
-            Ok(progress) => {
-                calls.consumed += progress.consumed;
-                calls.status = match progress.status {
-                    SixelDcsFeedStatus::NeedMoreData => Status::More,
-                    SixelDcsFeedStatus::Complete => Status::Complete,
-                    SixelDcsFeedStatus::Cancelled(byte) => Status::Cancelled(byte),
-                    SixelDcsFeedStatus::Interrupted(byte) => Status::Interrupted(byte),
-                };
-            }
-            Err(error) => {
-                assert!(session.feed(b"").is_err() && session.feed(b"~").is_err() && session.finish().is_err());
-                calls.result = Err(error);
-                return calls;
-            }
-        }
-    }
-    if !case.abort {
-        calls.at_finish = true;
-        calls.result = session.finish().map(Some);
-    }
-    calls
+/// Document 01's refusal 9, for which the Rust has these words.
+fn has_failed(mut session: impl Session) -> bool {
+    let tried = [session.give(b"").err(), session.give(b"~").err(), session.end().err()];
+    tried.iter().all(|error| error.as_ref().is_some_and(|error| error.to_string().contains("has failed")))
 }
 
 fn one_shot(decoder: &mut SixelDecoder, bytes: &[u8]) -> Calls {

@@ -29,9 +29,13 @@ pub fn answers(input: &str) -> std::result::Result<String, String> {
 pub fn case(line: &str) -> Option<Case> {
     let words: Vec<&str> = line.split(' ').collect();
     let (entry, rest) = match words[0] {
-        "payload" => (Entry::Payload([setting(words.get(1)?)?, setting(words.get(2)?)?, setting(words.get(3)?)?]), &words[4..]),
+        "payload" => {
+            (Entry::Payload([setting(words.get(1)?)?, setting(words.get(2)?)?, setting(words.get(3)?)?]), &words[4..])
+        }
         "dcs" => (Entry::Dcs, &words[1..]),
-        "oneshot" => return Some(Case { reset: false, entry: Entry::OneShot, abort: false, pieces: pieces(&words[1..])? }),
+        "oneshot" => {
+            return Some(Case { reset: false, entry: Entry::OneShot, abort: false, pieces: pieces(&words[1..])? })
+        }
         _ => return None,
     };
     let (end, rest) = rest.split_first()?;
@@ -115,5 +119,9 @@ fn bytes(bytes: &[u8], full: bool) -> String {
         return format!("{:08X}", adler32(bytes));
     }
     let digits: String = bytes.iter().map(|byte| format!("{byte:02X}")).collect();
-    if digits.is_empty() { ".".into() } else { digits }
+    if digits.is_empty() {
+        ".".into()
+    } else {
+        digits
+    }
 }
