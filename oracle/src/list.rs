@@ -18,7 +18,7 @@ const SHOWN: usize = 96;
 pub fn records(name: &str, hand: &str, share: u64) -> Vec<u8> {
     let mut out = Vec::new();
     if name == "own" {
-        out.extend(colour_records());
+        out.extend(plain_records());
     }
     let written = hand_written(hand);
     let mut decoder = SixelDecoder::new();
@@ -35,9 +35,10 @@ pub fn records(name: &str, hand: &str, share: u64) -> Vec<u8> {
     out
 }
 
-fn colour_records() -> Vec<u8> {
+fn plain_records() -> Vec<u8> {
     let mut out = record::standard_registers();
     out.extend((-5..=105).chain([i32::MIN, i32::MAX]).flat_map(record::percent));
+    out.extend([None, Some(u16::MAX)].into_iter().chain((0..=300).map(Some)).flat_map(record::ratio));
     out.extend(colours::samples().into_iter().step_by(7).flat_map(record::hls));
     out
 }

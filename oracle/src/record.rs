@@ -2,7 +2,7 @@
 use crate::adler::adler32;
 use crate::decoder::{peek_hls, peek_percent, SixelDecoder};
 use crate::run::{Answer, Case, Entry, Status};
-use crate::LIMITS;
+use crate::{PixelAspectRatio, LIMITS};
 
 pub const BLOCK: usize = 65_536;
 const BLOCK_HEAD: usize = 20;
@@ -62,6 +62,14 @@ pub fn percent(value: i32) -> Vec<u8> {
 pub fn standard_registers() -> Vec<u8> {
     let mut body = vec![6, 0, 0, 0];
     body.extend(adler32(&SixelDecoder::new().registers()).to_le_bytes());
+    with_length(body)
+}
+
+/// The ratio of a picture that leaves it to P1.
+pub fn ratio(p1: Option<u16>) -> Vec<u8> {
+    let ratio = p1.map(PixelAspectRatio::from_p1).unwrap_or_default();
+    let mut body = vec![7, ratio.pad() as u8, 0, 0];
+    body.extend(p1.map_or(NONE, u32::from).to_le_bytes());
     with_length(body)
 }
 

@@ -1,2 +1,3 @@
 pub mod Adler
 pub mod Numbers
+pub mod Ratio

@@ -1,8 +1,9 @@
-// What a stored list of answers is made of: numbers of four bytes, the lowest first, and Adler-32 checksums.
+// What a stored list of answers is made of: numbers of four bytes, the lowest first, Adler-32 checksums, and the Rust's ratios.
 ghost use mathlib.Core.Path.{_≡_};
 ghost use Prim.Native.Nat.{_+_, _*_};
 ghost use Rattle.answers.specs.Adler.{withByte, withBytes, adler};
 ghost use Rattle.answers.specs.Numbers.{numberAt, signedOf};
+ghost use Rattle.answers.specs.Ratio.{fromP1};
 
 pub fn with_byte(sum: u32, byte: u8) -> u32
     ensures { λ r. ⌜ r ≡ withByte sum byte ⌝ }
@@ -55,4 +56,23 @@ pub fn signed(bits: u32) -> i32
         return bits as i32;
     }
     -1 - ((0xffff_ffff - bits) as i32)
+}
+
+// The Rust's ratio, vertical to 1, of a picture that leaves it to P1; 65,536 is no P1.
+pub fn from_p1(p1: u32) -> u8
+    ensures { λ r. ⌜ r ≡ fromP1 p1 ⌝ }
+{
+    if p1 < 2 {
+        return 2;
+    }
+    if p1 < 3 {
+        return 5;
+    }
+    if p1 < 5 {
+        return 3;
+    }
+    if p1 < 7 {
+        return 2;
+    }
+    1
 }

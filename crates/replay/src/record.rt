@@ -1,5 +1,4 @@
 // One record: its kind stands in its fifth byte, and each kind has its fields at fixed places.
-use crate::tally::Tally;
 use colours::Palette;
 
 const PAYLOAD: u8 = 1;
@@ -14,6 +13,8 @@ const PERCENT: u8 = 5;
 
 const REGISTERS: u8 = 6;
 
+const RATIO: u8 = 7;
+
 fn byte_at(record: &[u8], at: usize) -> u8 {
     if at < record.len() {
         return record[at];
@@ -25,30 +26,57 @@ fn signed_at(record: &[u8], at: usize) -> i32 {
     answers::signed(answers::number_at(record, at))
 }
 
-pub fn replay(record: &[u8], tally: Tally) -> Tally {
-    let kind = byte_at(record, 4);
-    if kind == HLS {
-        return tally.with_colour(is_hls_same(record));
+// What is to be said of a record.
+pub enum Verdict {
+    // A session whose record is whole, to be replayed once there is a reader.
+    Payload,
+    Dcs,
+    OneShot,
+    // A colour or a ratio that is the Rust's, and one that is not.
+    Same,
+    Differs,
+    // A record that is not what it should be.
+    Faulty,
+}
+
+fn compared(is_same: bool) -> Verdict {
+    if is_same {
+        return Verdict::Same;
     }
-    if kind == PERCENT {
-        return tally.with_colour(is_percent_same(record));
-    }
-    if kind == REGISTERS {
-        return tally.with_colour(answers::number_at(record, 8) == registers_sum());
-    }
+    Verdict::Differs
+}
+
+fn session(kind: u8, record: &[u8]) -> Verdict {
     if !is_session_whole(record) {
-        return tally.with_fault();
+        return Verdict::Faulty;
     }
     if kind == PAYLOAD {
-        return tally.with_payload();
+        return Verdict::Payload;
     }
     if kind == DCS {
-        return tally.with_dcs();
+        return Verdict::Dcs;
     }
     if kind == ONE_SHOT {
-        return tally.with_one_shot();
+        return Verdict::OneShot;
     }
-    tally.with_fault()
+    Verdict::Faulty
+}
+
+pub fn judge(record: &[u8]) -> Verdict {
+    let kind = byte_at(record, 4);
+    if kind == HLS {
+        return compared(is_hls_same(record));
+    }
+    if kind == PERCENT {
+        return compared(is_percent_same(record));
+    }
+    if kind == REGISTERS {
+        return compared(answers::number_at(record, 8) == registers_sum());
+    }
+    if kind == RATIO {
+        return compared(answers::from_p1(answers::number_at(record, 8)) == byte_at(record, 5));
+    }
+    session(kind, record)
 }
 
 fn is_hls_same(record: &[u8]) -> bool {

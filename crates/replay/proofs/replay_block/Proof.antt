@@ -12,8 +12,8 @@ Inv-loop block count tally₀ at₀ counter₀ tally at counter = (counter ≤ c
 abbrev μ-loop : tie.MeasureT-loop
 μ-loop block count tally₀ at₀ counter₀ tally at counter = count - counter
 
-with-fault-requires : tie.Need-with-fault-requires Inv-loop μ-loop
-with-fault-requires c κs = search needs
+with-requires : tie.Need-with-requires Inv-loop μ-loop
+with-requires c κs = search needs
 
 returns : tie.Need-returns Inv-loop μ-loop
 returns c = search needs
@@ -27,26 +27,29 @@ loop-holds c = search needs
 length-at-requires : tie.Need-length-at-requires Inv-loop μ-loop
 length-at-requires c κs = search needs
 
-with-fault-requires-2 : tie.Need-with-fault-requires-2 Inv-loop μ-loop
-with-fault-requires-2 c κs = search needs
+with-requires-2 : tie.Need-with-requires-2 Inv-loop μ-loop
+with-requires-2 c κs = search needs
 
 returns-2 : tie.Need-returns-2 Inv-loop μ-loop
 returns-2 c = search needs
 
-add-replay : tie.Need-add-replay Inv-loop μ-loop
-add-replay c = search needs
+add-judge : tie.Need-add-judge Inv-loop μ-loop
+add-judge c = search needs
 
-sub-replay : tie.Need-sub-replay Inv-loop μ-loop
-sub-replay c = search needs
+sub-judge : tie.Need-sub-judge Inv-loop μ-loop
+sub-judge c = search needs
 
-part-replay-start : tie.Need-part-replay-start Inv-loop μ-loop
-part-replay-start c = search needs
+part-judge-start : tie.Need-part-judge-start Inv-loop μ-loop
+part-judge-start c = search needs
 
-part-replay-end : tie.Need-part-replay-end Inv-loop μ-loop
-part-replay-end c = search needs
+part-judge-end : tie.Need-part-judge-end Inv-loop μ-loop
+part-judge-end c = search needs
 
-replay-requires : tie.Need-replay-requires Inv-loop μ-loop
-replay-requires c κs = search needs
+judge-requires : tie.Need-judge-requires Inv-loop μ-loop
+judge-requires c κs = search needs
+
+with-requires-3 : tie.Need-with-requires-3 Inv-loop μ-loop
+with-requires-3 c κs = search needs
 
 add-at : tie.Need-add-at Inv-loop μ-loop
 add-at c = search needs
@@ -69,18 +72,19 @@ replay-block-spec =
     (tie.spec
     Inv-loop
     μ-loop
-    with-fault-requires
+    with-requires
     returns
     number-at-requires
     loop-holds
     length-at-requires
-    with-fault-requires-2
+    with-requires-2
     returns-2
-    add-replay
-    sub-replay
-    part-replay-start
-    part-replay-end
-    replay-requires
+    add-judge
+    sub-judge
+    part-judge-start
+    part-judge-end
+    judge-requires
+    with-requires-3
     add-at
     add-counter
     loop-less

@@ -11,9 +11,6 @@ Inv-loop fd tally₀ number₀ tally number = number ≤ 64
 abbrev μ-loop : tie.MeasureT-loop
 μ-loop fd tally₀ number₀ tally number = 64 - number
 
-none-requires : tie.Need-none-requires Inv-loop μ-loop
-none-requires c κs = search needs
-
 loop-holds : tie.Need-loop-holds Inv-loop μ-loop
 loop-holds c = search needs
 
@@ -41,7 +38,6 @@ replay-list-spec =
     (tie.spec
     Inv-loop
     μ-loop
-    none-requires
     loop-holds
     next-block-requires
     returns
