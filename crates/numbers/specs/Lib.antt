@@ -1,3 +1,4 @@
 pub mod Bytes
 pub mod Values
 pub mod Examples
+pub mod Step
