@@ -10,7 +10,7 @@ use lib.ListN.{getD, set, take, length, length-take, List·getD-eq-default}
 use lib.Seq.{getD-take}
 use Rattle.numbers.specs.Bytes.{digit, between}
 use Rattle.numbers.specs.Values.{held}
-use Rattle.numbers.specs.Step.{room, stored, finished, marked, withDigit, withSemicolon, kept, valueAt, repeated, ceiling}
+use Rattle.numbers.specs.Step.{emptied, filled, stored, finished, marked, withDigit, withSemicolon, kept, valueAt, repeated, ceiling}
 use Rattle.numbers.specs.declared.Parameters.{Parameters}
 
 -- a test's value, from the fact that it tells
@@ -29,13 +29,17 @@ cond-no x y e = ap (λ (s : Bool). cond s x y) e
 
 -- ---- one more digit
 
+both : (s t : Bool) → (s && t) ≡ true → (s ≡ true) × (t ≡ true)
+both true t h = (refl, h)
+both false t h = (h, cc)
+
+pub digit-least : (b : ℕ) → digit b ≡ true → 0x30 ≤ b
+unfolding digit
+digit-least b e = leb-true 0x30 b (both (leb 0x30 b) (leb b 0x39) e .0)
+
 pub digit-top : (b : ℕ) → digit b ≡ true → b ≤ 0x39
 unfolding digit
-digit-top b e = leb-true b 0x39 (right (leb 0x30 b) _ e)
-  where
-    right : (s t : Bool) → (s && t) ≡ true → t ≡ true
-    right true t h = h
-    right false t h = cc
+digit-top b e = leb-true b 0x39 (both (leb 0x30 b) (leb b 0x39) e .1)
 
 pub digit-other : {t : Bool} (p : Parameters) (b : ℕ) → t ≡ digit b → t ≡ false → p ≡ withDigit p b
 unfolding withDigit
@@ -65,18 +69,15 @@ repeat-full n b e f h = sym (cond-yes _ _ (sym e ∙ f) ∙ omega arith)
 
 -- ---- storing a number
 
-pub store-full : (p : Parameters) → p .places ≤ p .count
-    → _≡_ {A = Parameters} (record { values = p .values; count = p .count; current = 0; pending = p .pending; places = p .places }) (stored p)
+pub store-full : (p : Parameters) → p .places ≤ p .count → emptied p ≡ stored p
 unfolding stored
 store-full p h = sym (cond-no _ _ (ap (λ (t : Bool). t && ltb (p .count) 5) (le-ltb _ _ h)))
 
-pub store-five : (p : Parameters) → p .count < p .places → 5 ≤ p .count
-    → _≡_ {A = Parameters} (record { values = p .values; count = p .count; current = 0; pending = p .pending; places = p .places }) (stored p)
+pub store-five : (p : Parameters) → p .count < p .places → 5 ≤ p .count → emptied p ≡ stored p
 unfolding stored
 store-five p g h = sym (cond-no _ _ (ap₂ _&&_ (lt-ltb _ _ g) (le-ltb _ _ h)))
 
-pub store-room : (p : Parameters) → p .count < p .places → p .count < 5
-    → _≡_ {A = Parameters} (record { values = set (p .values) (p .count) (p .current); count = p .count + 1; current = 0; pending = p .pending; places = p .places }) (stored p)
+pub store-room : (p : Parameters) → p .count < p .places → p .count < 5 → filled p ≡ stored p
 unfolding stored
 store-room p g h = sym (cond-yes _ _ (ap₂ _&&_ (lt-ltb _ _ g) (lt-ltb _ _ h)))
 

@@ -2,3 +2,4 @@ pub mod Bytes
 pub mod Values
 pub mod Examples
 pub mod Step
+pub mod Read

@@ -17,13 +17,19 @@ opened places = record { values = 0 ∷ 0 ∷ 0 ∷ 0 ∷ 0 ∷ []; count = 0; c
 unfoldable pub room : Parameters → Bool
 room p = ltb (p .count) (p .places) && ltb (p .count) 5
 
--- the number goes to the next place, where one is left, and a new one starts at 0
+-- a new number starts at 0
+abbrev pub emptied : Parameters → Parameters
+emptied p = record { values = p .values; count = p .count; current = 0; pending = p .pending; places = p .places }
+
+-- and the number before it is in the next place
+abbrev pub filled : Parameters → Parameters
+filled p =
+    record { values = set (p .values) (p .count) (p .current); count = p .count + 1; current = 0; pending = p .pending; places = p .places }
+
+-- the number goes to the next place, where one is left, and a new one starts
 unfoldable pub stored : Parameters → Parameters
 unfolding room
-stored p =
-    cond (room p)
-    (record { values = set (p .values) (p .count) (p .current); count = p .count + 1; current = 0; pending = p .pending; places = p .places })
-    (record { values = p .values; count = p .count; current = 0; pending = p .pending; places = p .places })
+stored p = cond (room p) (filled p) (emptied p)
 
 -- the same record, marked as having something to store at the end
 unfoldable pub marked : Parameters → Parameters
