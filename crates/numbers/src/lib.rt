@@ -140,17 +140,26 @@ impl Parameters {
         ensures { λ r. ⌜ r ≡ stored self ⌝ }
     {
         let at = self.count;
-        let mut next = self;
-        next.current = 0;
-        if self.places <= at {
-            return next;
+        let mut values = self.values;
+        if at < self.places {
+            if at < 5 {
+                values[at] = self.current;
+                return Parameters {
+                    values,
+                    count: at + 1,
+                    current: 0,
+                    pending: self.pending,
+                    places: self.places,
+                };
+            }
         }
-        if 5 <= at {
-            return next;
+        Parameters {
+            values,
+            count: at,
+            current: 0,
+            pending: self.pending,
+            places: self.places,
         }
-        next.values[at] = self.current;
-        next.count = at + 1;
-        next
     }
 
     // The end of the command: what was begun is stored.
