@@ -8,9 +8,9 @@ use borrow.Author.Tests.{lt-ltb, le-ltb, le-leb, lt-leb, eq-eqb, ne-eqb, leb-tru
 use lib.Dec.{leb, ltb, eqb}
 use lib.ListN.{getD, set, take, length, length-take, List·getD-eq-default}
 use lib.Seq.{getD-take}
-use Rattle.numbers.specs.Bytes.{digit, between}
+use Rattle.numbers.specs.Bytes.{digit, semicolon}
 use Rattle.numbers.specs.Values.{held}
-use Rattle.numbers.specs.Step.{emptied, filled, stored, finished, marked, withDigit, withSemicolon, kept, valueAt, repeated, ceiling}
+use Rattle.numbers.specs.Step.{emptied, filled, stored, finished, marked, withDigit, withSemicolon, pushed, kept, valueAt, repeated, ceiling}
 use Rattle.numbers.specs.declared.Parameters.{Parameters}
 
 -- a test's value, from the fact that it tells
@@ -67,6 +67,16 @@ pub repeat-full : {t : Bool} (n b : ℕ) → t ≡ digit b → t ≡ true → 10
 unfolding repeated
 repeat-full n b e f h = sym (cond-yes _ _ (sym e ∙ f) ∙ omega arith)
 
+-- ---- one more byte
+
+pub push-semicolon : (p : Parameters) (r : Parameters) (b : ℕ) → b ≡ semicolon → r ≡ withSemicolon p → r ≡ pushed p b
+unfolding pushed
+push-semicolon p r b e f = f ∙ sym (cond-yes _ _ (eq-eqb b semicolon e))
+
+pub push-other : (p : Parameters) (r : Parameters) (b : ℕ) → (b ≡ semicolon → ⊥) → r ≡ withDigit p b → r ≡ pushed p b
+unfolding pushed
+push-other p r b e f = f ∙ sym (cond-no _ _ (ne-eqb b semicolon e))
+
 -- ---- storing a number
 
 pub store-full : (p : Parameters) → p .places ≤ p .count → emptied p ≡ stored p
@@ -114,4 +124,4 @@ value-five p i l h =
     (rw length-take (omega arith))))
 
 pub ruleset steps =
-    (digit-other, digit-more, repeat-other, repeat-more, repeat-full, store-full, store-five, store-room, finish-pending, finish-empty, value-past, value-five, value-there)
+    (digit-other, digit-more, repeat-other, repeat-more, repeat-full, push-semicolon, push-other, store-full, store-five, store-room, finish-pending, finish-empty, value-past, value-five, value-there)

@@ -42,22 +42,27 @@ pub read-none : (places : ℕ) → Read places [] (opened places)
 unfolding fed
 read-none places = record { same = refl }
 
-read-more : {places : ℕ} {bs : List ℕ} {p : Parameters} (b : ℕ) (q : Parameters) → pushed p b ≡ q → Read places bs p → Read places (bs ++ b ∷ []) q
-read-more {places} {bs} {p} b q e h =
-    record { same = sym e ∙ ap (λ (r : Parameters). pushed r b) (h .same) ∙ sym (fed-more (opened places) bs b) }
+-- one more byte, of any kind
+pub read-push : {places : ℕ} {bs : List ℕ} {p : Parameters} (b : ℕ) → Read places bs p → Read places (bs ++ b ∷ []) (pushed p b)
+read-push {places} {bs} b h =
+    record { same = ap (λ (r : Parameters). pushed r b) (h .same) ∙ sym (fed-more (opened places) bs b) }
 
 -- one more digit
 pub read-digit : {places : ℕ} {bs : List ℕ} {p : Parameters} (b : ℕ) → digit b ≡ true → Read places bs p
     → Read places (bs ++ b ∷ []) (withDigit p b)
-read-digit {p = p} b d h = read-more b (withDigit p b) (pushed-other p b (digit-no-semicolon b d)) h
+read-digit {places} {bs} {p} b d h = subst (Read places (bs ++ b ∷ [])) (pushed-other p b (digit-no-semicolon b d)) (read-push b h)
 
 -- one more `;`
-pub read-semicolon : {places : ℕ} {bs : List ℕ} {p : Parameters} → Read places bs p → Read places (bs ++ semicolon ∷ []) (withSemicolon p)
-read-semicolon {p = p} h = read-more semicolon (withSemicolon p) (pushed-semicolon p semicolon refl) h
+pub read-semicolon : {places : ℕ} {bs : List ℕ} {p : Parameters} → Read places bs p
+    → Read places (bs ++ semicolon ∷ []) (withSemicolon p)
+read-semicolon {places} {bs} {p} h =
+    subst (Read places (bs ++ semicolon ∷ [])) (pushed-semicolon p semicolon refl) (read-push semicolon h)
 
 -- one more skipped byte
-pub read-skipped : {places : ℕ} {bs : List ℕ} {p : Parameters} (b : ℕ) → skipped b ≡ true → Read places bs p → Read places (bs ++ b ∷ []) p
-read-skipped {p = p} b s h = read-more b p (pushed-silent p b (skipped-silent b s)) h
+pub read-skipped : {places : ℕ} {bs : List ℕ} {p : Parameters} (b : ℕ) → skipped b ≡ true → Read places bs p
+    → Read places (bs ++ b ∷ []) p
+read-skipped {places} {bs} {p} b s h =
+    subst (Read places (bs ++ b ∷ [])) (pushed-silent p b (skipped-silent b s)) (read-push b h)
 
 -- ---- a record that is not damaged
 

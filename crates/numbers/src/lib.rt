@@ -3,7 +3,7 @@ ghost use mathlib.Core.Path.{_≡_};
 ghost use Prim.Native.Nat.{_-_};
 ghost use Rattle.numbers.specs.Bytes.{skipped, digit, sixel, ends};
 ghost use Rattle.numbers.specs.Values.{held, held16};
-ghost use Rattle.numbers.specs.Step.{opened, withDigit, withSemicolon, stored, finished, valueAt, repeated};
+ghost use Rattle.numbers.specs.Step.{opened, withDigit, withSemicolon, pushed, stored, finished, valueAt, repeated};
 
 // Where colour, raster and header numbers stop, and where P1 to P3 then do.
 const NUMBER_LIMIT: u64 = 2_147_483_647;
@@ -111,6 +111,16 @@ impl Parameters {
             pending: false,
             places,
         }
+    }
+
+    // One byte more of the argument: a digit, a `;`, or one that changes nothing.
+    pub fn push(self, byte: u8) -> Parameters
+        ensures { λ r. ⌜ r ≡ pushed self byte ⌝ }
+    {
+        if byte == b';' {
+            return self.semicolon();
+        }
+        self.digit(byte)
     }
 
     // A digit extends the number; another byte changes nothing.
