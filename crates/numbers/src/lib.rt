@@ -140,9 +140,9 @@ impl Parameters {
     pub fn semicolon(self) -> Parameters
         ensures { λ r. ⌜ r ≡ withSemicolon self ⌝ }
     {
-        let mut next = self.store();
-        next.pending = true;
-        next
+        let mut after = self.store();
+        after.pending = true;
+        after
     }
 
     // The number goes to the next place; where none is left, it is dropped.

@@ -1,3 +1,5 @@
+use Prim.Native.Nat.{_<_}
+use native.Mathlib.Omega.{arith}
 use Rattle.numbers.proofs.Laws.{steps}
 use borrow.Author.Needs.{needs}
 use Rattle.numbers.proofs.more_repeat.Statement.{statement}
@@ -7,7 +9,9 @@ is-digit-requires : tie.Need-is-digit-requires
 is-digit-requires c κs = search needs
 
 returns : tie.Need-returns
-returns c = search (needs, steps)
+returns c =
+    let full : 100000000000 < c .before .before .before .args .value = omega arith in
+    search (needs, steps)
 
 mul-result : tie.Need-mul-result
 mul-result c = search needs
