@@ -1,14 +1,14 @@
 -- The values of an argument, read from left to right; and that a skipped byte makes no difference to them.
-use Prim.Native.Nat.{ℕ, zero, suc, _+_, _-_, _*_, _≤_, _<_}
-use mathlib.Core.Bool.{Bool, true, false, _&&_, _||_, cond, or-true}
+use Prim.Native.Nat.{ℕ, zero, suc, _≤_, _<_}
+use mathlib.Core.Bool.{Bool, true, false, _||_, cond, or-true}
 use mathlib.Core.List.{List, [], _∷_, _++_, map}
 use mathlib.Core.Path.{_≡_, refl, sym, ap, ap₂, _∙_}
 use native.Mathlib.Omega.{arith}
-use borrow.Author.Tests.{leb-true, le-leb, lt-leb, eqb-true, ne-eqb}
-use lib.Dec.{leb, eqb}
+use borrow.Author.Tests.{le-leb, lt-leb, eqb-true, ne-eqb}
+use lib.Dec.{eqb}
 use lib.ListN.{getD, take, length, length-take}
-use Rattle.numbers.specs.Bytes.{skipped, digit, between, semicolon}
-use Rattle.numbers.specs.Values.{extended, decimalFrom, decimal, held, onto, parted, fields, number, written, values}
+use Rattle.numbers.specs.Bytes.{skipped, digit, semicolon}
+use Rattle.numbers.specs.Values.{extended, decimalFrom, decimal, held, onto, fields, number, written, values}
 use Rattle.numbers.proofs.Laws.{cond-yes, cond-no, digit-top, digit-least}
 
 -- ---- kinds of bytes

@@ -1,16 +1,15 @@
 -- The laws that the functions' proofs cite: what a test tells of a byte, and one law for each way through a function.
-use Prim.Native.Nat.{ℕ, _+_, _-_, _*_, _≤_, _<_, min}
+use Prim.Native.Nat.{ℕ, _+_, _-_, _*_, _≤_, _<_}
 use mathlib.Core.Bool.{Bool, true, false, _&&_, cond}
-use mathlib.Core.List.{List}
 use mathlib.Core.Path.{_≡_, refl, sym, ap, ap₂, _∙_}
 use native.Mathlib.Omega.{arith}
-use borrow.Author.Tests.{lt-ltb, le-ltb, le-leb, lt-leb, eq-eqb, ne-eqb, leb-true, leb-false}
+use borrow.Author.Tests.{lt-ltb, le-ltb, le-leb, lt-leb, eq-eqb, ne-eqb, leb-true}
 use lib.Dec.{leb, ltb, eqb}
-use lib.ListN.{getD, set, take, length, length-take, List·getD-eq-default}
+use lib.ListN.{getD, take, length, length-take, List·getD-eq-default}
 use lib.Seq.{getD-take}
 use Rattle.numbers.specs.Bytes.{digit, semicolon}
 use Rattle.numbers.specs.Values.{held}
-use Rattle.numbers.specs.Step.{emptied, filled, stored, finished, marked, withDigit, withSemicolon, pushed, kept, valueAt, repeated, ceiling}
+use Rattle.numbers.specs.Step.{emptied, filled, lengthened, stored, finished, withDigit, withSemicolon, pushed, valueAt, repeated}
 use Rattle.numbers.specs.declared.Parameters.{Parameters}
 
 -- a test's value, from the fact that it tells
@@ -20,7 +19,7 @@ pub ruleset tests = (lt-ltb, le-ltb, le-leb, lt-leb, eq-eqb, ne-eqb)
 pub lt-eqb : (a b : ℕ) → a < b → eqb a b ≡ false
 lt-eqb a b h = ne-eqb a b (λ e. omega arith)
 
--- a test that is told twice
+-- what a test picks
 pub cond-yes {ℓ} : {A : Type ℓ} {t : Bool} (x y : A) → t ≡ true → cond t x y ≡ x
 cond-yes x y e = ap (λ (s : Bool). cond s x y) e
 
@@ -49,8 +48,8 @@ pub digit-more : {t : Bool} (p : Parameters) (b d n : ℕ) → t ≡ digit b →
     → _≡_ {A = Parameters} (record { values = p .values; count = p .count; current = n; pending = true; places = p .places }) (withDigit p b)
 unfolding withDigit
 digit-more p b d n e f g h =
-    ap (λ (m : ℕ). record { values = p .values; count = p .count; current = m; pending = true; places = p .places })
-    (h ∙ ap (λ (m : ℕ). held (p .current * 10 + m)) g)
+    ap (λ (m : ℕ). record { values = p .values; count = p .count; current = m; pending = true; places = p .places }) h
+    ∙ ap (lengthened p) g
     ∙ sym (cond-yes _ _ (sym e ∙ f))
 
 pub repeat-other : {t : Bool} (n b : ℕ) → t ≡ digit b → t ≡ false → n ≡ repeated n b
@@ -103,25 +102,19 @@ finish-empty p e = sym (cond-no _ _ e)
 
 -- ---- reading a value
 
-pub value-past : (p : Parameters) (i : ℕ) → p .count ≤ i → 0 ≡ valueAt p i
+value-none : (p : Parameters) (i : ℕ) → length (take (p .count) (p .values)) ≤ i → 0 ≡ valueAt p i
 unfolding valueAt
-value-past p i h =
-    ap held
-    (sym
-    (List·getD-eq-default (take (p .count) (p .values)) 0
-    (rw length-take (omega arith))))
+value-none p i h = ap held (sym (List·getD-eq-default (take (p .count) (p .values)) 0 h))
+
+pub value-past : (p : Parameters) (i : ℕ) → p .count ≤ i → 0 ≡ valueAt p i
+value-past p i h = value-none p i (rw length-take (omega arith))
+
+pub value-five : (p : Parameters) (i : ℕ) → length (p .values) ≡ 5 → 5 ≤ i → 0 ≡ valueAt p i
+value-five p i l h = value-none p i (rw length-take (omega arith))
 
 pub value-there : (p : Parameters) (i r : ℕ) → i < p .count → r ≡ held (getD (p .values) i 0) → r ≡ valueAt p i
 unfolding valueAt
 value-there p i r h e = e ∙ ap held (sym (getD-take (p .count) (p .values) i 0 h))
-
-pub value-five : (p : Parameters) (i : ℕ) → length (p .values) ≡ 5 → 5 ≤ i → 0 ≡ valueAt p i
-unfolding valueAt
-value-five p i l h =
-    ap held
-    (sym
-    (List·getD-eq-default (take (p .count) (p .values)) 0
-    (rw length-take (omega arith))))
 
 pub ruleset steps =
     (digit-other, digit-more, repeat-other, repeat-more, repeat-full, push-semicolon, push-other, store-full, store-five, store-room, finish-pending, finish-empty, value-past, value-five, value-there)

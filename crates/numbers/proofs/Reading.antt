@@ -1,5 +1,5 @@
 -- A record that has read some bytes holds their values: proved once, over the number of places.
-use Prim.Native.Nat.{ℕ, zero, suc, _+_, _-_, _*_, _≤_, _<_, min}
+use Prim.Native.Nat.{ℕ, zero, suc, _+_, _-_, _*_, _≤_, _<_}
 use mathlib.Core.Bool.{Bool, true, false, _||_, cond, or-true}
 use mathlib.Core.List.{List, [], _∷_, _++_, append-assoc}
 use mathlib.Core.Path.{_≡_, refl, sym, ap, ap₂, subst, _∙_}
@@ -8,11 +8,11 @@ use native.Mathlib.Nat.{lt-of-not-le}
 use native.Mathlib.Numerals.{add-one}
 use native.Mathlib.Omega.{arith}
 use lib.Dec.{eqb}
-use lib.ListN.{getD, set, take, length, length-append, length-take, length-set}
+use lib.ListN.{getD, set, take, length, length-append, length-set}
 use lib.Seq.{take-all, take-at, take-suc-set, length-take-le}
 use Rattle.numbers.specs.Bytes.{skipped, digit, semicolon}
 use Rattle.numbers.specs.Values.{extended, held, written, values}
-use Rattle.numbers.specs.Step.{opened, emptied, filled, stored, marked, withDigit, withSemicolon, pushed, fed, finished, kept, valueAt}
+use Rattle.numbers.specs.Step.{opened, emptied, filled, lengthened, stored, withDigit, withSemicolon, pushed, fed, finished, kept, valueAt}
 use Rattle.numbers.specs.Read.{Read}
 use Rattle.numbers.specs.declared.Parameters.{Parameters}
 use Rattle.numbers.proofs.Laws.{cond-yes, cond-no, store-full, store-room}
@@ -166,16 +166,11 @@ holds-semicolon p n b bs s e h next =
     ∙ ap (λ (m : ℕ). take (p .places) (kept p ++ m ∷ numbersFrom 0 bs)) e
     ∙ ap (λ (l : List ℕ). take (p .places) (kept p ++ l)) (sym (numbers-semicolon n b bs h)))
 
--- a digit extends the number
-abbrev extendedBy : Parameters → ℕ → Parameters
-extendedBy p b =
-    record { values = p .values; count = p .count; current = held (p .current * 10 + (b - 0x30)); pending = true; places = p .places }
-
-pushed-digit : (p : Parameters) (b : ℕ) → digit b ≡ true → pushed p b ≡ extendedBy p b
+pushed-digit : (p : Parameters) (b : ℕ) → digit b ≡ true → pushed p b ≡ lengthened p (b - 0x30)
 unfolding withDigit
 pushed-digit p b h = pushed-other p b (digit-no-semicolon b h) ∙ cond-yes _ _ h
 
-holds-digit : (p : Parameters) (n b : ℕ) (bs : List ℕ) → digit b ≡ true → Holds bs (extendedBy p b) (extended n b) → Holds (b ∷ bs) p n
+holds-digit : (p : Parameters) (n b : ℕ) (bs : List ℕ) → digit b ≡ true → Holds bs (lengthened p (b - 0x30)) (extended n b) → Holds (b ∷ bs) p n
 unfolding kept
 holds-digit p n b bs h next =
     holds-written p n b bs (written-digit b bs h)
@@ -200,7 +195,7 @@ feeding [] p n s e = holds-end p n s e
 feeding (b ∷ bs) p n s e =
     byte-cases b
     (λ h. holds-semicolon p n b bs s e h (feeding bs (withSemicolon p) 0 (semicolon-sound p s) (semicolon-current p s)))
-    (λ h. holds-digit p n b bs h (feeding bs (extendedBy p b) (extended n b) (record { five = s .five; within = s .within; below = s .below }) (held-digit (p .current) n b e h)))
+    (λ h. holds-digit p n b bs h (feeding bs (lengthened p (b - 0x30)) (extended n b) (record { five = s .five; within = s .within; below = s .below }) (held-digit (p .current) n b e h)))
     (λ h. holds-silent p n b bs h (feeding bs p n s e))
 
 -- ---- a record that was fed is not damaged

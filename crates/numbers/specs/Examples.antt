@@ -1,6 +1,6 @@
 -- Worked examples of the definitions, computed.
 use mathlib.Core.Path.{_≡_, refl}
-use mathlib.Core.List.{List, [], _∷_}
+use mathlib.Core.List.{[], _∷_}
 use Rattle.numbers.specs.Bytes.{digit, between}
 use Rattle.numbers.specs.Values.{decimal, values}
 

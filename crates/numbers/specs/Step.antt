@@ -35,12 +35,14 @@ stored p = cond (room p) (filled p) (emptied p)
 unfoldable pub marked : Parameters → Parameters
 marked p = record { values = p .values; count = p .count; current = p .current; pending = true; places = p .places }
 
+-- the number with one digit more
+abbrev pub lengthened : Parameters → ℕ → Parameters
+lengthened p d =
+    record { values = p .values; count = p .count; current = held (p .current * 10 + d); pending = true; places = p .places }
+
 -- a digit extends the number, another byte changes nothing
 unfoldable pub withDigit : Parameters → ℕ → Parameters
-withDigit p b =
-    cond (digit b)
-    (record { values = p .values; count = p .count; current = held (p .current * 10 + (b - 0x30)); pending = true; places = p .places })
-    p
+withDigit p b = cond (digit b) (lengthened p (b - 0x30)) p
 
 -- `;` stores the number, and another follows
 unfoldable pub withSemicolon : Parameters → Parameters

@@ -16,6 +16,9 @@ const REPEAT_CEILING: u64 = 1_000_000_000_010;
 
 const REPEAT_LAST: u64 = 100_000_000_000;
 
+// The most values that a command has.
+const PLACES: usize = 5;
+
 pub fn is_skipped(byte: u8) -> bool
     ensures { λ r. ⌜ r ≡ skipped byte ⌝ }
 {
@@ -93,7 +96,7 @@ fn hold(value: u64) -> u32
 // The values of one command, as they are read: `current` is the number after the last `;`, and `pending` says that it is
 // to be stored at the end.
 pub struct Parameters {
-    values: [u32; 5],
+    values: [u32; PLACES],
     count: usize,
     current: u32,
     pending: bool,
@@ -105,7 +108,7 @@ impl Parameters {
         ensures { λ r. ⌜ r ≡ opened places ⌝ }
     {
         Parameters {
-            values: [0; 5],
+            values: [0; PLACES],
             count: 0,
             current: 0,
             pending: false,
@@ -113,7 +116,8 @@ impl Parameters {
         }
     }
 
-    // One byte more of the argument: a digit, a `;`, or one that changes nothing.
+    // One byte more of the argument: a digit, a `;`, or one that changes nothing. A hot loop picks `digit` or `semicolon`
+    // itself: LLVM then leaves the values alone at a digit.
     pub fn push(self, byte: u8) -> Parameters
         ensures { λ r. ⌜ r ≡ pushed self byte ⌝ }
     {
@@ -152,7 +156,7 @@ impl Parameters {
         let at = self.count;
         let mut values = self.values;
         if at < self.places {
-            if at < 5 {
+            if at < PLACES {
                 values[at] = self.current;
                 return Parameters {
                     values,
@@ -189,14 +193,14 @@ impl Parameters {
         self.count
     }
 
-    // The value at a place, 0 where there is none.
+    // The value at a place, 0 where there is none. It is held once more, so that it fits a signed number whatever the record.
     pub fn value(self, at: usize) -> u32
         ensures { λ r. ⌜ r ≡ valueAt self at ⌝ }
     {
         if self.count <= at {
             return 0;
         }
-        if 5 <= at {
+        if PLACES <= at {
             return 0;
         }
         hold(self.values[at] as u64)
