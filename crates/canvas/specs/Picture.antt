@@ -24,9 +24,9 @@ pub record Area : Type 0 where
   pub width : ℕ
   pub height : ℕ
 
--- `x` is one of `count` numbers from `first`
-unfoldable pub among : ℕ → ℕ → ℕ → Bool
-among first count x = leb first x && ltb x (first + count)
+-- a number from `first` up to `last`, without `last`
+unfoldable pub span : ℕ → ℕ → ℕ → Bool
+span first last n = leb first n && ltb n last
 
 -- bit k of a number, the lowest being bit 0
 unfoldable pub bit : ℕ → ℕ → Bool
@@ -34,13 +34,13 @@ bit bits k = eqb (bits / 2 ^ k % 2) 1
 
 -- the pixels of a sixel: the repeat's columns, and of the six rows those whose bit is 1, the lowest on top
 unfoldable pub inSixel : ℕ → ℕ → ℕ → ℕ → ℕ → ℕ → Bool
-inSixel column row repeat bits x y = among column repeat x && (among row 6 y && bit bits (y - row))
+inSixel column row repeat bits x y = span column (column + repeat) x && (span row (row + 6) y && bit bits (y - row))
 
 -- a stroke covers the pixels of its sixel
 unfoldable pub covers : Stroke → ℕ → ℕ → Bool
 covers s x y = inSixel (s .column) (s .row) (s .repeat) (s .bits) x y
 
--- the place of the first of a list where a later one has none: one place on, or here, or nowhere
+-- a place in a list that starts one stroke earlier: one on where there is one, else the first where that covers, else none
 unfoldable pub orHere : Option ℕ → Bool → Option ℕ
 orHere (some n) here = some (suc n)
 orHere none true = some zero

@@ -1,6 +1,10 @@
-// The canvas.
+// The canvas: lent bytes, four to a pixel (red, green, blue, alpha), `stride` pixels to a row. Painting here never asks
+// how large the visible area is: whoever paints has tested that, once for a sixel or for many.
 ghost use mathlib.Core.Path.{_≡_};
-ghost use Rattle.canvas.specs.Picture.{rowsOf};
+ghost use Prim.Native.Nat.{_+_, _*_, _≤_};
+ghost use lib.ListN.{length};
+ghost use Rattle.canvas.specs.Picture.{Area, rowsOf, grid, span};
+ghost use Rattle.canvas.specs.Paint.{painted, rectangle, sixelPainted, grown};
 
 // The whole rows of a canvas of `length` bytes; none where the stride is 0.
 pub fn rows(length: usize, stride: usize) -> usize
@@ -10,4 +14,43 @@ pub fn rows(length: usize, stride: usize) -> usize
         return 0;
     }
     length / 4 / stride
+}
+
+// Paints the pixels from `from` up to `to`, counted through the canvas: four stores a pixel, which the compiler joins.
+// Inner: asks that the pixels are on the canvas.
+pub fn fill_span(canvas: &mut [u8], from: usize, to: usize, px: [u8; 4])
+    requires { ⌜ (from ≤ to) × (4 * to ≤ length (now canvas)) ⌝ }
+    ensures { λ _. ⌜ now (canvas .exit) ≡ painted (span from to) px (now (canvas .entry)) ⌝ }
+{
+    for p in from..to {
+        let i = 4 * p;
+        canvas[i] = px[0];
+        canvas[i + 1] = px[1];
+        canvas[i + 2] = px[2];
+        canvas[i + 3] = px[3];
+    }
+}
+
+// Paints a sixel: of its six rows those whose bit is 1, the lowest bit on top, each for `repeat` columns.
+// A row whose bit is 0 is a span of no pixels.
+// Inner: asks that the sixel's columns and six rows are on the canvas.
+pub fn paint_sixel(
+    canvas: &mut [u8],
+    stride: usize,
+    column: usize,
+    row: usize,
+    repeat: usize,
+    bits: u8,
+    px: [u8; 4],
+)
+    requires { ⌜ (column + repeat ≤ stride) × (row + 6 ≤ rowsOf (length (now canvas)) stride) ⌝ }
+    ensures { λ _. ⌜ now (canvas .exit) ≡ sixelPainted stride column row repeat bits px (now (canvas .entry)) ⌝ }
+{
+    let mut rest = bits;
+    for k in 0..6 {
+        let from = (row + k) * stride + column;
+        let on = (rest % 2) as usize;
+        fill_span(canvas, from, from + on * repeat, px);
+        rest = rest / 2;
+    }
 }
