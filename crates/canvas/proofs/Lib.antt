@@ -1,3 +1,4 @@
 pub mod Bytes
 pub mod Covers
 pub mod Grid
+pub mod Growth

@@ -24,6 +24,10 @@ pub record Area : Type 0 where
   pub width : ℕ
   pub height : ℕ
 
+-- the area of a width and a height
+abbrev pub areaOf : ℕ → ℕ → Area
+areaOf w h = record { width = w; height = h }
+
 -- a number from `first` up to `last`, without `last`
 unfoldable pub span : ℕ → ℕ → ℕ → Bool
 span first last n = leb first n && ltb n last
@@ -99,7 +103,7 @@ allInside area (s ∷ later) = inside area s && allInside area later
 
 -- an area grown to a width and a height, where it does not have them
 unfoldable pub grownTo : Area → ℕ → ℕ → Area
-grownTo area w h = record { width = max (area .width) w; height = max (area .height) h }
+grownTo area w h = areaOf (max (area .width) w) (max (area .height) h)
 
 -- an area grown to a stroke's columns and its six rows
 unfoldable pub reach : Area → Stroke → Area

@@ -3,7 +3,7 @@
 ghost use mathlib.Core.Path.{_≡_};
 ghost use Prim.Native.Nat.{_+_, _*_, _≤_};
 ghost use lib.ListN.{length};
-ghost use Rattle.canvas.specs.Picture.{Area, rowsOf, grid, span};
+ghost use Rattle.canvas.specs.Picture.{areaOf, rowsOf, grid, span};
 ghost use Rattle.canvas.specs.Paint.{painted, rectangle, sixelPainted, grown};
 
 // The whole rows of a canvas of `length` bytes; none where the stride is 0.
@@ -53,4 +53,54 @@ pub fn paint_sixel(
         fill_span(canvas, from, from + on * repeat, px);
         rest = rest / 2;
     }
+}
+
+// Paints the columns from `left` up to `right` of the rows from `top` up to `bottom`.
+// Inner: asks that they are on the canvas.
+pub fn fill_rectangle(
+    canvas: &mut [u8],
+    stride: usize,
+    left: usize,
+    right: usize,
+    top: usize,
+    bottom: usize,
+    px: [u8; 4],
+)
+    requires { ⌜ (left ≤ right) × (right ≤ stride) × (top ≤ bottom) × (bottom ≤ rowsOf (length (now canvas)) stride) ⌝ }
+    ensures { λ _. ⌜ now (canvas .exit) ≡ painted (grid stride (rectangle left right top bottom)) px (now (canvas .entry)) ⌝ }
+{
+    // Rows of no pixels are not walked through, so that the cost goes by the pixels.
+    if left == right {
+        return;
+    }
+    for y in top..bottom {
+        fill_span(canvas, y * stride + left, y * stride + right, px);
+    }
+}
+
+// Grows the visible area: each new pixel gets the background, and nothing else changes.
+// Inner: asks that the new area has the old one in it and is on the canvas.
+pub fn grow(
+    canvas: &mut [u8],
+    stride: usize,
+    width: usize,
+    height: usize,
+    new_width: usize,
+    new_height: usize,
+    background: [u8; 4],
+)
+    requires { ⌜ (width ≤ «new_width») × («new_width» ≤ stride) × (height ≤ «new_height») × («new_height» ≤ rowsOf (length (now canvas)) stride) ⌝ }
+    ensures { λ _. ⌜ now (canvas .exit) ≡ grown stride (areaOf width height) (areaOf «new_width» «new_height») background (now (canvas .entry)) ⌝ }
+{
+    fill_rectangle(canvas, stride, width, new_width, 0, height, background);
+    fill_rectangle(canvas, stride, 0, new_width, height, new_height, background);
+}
+
+// Gives pixel (0, 0) the background.
+// Inner: asks that the canvas has a pixel.
+pub fn first_pixel(canvas: &mut [u8], background: [u8; 4])
+    requires { ⌜ 4 ≤ length (now canvas) ⌝ }
+    ensures { λ _. ⌜ now (canvas .exit) ≡ painted (span 0 1) background (now (canvas .entry)) ⌝ }
+{
+    fill_span(canvas, 0, 1, background);
 }
