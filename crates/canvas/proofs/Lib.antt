@@ -5,3 +5,4 @@ pub mod Growth
 pub mod Strokes
 pub mod Pictures
 pub mod Shows
+pub mod Copies

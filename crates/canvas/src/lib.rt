@@ -2,9 +2,12 @@
 // how large the visible area is: whoever paints has tested that, once for a sixel or for many.
 ghost use mathlib.Core.Path.{_≡_};
 ghost use Prim.Native.Nat.{_+_, _*_, _≤_};
-ghost use lib.ListN.{length};
+ghost use mathlib.Core.List.{_++_};
+ghost use lib.ListN.{length, drop};
+ghost use lib.Seq.{paste};
 ghost use Rattle.canvas.specs.Picture.{areaOf, rowsOf, grid, span};
 ghost use Rattle.canvas.specs.Paint.{painted, rectangle, sixelPainted, grown};
+ghost use Rattle.canvas.specs.Copy.{numberOf, hasPicture, packed, sizeOf, copied};
 
 // The whole rows of a canvas of `length` bytes; none where the stride is 0.
 pub fn rows(length: usize, stride: usize) -> usize
@@ -103,4 +106,73 @@ pub fn first_pixel(canvas: &mut [u8], background: [u8; 4])
     ensures { λ _. ⌜ now (canvas .exit) ≡ painted (span 0 1) background (now (canvas .entry)) ⌝ }
 {
     fill_span(canvas, 0, 1, background);
+}
+
+// What copying a picture answers.
+pub enum Copied {
+    // The rows stand at the front of the other buffer.
+    Done,
+    // The canvas has no such picture.
+    Misfit,
+    // The other buffer is too short.
+    Short,
+}
+
+// Says whether a canvas of `length` bytes has a picture of this size.
+pub fn has_picture(length: usize, stride: usize, width: usize, height: usize) -> bool
+    ensures { λ r. ⌜ r ≡ hasPicture stride length (areaOf width height) ⌝ }
+{
+    if stride == 0 {
+        return false;
+    }
+    if width == 0 {
+        return false;
+    }
+    if height == 0 {
+        return false;
+    }
+    if stride < width {
+        return false;
+    }
+    height <= rows(length, stride)
+}
+
+// Copies `count` bytes of the canvas from `from` on to `out` from `at` on.
+fn copy_bytes(canvas: &[u8], from: usize, out: &mut [u8], at: usize, count: usize)
+    requires { ⌜ (from + count ≤ length (now canvas)) × (at + count ≤ length (now out)) ⌝ }
+    ensures { λ _. ⌜ now (out .exit) ≡ paste (now (out .entry)) at (drop from (now (canvas .entry))) count ⌝ }
+{
+    for j in 0..count {
+        out[at + j] = canvas[from + j];
+    }
+}
+
+// Copies the rows of a picture to the front of `out`.
+fn copy_rows(canvas: &[u8], stride: usize, width: usize, height: usize, out: &mut [u8])
+    requires { ⌜ (width ≤ stride) × (height ≤ rowsOf (length (now canvas)) stride) × (sizeOf (areaOf width height) ≤ length (now out)) ⌝ }
+    ensures { λ _. ⌜ now (out .exit) ≡ packed stride width height (now (canvas .entry)) ++ drop (sizeOf (areaOf width height)) (now (out .entry)) ⌝ }
+{
+    for y in 0..height {
+        copy_bytes(canvas, 4 * (y * stride), out, 4 * (width * y), 4 * width);
+    }
+}
+
+// Copies a picture's rows without gaps to the front of `out`, or says why not and writes nothing.
+pub fn copy_picture(
+    canvas: &[u8],
+    stride: usize,
+    width: usize,
+    height: usize,
+    out: &mut [u8],
+) -> Copied
+    ensures { λ r. ⌜ (numberOf r, now (out .exit)) ≡ copied stride (areaOf width height) (now (canvas .entry)) (now (out .entry)) ⌝ }
+{
+    if !has_picture(canvas.len(), stride, width, height) {
+        return Copied::Misfit;
+    }
+    if out.len() < 4 * (width * height) {
+        return Copied::Short;
+    }
+    copy_rows(canvas, stride, width, height, out);
+    Copied::Done
 }
