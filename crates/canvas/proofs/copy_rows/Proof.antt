@@ -47,13 +47,13 @@ mul-copy-bytes-2 : tie.Need-mul-copy-bytes-2 Inv-loop μ-loop
 mul-copy-bytes-2 c = omega (arith, room c)
 
 mul-copy-bytes-3 : tie.Need-mul-copy-bytes-3 Inv-loop μ-loop
-mul-copy-bytes-3 c = omega (arith, room-out (c .before))
+mul-copy-bytes-3 c = omega (arith, room (c .before), room-out (c .before))
 
 mul-copy-bytes-4 : tie.Need-mul-copy-bytes-4 Inv-loop μ-loop
-mul-copy-bytes-4 c = omega (arith, room-out (c .before))
+mul-copy-bytes-4 c = omega (arith, room (c .before), room-out (c .before))
 
 mul-copy-bytes-5 : tie.Need-mul-copy-bytes-5 Inv-loop μ-loop
-mul-copy-bytes-5 c = omega (arith, room-out (c .before))
+mul-copy-bytes-5 c = omega (arith, room (c .before), room-out (c .before))
 
 copy-bytes-requires : tie.Need-copy-bytes-requires Inv-loop μ-loop
 copy-bytes-requires c κs = omega (arith, room (c .before), room-out (c .before))

@@ -1,5 +1,6 @@
 use mathlib.Core.Path.{_≡_, sym, ap, _∙_, subst}
 use Prim.Native.Nat.{ℕ, _≤_, zero-le}
+use native.Mathlib.Omega.{arith}
 use denote.Ref.{now}
 use Rattle.canvas.specs.Picture.{grid, rowsOf}
 use Rattle.canvas.specs.Paint.{painted, rectangle}
@@ -16,8 +17,8 @@ fill-rectangle-requires-2 c κs =
     let entry = c .before .before .before .before .before .before in
     let same-long = c .before .before .before .fill-rectangle .kept .0 in (
       zero-le,
-      entry .pre .1,
-      entry .pre .2,
+      omega (arith, entry .pre),
+      omega (arith, entry .pre),
       subst (λ (n : ℕ). entry .args .new-height ≤ rowsOf n (entry .args .stride)) (sym same-long) (entry .pre .3),
     )
 
