@@ -12,7 +12,7 @@ use lib.Dec.{eqb}
 use borrow.Author.Tests.{eqb-true, eq-eqb}
 use Rattle.canvas.specs.Picture.{span, grid, bit, inSixel, rowsOf}
 use Rattle.canvas.specs.Paint.{painted}
-use Rattle.canvas.proofs.Bytes.{painted-both, painted-none}
+use Rattle.canvas.proofs.Bytes.{painted-both, painted-none, painted-same}
 use Rattle.canvas.proofs.Covers.{and-left, and-right, and-both, same-test, no-test, by-test, split, or-left, or-right, or-case, span-low, span-high, span-in, span-empty}
 
 -- whole rows lie on the canvas
@@ -85,57 +85,26 @@ module _ (k column row repeat bits x y : ℕ) where
     first-bit : bit bits (y - row) ≡ true
     first-bit = and-right (span row (row + k) y) _ first-rest
 
-module _ (k column row repeat bits rest : ℕ) (e : rest ≡ bits / 2 ^ k) (x y : ℕ) where
-  -- the row that is added holds the sixel's columns where its bit is 1, and none where it is 0
-  added-in : span column (column + repeat) x ≡ true → y ≡ row + k → bit bits (y - row) ≡ true → inRow column (column + rest % 2 * repeat) (row + k) x y ≡ true
-  unfolding inRow bit
-  added-in s at b =
-      let k-th : y - row ≡ k = omega arith in
-      let on : rest % 2 ≡ 1 = ap (λ (n : ℕ). n % 2) e ∙ ap (λ (n : ℕ). bits / 2 ^ n % 2) (sym k-th) ∙ eqb-true _ _ b in
-      let wide : rest % 2 * repeat ≡ 1 * repeat = ap (λ (n : ℕ). n * repeat) on in
-      and-both
-      (span-in column (column + rest % 2 * repeat) x (span-low _ _ x s) (omega (arith, span-high column _ x s)))
-      (eq-eqb y (row + k) at)
+-- the bit of the row at k
+bit-at : (bits row k y : ℕ) → y ≡ row + k → bit bits (y - row) ≡ eqb (bits / 2 ^ k % 2) 1
+unfolding bit
+bit-at bits row k y at =
+    let k-th : y - row ≡ k = omega arith in
+    ap (λ (n : ℕ). eqb (bits / 2 ^ n % 2) 1) k-th
 
-  module _ (t : inRow column (column + rest % 2 * repeat) (row + k) x y ≡ true) where
-    added-columns : span column (column + rest % 2 * repeat) x ≡ true
-    unfolding inRow
-    added-columns = and-left _ _ t
-
-    added-row : y ≡ row + k
-    unfolding inRow
-    added-row = eqb-true y (row + k) (and-right (span column (column + rest % 2 * repeat) x) _ t)
-
-    added-on : rest % 2 ≡ 1
-    added-on =
-        split (rest % 2) 1
-        (λ zero-bit.
-        let nothing : rest % 2 * repeat ≤ 0 * repeat = mul-le-mul-right repeat (omega arith) in
-        omega (arith, span-low column _ x added-columns, span-high column _ x added-columns))
-        (λ one-bit. omega arith)
-
-    added-bit : bit bits (y - row) ≡ true
-    unfolding bit
-    added-bit =
-        let k-th : y - row ≡ k = omega (arith, added-row) in
-        eq-eqb _ 1 (ap (λ (n : ℕ). bits / 2 ^ n % 2) k-th ∙ ap (λ (n : ℕ). n % 2) (sym e) ∙ added-on)
-
-    added-whole : span column (column + repeat) x ≡ true
-    added-whole =
-        let wide : rest % 2 * repeat ≡ 1 * repeat = ap (λ (n : ℕ). n * repeat) added-on in
-        span-in column (column + repeat) x (span-low column _ x added-columns) (omega (arith, span-high column _ x added-columns))
-
-  -- one row more
-  pub rows-more : firstRows (k + 1) column row repeat bits x y
-      ≡ (firstRows k column row repeat bits x y || inRow column (column + rest % 2 * repeat) (row + k) x y)
-  rows-more =
+module _ (k column row repeat bits x y : ℕ) where
+  -- where bit k is 1, one row more is the sixel's columns in that row more
+  rows-more : bits / 2 ^ k % 2 ≡ 1 → firstRows (k + 1) column row repeat bits x y ≡ (firstRows k column row repeat bits x y || inRow column (column + repeat) (row + k) x y)
+  unfolding inRow
+  rows-more on =
       same-test _ _
       (λ t.
       let s : span column (column + repeat) x ≡ true = first-columns (k + 1) column row repeat bits x y t in
       let l : row ≤ y = first-low (k + 1) column row repeat bits x y t in
       let h : y < row + (k + 1) = first-high (k + 1) column row repeat bits x y t in
-      let b : bit bits (y - row) ≡ true = first-bit (k + 1) column row repeat bits x y t in
-      split y (row + k) (λ lt. or-left _ _ (first-in k column row repeat bits x y s l lt b)) (λ ge. or-right (firstRows k column row repeat bits x y) _ (added-in s (omega arith) b)))
+      split y (row + k)
+      (λ above. or-left _ _ (first-in k column row repeat bits x y s l above (first-bit (k + 1) column row repeat bits x y t)))
+      (λ below. or-right (firstRows k column row repeat bits x y) _ (and-both s (eq-eqb y (row + k) (omega arith)))))
       (λ t.
       or-case (firstRows k column row repeat bits x y) _ t
       (λ f.
@@ -144,24 +113,52 @@ module _ (k column row repeat bits rest : ℕ) (e : rest ≡ bits / 2 ^ k) (x y 
       (first-low k column row repeat bits x y f)
       (omega (arith, first-high k column row repeat bits x y f))
       (first-bit k column row repeat bits x y f))
-      (λ a. first-in (k + 1) column row repeat bits x y (added-whole a) (omega (arith, added-row a)) (omega (arith, added-row a)) (added-bit a)))
+      (λ r.
+      let at : y ≡ row + k = eqb-true y (row + k) (and-right (span column (column + repeat) x) _ r) in
+      first-in (k + 1) column row repeat bits x y (and-left _ _ r) (omega arith) (omega arith) (bit-at bits row k y at ∙ eq-eqb _ 1 on)))
+
+  -- where it is not, no pixel is added
+  rows-skip : (bits / 2 ^ k % 2 ≡ 1 → ⊥) → firstRows (k + 1) column row repeat bits x y ≡ firstRows k column row repeat bits x y
+  rows-skip off =
+      same-test _ _
+      (λ t.
+      let l : row ≤ y = first-low (k + 1) column row repeat bits x y t in
+      let h : y < row + (k + 1) = first-high (k + 1) column row repeat bits x y t in
+      let b : bit bits (y - row) ≡ true = first-bit (k + 1) column row repeat bits x y t in
+      split y (row + k)
+      (λ above. first-in k column row repeat bits x y (first-columns (k + 1) column row repeat bits x y t) l above b)
+      (λ below. absurd (off (eqb-true _ 1 (sym (bit-at bits row k y (omega arith)) ∙ b)))))
+      (λ f.
+      first-in (k + 1) column row repeat bits x y
+      (first-columns k column row repeat bits x y f)
+      (first-low k column row repeat bits x y f)
+      (omega (arith, first-high k column row repeat bits x y f))
+      (first-bit k column row repeat bits x y f))
 
 -- the bits that are left after one row more
 pub rest-more : (bits k : ℕ) → bits / 2 ^ k / 2 ≡ bits / 2 ^ (k + 1)
 rest-more bits k = div-div-eq-div-mul bits (2 ^ k) 2 ∙ ap (λ (m : ℕ). bits / m) (sym (ap (λ (n : ℕ). 2 ^ n) (add-one k) ∙ pow-suc 2 k))
 
--- a canvas with a sixel's first k rows painted, and then the next as a span
-pub sixel-more : (stride column row repeat bits rest k : ℕ) (px l : List ℕ) → rest ≡ bits / 2 ^ k → column + rest % 2 * repeat ≤ stride
-    → painted (span ((row + k) * stride + column) ((row + k) * stride + column + rest % 2 * repeat)) px (painted (grid stride (firstRows k column row repeat bits)) px l)
+-- a canvas with a sixel's first k rows painted: the next as a span, where its bit is 1
+pub sixel-more : (stride column row repeat bits rest k : ℕ) (px l : List ℕ) → rest ≡ bits / 2 ^ k → rest % 2 ≡ 1 → column + repeat ≤ stride
+    → painted (span ((row + k) * stride + column) ((row + k) * stride + column + repeat)) px (painted (grid stride (firstRows k column row repeat bits)) px l)
     ≡ painted (grid stride (firstRows (k + 1) column row repeat bits)) px l
 unfolding grid
-sixel-more stride column row repeat bits rest k px l e h =
+sixel-more stride column row repeat bits rest k px l e on h =
     painted-both _ _ _ px l
     (λ p.
-    rows-more k column row repeat bits rest e (p % stride) (p / stride)
+    rows-more k column row repeat bits (p % stride) (p / stride) (ap (λ (n : ℕ). n % 2) (sym e) ∙ on)
     ∙ ap (λ (t : Bool). firstRows k column row repeat bits (p % stride) (p / stride) || t)
-    (sym (row-span stride column (column + rest % 2 * repeat) (row + k) h p)
-    ∙ ap (λ (n : ℕ). span ((row + k) * stride + column) n p) (sym (add-assoc ((row + k) * stride) column (rest % 2 * repeat)))))
+    (sym (row-span stride column (column + repeat) (row + k) h p)
+    ∙ ap (λ (n : ℕ). span ((row + k) * stride + column) n p) (sym (add-assoc ((row + k) * stride) column repeat))))
+
+-- and nothing more, where it is not
+pub sixel-skip : (stride column row repeat bits rest k : ℕ) (px l : List ℕ) → rest ≡ bits / 2 ^ k → (rest % 2 ≡ 1 → ⊥)
+    → painted (grid stride (firstRows k column row repeat bits)) px l ≡ painted (grid stride (firstRows (k + 1) column row repeat bits)) px l
+unfolding grid
+sixel-skip stride column row repeat bits rest k px l e off =
+    painted-same _ _ px l
+    (λ p. sym (rows-skip k column row repeat bits (p % stride) (p / stride) (λ on. off (ap (λ (n : ℕ). n % 2) e ∙ on))))
 
 -- no rows
 pub sixel-none : (stride column row repeat bits : ℕ) (px l : List ℕ) → l ≡ painted (grid stride (firstRows 0 column row repeat bits)) px l
@@ -179,12 +176,6 @@ pub sixel-room : (n stride column row repeat k : ℕ) → column + repeat ≤ st
 sixel-room n stride column row repeat k h r l =
     let one-more : (row + k) + 1 ≤ row + 6 = omega arith in
     omega (arith, mul-le-mul-right stride one-more, rows-room n stride (row + 6) r)
-
--- a bit times a number is at most the number
-pub bit-times : (rest repeat : ℕ) → rest % 2 * repeat ≤ repeat
-bit-times rest repeat =
-    let small : rest % 2 ≤ 1 = omega arith in
-    omega (arith, mul-le-mul-right repeat small)
 
 -- there are no more rows than bytes
 pub rows-few : (n stride : ℕ) → rowsOf n stride ≤ n

@@ -35,7 +35,6 @@ pub fn fill_span(canvas: &mut [u8], from: usize, to: usize, px: [u8; 4])
 }
 
 // Paints a sixel: of its six rows those whose bit is 1, the lowest bit on top, each for `repeat` columns.
-// A row whose bit is 0 is a span of no pixels.
 // Inner: asks that the sixel's columns and six rows are on the canvas.
 pub fn paint_sixel(
     canvas: &mut [u8],
@@ -50,11 +49,17 @@ pub fn paint_sixel(
     ensures { λ _. ⌜ now (canvas .exit) ≡ sixelPainted stride column row repeat bits px (now (canvas .entry)) ⌝ }
 {
     let mut rest = bits;
-    for k in 0..6 {
-        let from = (row + k) * stride + column;
-        let on = (rest % 2) as usize;
-        fill_span(canvas, from, from + on * repeat, px);
+    let mut k = 0;
+    while k < 6 {
+        let y = row + k;
+        let bit = rest % 2;
         rest = rest / 2;
+        k += 1;
+        // Last in the turn: the two ways then need not meet again.
+        if bit == 1 {
+            let from = y * stride + column;
+            fill_span(canvas, from, from + repeat, px);
+        }
     }
 }
 

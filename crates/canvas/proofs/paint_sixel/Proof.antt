@@ -1,3 +1,5 @@
+-- `canvas::paint_sixel` meets its contract. The loop's invariant: the sixel's first k rows are painted, and `rest` is its bits without
+-- the first k. Assumes nothing.
 use mathlib.Core.Path.{_≡_, refl, sym, ap, _∙_}
 use mathlib.Core.List.{List}
 use Prim.Native.Nat.{ℕ, _+_, _-_, _*_, _/_, _%_, _^_, _≤_, _<_}
@@ -5,10 +7,9 @@ use native.Mathlib.Nat.{div-one}
 use native.Mathlib.Omega.{arith}
 use lib.ListN.{length}
 use denote.Ref.{now}
-use borrow.Author.Needs.{needs}
 use Rattle.canvas.specs.Picture.{grid, span, inSixel}
 use Rattle.canvas.specs.Paint.{painted, sixelPainted}
-use Rattle.canvas.proofs.Grid.{firstRows, sixel-more, sixel-none, sixel-room, bit-times, rest-more, rows-few}
+use Rattle.canvas.proofs.Grid.{firstRows, sixel-more, sixel-skip, sixel-none, sixel-room, rest-more, rows-few}
 use Rattle.canvas.proofs.paint_sixel.Statement.{statement}
 use Rattle.canvas.proofs.paint_sixel.Tie as tie
 
@@ -31,46 +32,54 @@ loop-holds : tie.Need-loop-holds Inv-loop μ-loop
 loop-holds c =
     let a = c .before .args in (sixel-none (a .stride) (a .column) (a .row) (a .repeat) (a .bits) (a .px) (now (a .canvas)), refl, sym (div-one (a .bits)), omega arith)
 
-add-from : tie.Need-add-from Inv-loop μ-loop
-add-from c =
+add-y : tie.Need-add-y Inv-loop μ-loop
+add-y c =
     let a = c .before .before .before .args in
     omega (arith, rows-few (length (now (a .canvas))) (a .stride))
 
-mul-from : tie.Need-mul-from Inv-loop μ-loop
-mul-from c = omega (arith, room c)
-
-add-from-2 : tie.Need-add-from-2 Inv-loop μ-loop
-add-from-2 c = omega (arith, room c)
-
-cast-on : tie.Need-cast-on Inv-loop μ-loop
-cast-on c = omega arith
-
-mul-fill-span : tie.Need-mul-fill-span Inv-loop μ-loop
-mul-fill-span c = omega (arith, bit-times (c .before .before .loop .rest) (c .before .before .before .before .args .repeat))
-
-add-fill-span : tie.Need-add-fill-span Inv-loop μ-loop
-add-fill-span c = omega (arith, room (c .before), bit-times (c .before .before .loop .rest) (c .before .before .before .before .args .repeat))
-
-fill-span-requires : tie.Need-fill-span-requires Inv-loop μ-loop
-fill-span-requires c κs = omega (arith, room (c .before), bit-times (c .before .before .loop .rest) (c .before .before .before .before .args .repeat))
-
 add-k : tie.Need-add-k Inv-loop μ-loop
 add-k c = omega arith
+
+mul-from : tie.Need-mul-from Inv-loop μ-loop
+mul-from c = omega (arith, room (c .before))
+
+add-from : tie.Need-add-from Inv-loop μ-loop
+add-from c = omega (arith, room (c .before))
+
+add-fill-span : tie.Need-add-fill-span Inv-loop μ-loop
+add-fill-span c = omega (arith, room (c .before .before))
+
+fill-span-requires : tie.Need-fill-span-requires Inv-loop μ-loop
+fill-span-requires c κs = omega (arith, room (c .before .before))
 
 loop-less : tie.Need-loop-less Inv-loop μ-loop
 loop-less c = omega arith
 
 loop-again : tie.Need-loop-again Inv-loop μ-loop
 loop-again c =
-    let t = c .before .before .before .before .before in
+    let t = c .before .before .before .before .before .before in
     let a = t .before .before .args in
     let now-at = t .loop in
-    let narrow : a .column + now-at .rest % 2 * a .repeat ≤ a .stride = omega (arith, t .before .before .pre .0, bit-times (now-at .rest) (a .repeat)) in
+    let on = c .before .before .before .before .if1 .taken in
     let from : ℕ = (a .row + now-at .k) * a .stride + a .column in (
       c .before .before .fill-span .ensures
-          ∙ ap (painted (span from (from + now-at .rest % 2 * a .repeat)) (a .px)) (now-at .inv .0)
-          ∙ sixel-more (a .stride) (a .column) (a .row) (a .repeat) (a .bits) (now-at .rest) (now-at .k) (a .px) (now (a .canvas)) (now-at .inv .2) narrow,
+          ∙ ap (painted (span from (from + a .repeat)) (a .px)) (now-at .inv .0)
+          ∙ sixel-more (a .stride) (a .column) (a .row) (a .repeat) (a .bits) (now-at .rest) (now-at .k) (a .px) (now (a .canvas)) (now-at .inv .2) on (t .before .before .pre .0),
       c .before .before .fill-span .kept .0 ∙ now-at .inv .1,
+      ap (λ (n : ℕ). n / 2) (now-at .inv .2) ∙ rest-more (a .bits) (now-at .k),
+      omega arith,
+    )
+
+loop-less-2 : tie.Need-loop-less-2 Inv-loop μ-loop
+loop-less-2 c = omega arith
+
+loop-again-2 : tie.Need-loop-again-2 Inv-loop μ-loop
+loop-again-2 c =
+    let t = c .before .before in
+    let a = t .before .before .args in
+    let now-at = t .loop in (
+      now-at .inv .0 ∙ sixel-skip (a .stride) (a .column) (a .row) (a .repeat) (a .bits) (now-at .rest) (now-at .k) (a .px) (now (a .canvas)) (now-at .inv .2) (c .if1 .left),
+      now-at .inv .1,
       ap (λ (n : ℕ). n / 2) (now-at .inv .2) ∙ rest-more (a .bits) (now-at .k),
       omega arith,
     )
@@ -93,15 +102,15 @@ paint-sixel-spec =
     Inv-loop
     μ-loop
     loop-holds
-    add-from
+    add-y
+    add-k
     mul-from
-    add-from-2
-    cast-on
-    mul-fill-span
+    add-from
     add-fill-span
     fill-span-requires
-    add-k
     loop-less
     loop-again
+    loop-less-2
+    loop-again-2
     same-length
     returns)
