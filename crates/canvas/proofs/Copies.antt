@@ -1,9 +1,9 @@
 -- Laws of copying: when a canvas has a picture, and its rows without gaps, one row after the other and byte by byte.
 -- Assumes nothing.
 use mathlib.Core.Path.{_≡_, refl, sym, ap, ap₂, _∙_}
-use mathlib.Core.Bool.{Bool, true, false, cond, _&&_}
-use mathlib.Core.List.{List, [], _∷_, _++_, append-nil, append-assoc}
-use Prim.Native.Nat.{ℕ, zero, suc, _+_, _-_, _*_, _≤_, _<_, min}
+use mathlib.Core.Bool.{true, false, _&&_}
+use mathlib.Core.List.{List, _++_, append-nil, append-assoc}
+use Prim.Native.Nat.{ℕ, zero, suc, _+_, _-_, _*_, _≤_, _<_}
 use native.Mathlib.Nat.{mul-le-mul-left, mul-le-mul-right, not-suc-le-zero, le-of-suc-le-suc}
 use native.Mathlib.Numerals.{add-one}
 use native.Mathlib.Omega.{arith}
@@ -11,19 +11,20 @@ use lib.ListN.{length, getD, take, drop, length-append, length-drop, List·getD-
 use lib.Seq.{length-take-le, take-at, drop-append-add, drop-drop, getD-take, getD-drop, getD-append-add, paste}
 use lib.Dec.{leb, ltb}
 use borrow.Author.Tests.{ltb-true, lt-ltb, leb-true, le-leb, lt-leb, eqb-false}
-use Rattle.canvas.specs.Picture.{Area, areaOf, fits, rowsOf}
+use Rattle.canvas.specs.Picture.{areaOf, fits, rowsOf}
 use Rattle.canvas.specs.Copy.{numberOf, hasPicture, packed, sizeOf, copied}
 use Rattle.canvas.specs.declared.Copied.{Copied}
 use Rattle.canvas.specs.declared.Copied.the-variants.{Done, Misfit, Short}
 use Rattle.canvas.proofs.Covers.{and-left, and-right, and-both, same-test}
 use Rattle.canvas.proofs.Grid.{rows-room}
+use Rattle.canvas.proofs.Growth.{fits-columns, fits-rows, fits-in}
 
 -- ---- when a canvas has a picture
 
 module _ (stride n width height : ℕ) where
   pub has-all : 0 < stride → 0 < width → 0 < height → width ≤ stride → height ≤ rowsOf n stride → hasPicture stride n (areaOf width height) ≡ true
-  unfolding hasPicture fits
-  has-all a b c d e = and-both (lt-ltb _ _ a) (and-both (lt-ltb _ _ b) (and-both (lt-ltb _ _ c) (and-both (le-leb _ _ d) (le-leb _ _ e))))
+  unfolding hasPicture
+  has-all a b c d e = and-both (lt-ltb _ _ a) (and-both (lt-ltb _ _ b) (and-both (lt-ltb _ _ c) (fits-in stride n (areaOf width height) d e)))
 
   module _ (t : hasPicture stride n (areaOf width height) ≡ true) where
     pub has-stride : 0 < stride
@@ -47,12 +48,10 @@ module _ (stride n width height : ℕ) where
     roomy = and-right (ltb 0 height) _ tall
 
     pub has-columns : width ≤ stride
-    unfolding fits
-    has-columns = leb-true width stride (and-left _ _ roomy)
+    has-columns = fits-columns stride n (areaOf width height) roomy
 
     pub has-rows : height ≤ rowsOf n stride
-    unfolding fits
-    has-rows = leb-true height (rowsOf n stride) (and-right (leb width stride) _ roomy)
+    has-rows = fits-rows stride n (areaOf width height) roomy
 
 -- the last test alone, where the others held
 pub has-last : (stride n width height rows : ℕ) → 0 < stride → 0 < width → 0 < height → width ≤ stride → rows ≡ rowsOf n stride
@@ -100,10 +99,11 @@ packed-row stride width (suc y) at canvas e =
     ∙ sym (append-assoc front (packed stride width y below) (take (4 * width) (drop at canvas)))
 
 -- a buffer with y rows at its front, and then the next pasted behind them
-pub packed-more : (stride width y : ℕ) (canvas out : List ℕ) → width ≤ stride → 4 * (y * stride) ≤ length canvas
-    → paste (packed stride width y canvas ++ drop (4 * (width * y)) out) (4 * (width * y)) (drop (4 * (y * stride)) canvas) (4 * width)
-    ≡ packed stride width (y + 1) canvas ++ drop (4 * (width * (y + 1))) out
-packed-more stride width y canvas out h r =
+pub packed-more : {out′ : List ℕ} (stride width y : ℕ) (canvas out rows : List ℕ) → width ≤ stride → 4 * (y * stride) ≤ length canvas
+    → rows ≡ packed stride width y canvas ++ drop (4 * (width * y)) out
+    → out′ ≡ paste rows (4 * (width * y)) (drop (4 * (y * stride)) canvas) (4 * width)
+    → out′ ≡ packed stride width (y + 1) canvas ++ drop (4 * (width * (y + 1))) out
+packed-more stride width y canvas out rows h r e f =
     let front : List ℕ = packed stride width y canvas in
     let rest : List ℕ = drop (4 * (width * y)) out in
     let row : List ℕ = take (4 * width) (drop (4 * (y * stride)) canvas) in
@@ -114,7 +114,9 @@ packed-more stride width y canvas out h r =
     ∙ drop-append-add front rest (4 * width)
     ∙ drop-drop (4 * width) (4 * (width * y)) out
     ∙ ap (λ (k : ℕ). drop k out) next in
-    ap₂ (λ (a b : List ℕ). a ++ row ++ b) (take-at front rest (4 * (width * y)) long) after
+    f
+    ∙ ap (λ (l : List ℕ). paste l (4 * (width * y)) (drop (4 * (y * stride)) canvas) (4 * width)) e
+    ∙ ap₂ (λ (a b : List ℕ). a ++ row ++ b) (take-at front rest (4 * (width * y)) long) after
     ∙ ap (λ (a : List ℕ). a ++ drop (4 * (width * (y + 1))) out)
     (sym (ap (λ (k : ℕ). packed stride width k canvas) (add-one y) ∙ packed-row stride width y (4 * (y * stride)) canvas refl))
 

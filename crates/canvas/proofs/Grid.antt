@@ -1,19 +1,19 @@
 -- Laws of rows on a canvas: a span of pixels within one row, and a sixel row by row.
 -- Assumes nothing.
-use mathlib.Core.Path.{_≡_, refl, sym, ap, ap₂, _∙_, subst}
-use mathlib.Core.Bool.{Bool, true, false, cond, _&&_, _||_, true≢false}
+use mathlib.Core.Path.{_≡_, sym, ap, _∙_}
+use mathlib.Core.Bool.{Bool, true, _&&_, _||_}
 use mathlib.Core.List.{List}
-use Prim.Native.Nat.{ℕ, zero, suc, _+_, _-_, _*_, _/_, _%_, _^_, _≤_, _<_}
-use native.Mathlib.Nat.{add-assoc, div-le-self, div-mul-le-self, mul-le-mul-right, mul-zero, div-div-eq-div-mul, pow-suc, div-add-mod'}
+use Prim.Native.Nat.{ℕ, _+_, _-_, _*_, _/_, _%_, _^_, _≤_, _<_}
+use native.Mathlib.Nat.{add-assoc, div-le-self, div-mul-le-self, mul-le-mul-right, div-div-eq-div-mul, pow-suc, div-add-mod'}
 use native.Mathlib.Numerals.{add-one}
 use native.Mathlib.Omega.{arith}
 use lib.Arith.{digits-div, digits-mod}
 use lib.Dec.{eqb}
 use borrow.Author.Tests.{eqb-true, eq-eqb}
-use Rattle.canvas.specs.Picture.{span, grid, bit, inSixel, rowsOf}
+use Rattle.canvas.specs.Picture.{span, grid, bit, rowsOf}
 use Rattle.canvas.specs.Paint.{painted}
 use Rattle.canvas.proofs.Bytes.{painted-both, painted-none, painted-same}
-use Rattle.canvas.proofs.Covers.{and-left, and-right, and-both, same-test, no-test, by-test, split, or-left, or-right, or-case, span-low, span-high, span-in, span-empty}
+use Rattle.canvas.proofs.Covers.{and-left, and-right, and-both, same-test, no-test, split, or-left, or-right, or-case, span-low, span-high, span-in}
 
 -- whole rows lie on the canvas
 pub rows-room : (n stride r : ℕ) → r ≤ rowsOf n stride → 4 * (r * stride) ≤ n

@@ -1,17 +1,17 @@
 -- Laws of rectangles and of growth: row by row, and the new pixels of a larger area as two rectangles.
 -- Assumes nothing.
-use mathlib.Core.Path.{_≡_, refl, sym, ap, _∙_}
+use mathlib.Core.Path.{_≡_, sym, ap, _∙_}
 use mathlib.Core.Bool.{Bool, true, false, not, _&&_, _||_, true≢false, and-or-distrib-left}
 use mathlib.Core.List.{List}
 use Prim.Native.Nat.{ℕ, _+_, _*_, _/_, _%_, _≤_, _<_, zero-le}
 use native.Mathlib.Nat.{mul-le-mul-right}
 use native.Mathlib.Omega.{arith}
-use lib.Dec.{eqb, ltb}
-use borrow.Author.Tests.{ltb-true, lt-ltb, eqb-true, eq-eqb, not-true}
-use Rattle.canvas.specs.Picture.{Area, areaOf, span, grid, visible, rowsOf}
+use lib.Dec.{eqb, ltb, leb}
+use borrow.Author.Tests.{ltb-true, lt-ltb, leb-true, le-leb, eqb-true, eq-eqb, not-true}
+use Rattle.canvas.specs.Picture.{Area, areaOf, span, grid, visible, fits, rowsOf}
 use Rattle.canvas.specs.Paint.{painted, rectangle, fresh, grown}
-use Rattle.canvas.proofs.Bytes.{painted-both, painted-none, painted-same}
-use Rattle.canvas.proofs.Covers.{and-left, and-right, and-both, same-test, no-test, split, or-left, or-right, or-case, span-low, span-high, span-in, span-empty, span-more}
+use Rattle.canvas.proofs.Bytes.{painted-both, painted-none}
+use Rattle.canvas.proofs.Covers.{and-left, and-right, and-both, same-test, no-test, split, or-left, or-right, or-case, span-low, span-high, span-in, span-more}
 use Rattle.canvas.proofs.Grid.{inRow, row-span, rows-room}
 
 -- ---- rectangles
@@ -74,6 +74,18 @@ rectangle-room n stride right bottom y h r l =
 
 -- ---- areas
 
+pub fits-columns : (stride n : ℕ) (area : Area) → fits stride n area ≡ true → area .width ≤ stride
+unfolding fits
+fits-columns stride n area t = leb-true _ _ (and-left _ _ t)
+
+pub fits-rows : (stride n : ℕ) (area : Area) → fits stride n area ≡ true → area .height ≤ rowsOf n stride
+unfolding fits
+fits-rows stride n area t = leb-true _ _ (and-right (leb (area .width) stride) _ t)
+
+pub fits-in : (stride n : ℕ) (area : Area) → area .width ≤ stride → area .height ≤ rowsOf n stride → fits stride n area ≡ true
+unfolding fits
+fits-in stride n area h k = and-both (le-leb _ _ h) (le-leb _ _ k)
+
 pub visible-column : (area : Area) (x y : ℕ) → visible area x y ≡ true → x < area .width
 unfolding visible
 visible-column area x y t = ltb-true x (area .width) (and-left _ _ t)
@@ -128,8 +140,13 @@ fresh-parts w h w′ h′ p q x y =
     (visible-in (areaOf w′ h′) x y (span-high 0 w′ x columns) (span-high h h′ y rows))
     (no-test _ (λ v. omega (arith, span-low h h′ y rows, visible-row (areaOf w h) x y v)))))
 
-pub grown-parts : (stride w h w′ h′ : ℕ) (px l : List ℕ) → w ≤ w′ → h ≤ h′
-    → painted (grid stride (rectangle 0 w′ h h′)) px (painted (grid stride (rectangle w w′ 0 h)) px l)
-    ≡ grown stride (areaOf w h) (areaOf w′ h′) px l
+-- what is painted on one and then on the other is grown
+pub grown-parts : {first second : List ℕ} (stride w h w′ h′ : ℕ) (px l : List ℕ) → w ≤ w′ → h ≤ h′
+    → first ≡ painted (grid stride (rectangle w w′ 0 h)) px l
+    → second ≡ painted (grid stride (rectangle 0 w′ h h′)) px first
+    → second ≡ grown stride (areaOf w h) (areaOf w′ h′) px l
 unfolding grown grid
-grown-parts stride w h w′ h′ px l p q = painted-both _ _ _ px l (λ n. fresh-parts w h w′ h′ p q (n % stride) (n / stride))
+grown-parts stride w h w′ h′ px l p q e f =
+    f
+    ∙ ap (painted (grid stride (rectangle 0 w′ h h′)) px) e
+    ∙ painted-both _ _ _ px l (λ n. fresh-parts w h w′ h′ p q (n % stride) (n / stride))

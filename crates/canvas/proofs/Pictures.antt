@@ -4,15 +4,15 @@
 use mathlib.Core.Path.{_≡_, refl, sym, ap, _∙_}
 use mathlib.Core.Bool.{Bool, true, false, cond, not, _&&_, _||_, true≢false}
 use mathlib.Core.List.{List, [], _∷_, _++_}
-use Prim.Native.Nat.{ℕ, zero, suc, _+_, _*_, _/_, _%_, _≤_, _<_}
-use native.Mathlib.Nat.{zero-add, mod-le, div-le-self, div-add-mod', le-refl, le-trans}
+use Prim.Native.Nat.{ℕ, _*_, _/_, _%_, _<_}
+use native.Mathlib.Nat.{zero-add, mod-le, div-le-self, div-add-mod', le-refl}
 use native.Mathlib.Omega.{arith}
 use lib.ListN.{length, getD}
 use lib.Seq.{ext-getD}
-use Rattle.canvas.specs.Picture.{Stroke, Area, areaOf, span, grid, covers, inSixel, lastStroke, colourAt, shownColour, visible, replaced, picture, inside, allInside, reach}
-use Rattle.canvas.specs.Paint.{painted, stroked, sixelPainted, fresh, grown, strokedAll, reachAll, grownEach}
+use Rattle.canvas.specs.Picture.{Stroke, Area, areaOf, span, grid, covers, lastStroke, colourAt, shownColour, visible, picture, inside, allInside, reach}
+use Rattle.canvas.specs.Paint.{painted, stroked, fresh, grown, strokedAll, reachAll, grownEach}
 use Rattle.canvas.proofs.Bytes.{length-replaced, getD-replaced, replaced-twice, replaced-same, painted-both, painted-apart, painted-none}
-use Rattle.canvas.proofs.Covers.{same-test, no-test, by-test, or-left, or-right, or-case, span-low, span-high, span-in}
+use Rattle.canvas.proofs.Covers.{same-test, no-test, by-test, or-left, or-right, or-case, span-high, span-in}
 use Rattle.canvas.proofs.Growth.{visible-column, visible-row, visible-in, fresh-in, fresh-new, fresh-old}
 use Rattle.canvas.proofs.Strokes.{Within, covers-visible, colour-more, colour-outside, blank-covers, reach-within, reach-inside}
 

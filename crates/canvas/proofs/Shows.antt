@@ -2,15 +2,15 @@
 -- painting function ensures, last, and gives what the canvas shows then.
 -- Assumes nothing.
 use mathlib.Core.Path.{_≡_, refl, sym, ap, _∙_}
-use mathlib.Core.Bool.{Bool, true}
+use mathlib.Core.Bool.{true}
 use mathlib.Core.List.{List, [], _∷_, _++_, append-nil, append-assoc}
 use Prim.Native.Nat.{ℕ}
 use lib.ListN.{length}
-use Rattle.canvas.specs.Picture.{Stroke, Area, areaOf, span, covers, picture, inside, allInside, reach}
-use Rattle.canvas.specs.Paint.{painted, sixelPainted, stroked, grown, strokedAll, reachAll}
+use Rattle.canvas.specs.Picture.{Stroke, Area, areaOf, span, covers, picture, inside, allInside}
+use Rattle.canvas.specs.Paint.{painted, sixelPainted, stroked, grown, strokedAll}
 use Rattle.canvas.proofs.Covers.{and-left, and-right}
-use Rattle.canvas.proofs.Strokes.{Within, all-within, all-more, inside-within, reach-within, reach-inside}
-use Rattle.canvas.proofs.Pictures.{length-picture, picture-opened, picture-grown, picture-stroke, stroked-blank, reach-all-within}
+use Rattle.canvas.proofs.Strokes.{Within, all-within, all-more}
+use Rattle.canvas.proofs.Pictures.{length-picture, picture-opened, picture-grown, picture-stroke, stroked-blank}
 
 -- a canvas shows strokes on an area that has each of them in it
 pub record Shows (stride : ℕ) (area : Area) (background : List ℕ) (strokes : List Stroke) (opening canvas : List ℕ) : Type 0 where

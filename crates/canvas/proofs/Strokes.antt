@@ -1,17 +1,17 @@
 -- Laws of lists of strokes: which stroke a pixel shows, and in what colour, when one stroke more comes or none covers it.
 -- Assumes nothing.
 use mathlib.Core.Path.{_≡_, refl, sym, ap, _∙_}
-use mathlib.Core.Bool.{Bool, true, false, cond, _&&_, true≢false}
+use mathlib.Core.Bool.{Bool, true, false, cond, true≢false}
 use mathlib.Core.Option.{Option, none, some}
 use mathlib.Core.List.{List, [], _∷_, _++_, map}
-use Prim.Native.Nat.{ℕ, zero, suc, _+_, _-_, _/_, _%_, _^_, _≤_, _<_, max, zero-le, suc-le-suc}
+use Prim.Native.Nat.{ℕ, zero, suc, _+_, _-_, _/_, _%_, _^_, _≤_, _<_}
 use native.Mathlib.Nat.{zero-div, not-suc-le-zero, le-of-suc-le-suc}
 use native.Mathlib.Omega.{arith}
 use lib.ListN.{length, getD}
 use lib.Dec.{leb}
 use borrow.Author.Tests.{leb-true, le-leb, eqb-true}
 use Rattle.canvas.specs.Picture.{Stroke, Area, span, bit, inSixel, covers, orHere, lastStroke, colourAt, shownColour, visible, inside, allInside, grownTo, reach}
-use Rattle.canvas.proofs.Covers.{and-left, and-right, and-both, no-test, by-test, span-low, span-high}
+use Rattle.canvas.proofs.Covers.{and-left, and-right, and-both, no-test, by-test, span-high}
 use Rattle.canvas.proofs.Growth.{visible-in}
 
 -- ---- inside an area

@@ -2,8 +2,8 @@
 -- where the other buffer is too short for it; else the picture's rows without gaps stand at the front of the other
 -- buffer, and its later bytes stay. A refused copy writes nothing.
 use Prim.Native.Nat.{ℕ, zero, suc, _*_}
-use mathlib.Core.Bool.{Bool, true, false, cond, _&&_}
-use mathlib.Core.List.{List, [], _∷_, _++_}
+use mathlib.Core.Bool.{Bool, cond, _&&_}
+use mathlib.Core.List.{List, [], _++_}
 use lib.ListN.{length, take, drop}
 use lib.Dec.{leb, ltb}
 use Rattle.canvas.specs.Picture.{Area, fits}

@@ -1,7 +1,7 @@
 -- What painting does to the bytes of a canvas: the pixels that a test picks get the four bytes of one pixel, and every
 -- other byte stays as it was.
-use Prim.Native.Nat.{ℕ, _+_, _/_, _%_}
-use mathlib.Core.Bool.{Bool, true, false, cond, not, _&&_}
+use Prim.Native.Nat.{ℕ, _/_, _%_}
+use mathlib.Core.Bool.{Bool, cond, not, _&&_}
 use mathlib.Core.List.{List, [], _∷_}
 use lib.ListN.{getD}
 use Rattle.canvas.specs.Picture.{Stroke, Area, replaced, grid, span, covers, inSixel, visible, reach}

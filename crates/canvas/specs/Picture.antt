@@ -2,7 +2,7 @@
 -- Reading makes strokes; a picture is made of them and of nothing else: in the visible area each pixel is the last
 -- stroke that covers it, or else the background; every other byte is that of the opening. Which stroke a pixel shows is
 -- said by its place in the list, and the colour follows from the place.
-use Prim.Native.Nat.{ℕ, zero, suc, _+_, _-_, _*_, _/_, _%_, _^_, max}
+use Prim.Native.Nat.{ℕ, zero, suc, _+_, _-_, _/_, _%_, _^_, max}
 use mathlib.Core.Bool.{Bool, true, false, cond, _&&_}
 use mathlib.Core.Option.{Option, none, some}
 use mathlib.Core.List.{List, [], _∷_, map}

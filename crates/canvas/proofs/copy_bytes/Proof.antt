@@ -1,9 +1,10 @@
+-- `canvas::copy_bytes` meets its contract. The loop's invariant: the first j bytes are pasted. Assumes nothing.
 use mathlib.Core.Path.{_≡_, refl, sym, ap, ap₂, _∙_}
 use mathlib.Core.List.{List}
 use Prim.Native.Nat.{ℕ, _+_, _-_, _≤_, _<_, zero-le}
 use native.Mathlib.Numerals.{add-one}
 use native.Mathlib.Omega.{arith}
-use lib.ListN.{length, getD, drop, set, length-set, length-drop}
+use lib.ListN.{length, drop, set, length-set, length-drop}
 use lib.Seq.{paste, paste-zero, paste-suc, getD-drop}
 use denote.Ref.{now}
 use Rattle.canvas.proofs.copy_bytes.Statement.{statement}

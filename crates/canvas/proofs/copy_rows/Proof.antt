@@ -1,11 +1,10 @@
-use mathlib.Core.Path.{_≡_, refl, sym, ap, _∙_}
-use mathlib.Core.List.{List, _++_}
-use Prim.Native.Nat.{ℕ, _+_, _-_, _*_, _≤_, _<_, zero-le}
+-- `canvas::copy_rows` meets its contract. The loop's invariant: the first y rows stand at the front. Assumes nothing.
+use mathlib.Core.Path.{_≡_, refl, ap, _∙_}
+use mathlib.Core.List.{_++_}
+use Prim.Native.Nat.{ℕ, _+_, _-_, _*_, _≤_, zero-le}
 use native.Mathlib.Omega.{arith}
 use lib.ListN.{length, drop}
-use lib.Seq.{paste}
 use denote.Ref.{now}
-use Rattle.canvas.specs.Picture.{areaOf}
 use Rattle.canvas.specs.Copy.{packed, sizeOf}
 use Rattle.canvas.proofs.Growth.{rectangle-room}
 use Rattle.canvas.proofs.Copies.{packed-none, packed-more, row-room}
@@ -70,12 +69,8 @@ loop-again c =
     let entry = t .before .before .before in
     let a = entry .args in
     let now-at = t .loop in
-    let from : ℕ = 4 * (now-at .y * a .stride) in
-    let at : ℕ = 4 * (a .width * now-at .y) in
-    let below : from ≤ length (now (a .canvas)) = omega (arith, room (c .before .before .before .before)) in (
-      c .before .before .copy-bytes .ensures
-          ∙ ap (λ (l : List ℕ). paste l at (drop from (now (a .canvas))) (4 * a .width)) (now-at .inv .0)
-          ∙ packed-more (a .stride) (a .width) (now-at .y) (now (a .canvas)) (now (a .out)) (entry .pre .0) below,
+    let below : 4 * (now-at .y * a .stride) ≤ length (now (a .canvas)) = omega (arith, room (c .before .before .before .before)) in (
+      packed-more (a .stride) (a .width) (now-at .y) (now (a .canvas)) (now (a .out)) (now-at .out) (entry .pre .0) below (now-at .inv .0) (c .before .before .copy-bytes .ensures),
       c .before .before .copy-bytes .kept .1 .1 .0 ∙ now-at .inv .1,
       omega arith,
     )

@@ -1,10 +1,9 @@
-use mathlib.Core.Path.{_≡_, refl, sym, ap, _∙_}
-use mathlib.Core.List.{List}
-use Prim.Native.Nat.{ℕ, _+_, _-_, _*_, _≤_, _<_}
+-- `canvas::fill_rectangle` meets its contract. The loop's invariant: the rows from `top` up to y are painted. Assumes nothing.
+use mathlib.Core.Path.{_≡_, refl, ap, _∙_}
+use Prim.Native.Nat.{ℕ, _+_, _-_, _*_, _≤_}
 use native.Mathlib.Omega.{arith}
 use lib.ListN.{length}
 use denote.Ref.{now}
-use borrow.Author.Needs.{needs}
 use Rattle.canvas.specs.Picture.{grid, span}
 use Rattle.canvas.specs.Paint.{painted, rectangle}
 use Rattle.canvas.proofs.Growth.{rectangle-more, rectangle-none, rectangle-room}

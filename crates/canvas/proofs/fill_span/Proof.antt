@@ -1,3 +1,5 @@
+-- `canvas::fill_span` meets its contract. The loop's invariant: the pixels from `from` up to p are painted. A turn's four stores are
+-- `stored-more`. Assumes nothing.
 use mathlib.Core.Path.{_≡_, refl, sym, ap, _∙_}
 use mathlib.Core.List.{List}
 use Prim.Native.Nat.{ℕ, _+_, _*_, _-_, _≤_, _<_}

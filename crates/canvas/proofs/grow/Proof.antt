@@ -1,9 +1,9 @@
-use mathlib.Core.Path.{_≡_, sym, ap, _∙_, subst}
+-- `canvas::grow` meets its contract: the new pixels are the two rectangles that it paints. Assumes nothing.
+use mathlib.Core.Path.{sym, subst}
 use Prim.Native.Nat.{ℕ, _≤_, zero-le}
-use native.Mathlib.Omega.{arith}
 use denote.Ref.{now}
-use Rattle.canvas.specs.Picture.{grid, rowsOf}
-use Rattle.canvas.specs.Paint.{painted, rectangle}
+use native.Mathlib.Omega.{arith}
+use Rattle.canvas.specs.Picture.{rowsOf}
 use Rattle.canvas.proofs.Growth.{grown-parts}
 use borrow.Author.Needs.{needs}
 use Rattle.canvas.proofs.grow.Statement.{statement}
@@ -29,11 +29,9 @@ returns : tie.Need-returns
 returns c =
     let entry = c .before .before .before .before .before .before .before .before .before in
     let a = entry .args in
-    let second = c .before .before .fill-rectangle2 in
-    let first = c .before .before .before .before .before .before .fill-rectangle in
-    second .ensures
-    ∙ ap (painted (grid (a .stride) (rectangle 0 (a .new-width) (a .height) (a .new-height))) (a .background)) (first .ensures)
-    ∙ grown-parts (a .stride) (a .width) (a .height) (a .new-width) (a .new-height) (a .background) (now (a .canvas)) (entry .pre .0) (entry .pre .2)
+    grown-parts (a .stride) (a .width) (a .height) (a .new-width) (a .new-height) (a .background) (now (a .canvas)) (entry .pre .0) (entry .pre .2)
+    (c .before .before .before .before .before .before .fill-rectangle .ensures)
+    (c .before .before .fill-rectangle2 .ensures)
 
 pub grow-spec : {M : Type 1} → statement M
 grow-spec =

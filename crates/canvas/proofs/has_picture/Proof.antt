@@ -1,4 +1,5 @@
-use mathlib.Core.Path.{_≡_, sym}
+-- `canvas::has_picture` meets its contract, test by test. Assumes nothing.
+use mathlib.Core.Path.{sym}
 use native.Mathlib.Omega.{arith}
 use Rattle.canvas.proofs.Covers.{no-test}
 use Rattle.canvas.proofs.Copies.{has-stride, has-width, has-height, has-columns, has-last}
