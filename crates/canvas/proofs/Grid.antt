@@ -85,6 +85,15 @@ module _ (k column row repeat bits x y : ℕ) where
     first-bit : bit bits (y - row) ≡ true
     first-bit = and-right (span row (row + k) y) _ first-rest
 
+-- a row more keeps what there is
+first-more : (k column row repeat bits x y : ℕ) → firstRows k column row repeat bits x y ≡ true → firstRows (k + 1) column row repeat bits x y ≡ true
+first-more k column row repeat bits x y t =
+    first-in (k + 1) column row repeat bits x y
+    (first-columns k column row repeat bits x y t)
+    (first-low k column row repeat bits x y t)
+    (omega (arith, first-high k column row repeat bits x y t))
+    (first-bit k column row repeat bits x y t)
+
 -- the bit of the row at k
 bit-at : (bits row k y : ℕ) → y ≡ row + k → bit bits (y - row) ≡ eqb (bits / 2 ^ k % 2) 1
 unfolding bit
@@ -107,12 +116,7 @@ module _ (k column row repeat bits x y : ℕ) where
       (λ below. or-right (firstRows k column row repeat bits x y) _ (and-both s (eq-eqb y (row + k) (omega arith)))))
       (λ t.
       or-case (firstRows k column row repeat bits x y) _ t
-      (λ f.
-      first-in (k + 1) column row repeat bits x y
-      (first-columns k column row repeat bits x y f)
-      (first-low k column row repeat bits x y f)
-      (omega (arith, first-high k column row repeat bits x y f))
-      (first-bit k column row repeat bits x y f))
+      (first-more k column row repeat bits x y)
       (λ r.
       let at : y ≡ row + k = eqb-true y (row + k) (and-right (span column (column + repeat) x) _ r) in
       first-in (k + 1) column row repeat bits x y (and-left _ _ r) (omega arith) (omega arith) (bit-at bits row k y at ∙ eq-eqb _ 1 on)))
@@ -128,12 +132,7 @@ module _ (k column row repeat bits x y : ℕ) where
       split y (row + k)
       (λ above. first-in k column row repeat bits x y (first-columns (k + 1) column row repeat bits x y t) l above b)
       (λ below. absurd (off (eqb-true _ 1 (sym (bit-at bits row k y (omega arith)) ∙ b)))))
-      (λ f.
-      first-in (k + 1) column row repeat bits x y
-      (first-columns k column row repeat bits x y f)
-      (first-low k column row repeat bits x y f)
-      (omega (arith, first-high k column row repeat bits x y f))
-      (first-bit k column row repeat bits x y f))
+      (first-more k column row repeat bits x y)
 
 -- the bits that are left after one row more
 pub rest-more : (bits k : ℕ) → bits / 2 ^ k / 2 ≡ bits / 2 ^ (k + 1)

@@ -1,19 +1,20 @@
 -- Laws of pictures: one stroke more, a larger area, several strokes at once, a blank stroke, and what of the opening
 -- a picture keeps.
 -- Assumes nothing.
-use mathlib.Core.Path.{_≡_, refl, sym, ap, _∙_}
+use mathlib.Core.Path.{_≡_, refl, sym, ap, ap₂, _∙_}
 use mathlib.Core.Bool.{Bool, true, false, cond, not, _&&_, _||_, true≢false}
 use mathlib.Core.List.{List, [], _∷_, _++_}
-use Prim.Native.Nat.{ℕ, _*_, _/_, _%_, _<_}
+use Prim.Native.Nat.{ℕ, _+_, _*_, _/_, _%_, _<_, _≤_}
 use native.Mathlib.Nat.{zero-add, mod-le, div-le-self, div-add-mod', le-refl}
 use native.Mathlib.Omega.{arith}
 use lib.ListN.{length, getD}
 use lib.Seq.{ext-getD}
-use Rattle.canvas.specs.Picture.{Stroke, Area, areaOf, span, grid, covers, lastStroke, colourAt, shownColour, visible, picture, inside, allInside, reach}
+use lib.Arith.{digits-div, digits-mod}
+use Rattle.canvas.specs.Picture.{Stroke, Area, areaOf, span, grid, covers, lastStroke, colourAt, shownColour, visible, picture, fits, inside, allInside, reach}
 use Rattle.canvas.specs.Paint.{painted, stroked, fresh, grown, strokedAll, reachAll, grownEach}
 use Rattle.canvas.proofs.Bytes.{length-replaced, getD-replaced, replaced-twice, replaced-same, painted-both, painted-apart, painted-none}
 use Rattle.canvas.proofs.Covers.{same-test, no-test, by-test, or-left, or-right, or-case, span-high, span-in}
-use Rattle.canvas.proofs.Growth.{visible-column, visible-row, visible-in, fresh-in, fresh-new, fresh-old}
+use Rattle.canvas.proofs.Growth.{rectangle-room, fits-columns, fits-rows, visible-column, visible-row, visible-in, fresh-in, fresh-new, fresh-old}
 use Rattle.canvas.proofs.Strokes.{Within, covers-visible, colour-more, colour-outside, blank-covers, reach-within, reach-inside}
 
 pub length-picture : (stride : ℕ) (area : Area) (background : List ℕ) (ss : List Stroke) (opening : List ℕ) → length (picture stride area background ss opening) ≡ length opening
@@ -28,6 +29,26 @@ unfolding picture
 picture-byte stride area background ss opening k h =
     getD-replaced 0 _ opening k h
     ∙ ap (λ (n : ℕ). cond (grid stride (visible area) (n / 4)) (getD (grid stride (shownColour background ss) (n / 4)) (n % 4) 0) (getD opening k 0)) (zero-add k)
+
+-- byte c of the visible pixel (x, y) is byte c of what is shown there
+pub picture-pixel : (stride : ℕ) (area : Area) (background : List ℕ) (ss : List Stroke) (opening : List ℕ) (x y c : ℕ)
+    → fits stride (length opening) area ≡ true → visible area x y ≡ true → c < 4
+    → getD (picture stride area background ss opening) (4 * (y * stride + x) + c) 0 ≡ getD (shownColour background ss x y) c 0
+unfolding grid
+picture-pixel stride area background ss opening x y c f t h =
+    let columns : area .width ≤ stride = fits-columns stride (length opening) area f in
+    let left : x < area .width = visible-column area x y t in
+    let on : 4 * (y * stride + area .width) ≤ length opening =
+    rectangle-room (length opening) stride (area .width) (area .height) y columns (fits-rows stride (length opening) area f) (visible-row area x y t) in
+    let k : ℕ = 4 * (y * stride + x) + c in
+    let short : x < stride = omega arith in
+    let pixel : k / 4 ≡ y * stride + x = omega arith in
+    let byte : k % 4 ≡ c = omega arith in
+    let column : k / 4 % stride ≡ x = ap (λ (p : ℕ). p % stride) pixel ∙ digits-mod y short in
+    let row : k / 4 / stride ≡ y = ap (λ (p : ℕ). p / stride) pixel ∙ digits-div y short in
+    picture-byte stride area background ss opening k (omega arith)
+    ∙ ap₂ (λ (u v : ℕ). cond (visible area u v) (getD (shownColour background ss u v) (k % 4) 0) (getD opening k 0)) column row
+    ∙ ap₂ (λ (b : Bool) (r : ℕ). cond b (getD (shownColour background ss x y) r 0) (getD opening k 0)) t byte
 
 -- ---- one stroke more
 

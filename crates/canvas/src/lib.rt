@@ -64,8 +64,8 @@ pub fn paint_sixel(
 }
 
 // Paints the columns from `left` up to `right` of the rows from `top` up to `bottom`.
-// Inner: asks that they are on the canvas.
-pub fn fill_rectangle(
+// Asks that they are on the canvas.
+fn fill_rectangle(
     canvas: &mut [u8],
     stride: usize,
     left: usize,
