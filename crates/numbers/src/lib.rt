@@ -186,6 +186,20 @@ impl Parameters {
         self
     }
 
+    // The same record made anew from its numbers, so that a loop need not carry along the bytes of no meaning between them.
+    pub fn renewed(self) -> Parameters
+        ensures { λ r. ⌜ r ≡ self ⌝ }
+    {
+        let values = self.values;
+        Parameters {
+            values,
+            count: self.count,
+            current: self.current,
+            pending: self.pending,
+            places: self.places,
+        }
+    }
+
     // How many values there are.
     pub fn count(self) -> usize
         ensures { λ r. ⌜ r ≡ self .count ⌝ }
