@@ -32,8 +32,6 @@ pub struct Answer {
     /// Document 01's number, 0 where nothing was refused.
     pub refusal: u8,
     pub at_finish: bool,
-    /// The Rust's own words for the refusal.
-    pub words: String,
     /// Status and bytes consumed over all calls that were not refused.
     pub status: Status,
     pub consumed: usize,
@@ -86,10 +84,7 @@ pub fn run(decoder: &mut SixelDecoder, case: &Case) -> Answer {
 
 fn answer(calls: Calls, standing: Option<Standing>, part: usize, registers: Vec<u8>) -> Answer {
     let inside = standing.as_ref().map_or(0, |standing| standing.refusal);
-    let (refusal, words) = match &calls.result {
-        Ok(_) => (0, String::new()),
-        Err(error) => (number(error, inside), error.to_string()),
-    };
+    let refusal = calls.result.as_ref().err().map_or(0, |error| number(error, inside));
     assert!(refusal != 0 || inside == 0, "both readings refuse or neither does");
     let shown = standing.unwrap_or(Standing { refusal: 0, size: [0, 0], reach: [0, 0], pixels: Vec::new() });
     let (ratio, opaque) = match &calls.result {
@@ -103,7 +98,6 @@ fn answer(calls: Calls, standing: Option<Standing>, part: usize, registers: Vec<
     Answer {
         refusal,
         at_finish: calls.at_finish,
-        words,
         status: calls.status,
         consumed: calls.consumed,
         part,
