@@ -1,1 +1,5 @@
 pub mod ReaderLaws
+pub mod AreaLaws
+pub mod InkLaws
+pub mod Trials
+pub mod Examples
