@@ -1,0 +1,3 @@
+pub mod Packing
+pub mod Standard
+pub mod Palette
