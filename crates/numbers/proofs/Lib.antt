@@ -1,0 +1,4 @@
+pub mod Laws
+pub mod Fields
+pub mod Reading
+pub mod Repeat

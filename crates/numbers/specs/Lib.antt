@@ -1,0 +1,5 @@
+pub mod Bytes
+pub mod Values
+pub mod Examples
+pub mod Step
+pub mod Read
