@@ -15,9 +15,9 @@ use Rattle.colours.specs.declared.Palette.{Palette}
 use Rattle.canvas.specs.Picture.{Stroke, Area, rowsOf, inside, allInside, grownTo, reach}
 use Rattle.meaning.specs.Commands.{repeat, colour, raster, Command, argued, return, line, draw, Placed, Scanned, closed, scanByte, commands}
 use Rattle.meaning.specs.Drawing.{Limits, Setting, Raster, rasterAfter, Drawing, Drawn, drawn, refused, blank, withPen, withRepeats, repeated, pixelsOf, sizeRefusal, unless, withRaster, stretched, rastered, strokeOf, stroked, sixelled, drawCommand, Outcome, andThen, drawAll, extentOf, columnsReached, rowsReached}
-use Rattle.meaning.specs.Payload.{Settings, payload, Finished, finished, turnedDown, reportOf, tooLarge, reported, finish}
+use Rattle.meaning.specs.Payload.{Parameters, payload, Finished, finished, turnedDown, reportOf, tooLarge, reported, finish}
 use Rattle.meaning.specs.Reader.{Step, next, halt, refuse, stopped, Run, still, after, follow, readFrom, call}
-use Rattle.meaning.specs.Sessions.{Reading, opened, settingsOf, settled, rested, endedAt, wentOn, readByte, payloadStep, End, Phase, start, introduced, header, within, afterEscape, over, startStep, introducedStep, headerStep, endStep, withinStep, escapeStep, dcsStep, dcsRested, finishReading}
+use Rattle.meaning.specs.Sessions.{Reading, opened, settled, rested, endedAt, wentOn, readByte, payloadStep, End, Phase, start, introduced, header, within, afterEscape, over, startStep, introducedStep, headerStep, HeaderByte, goesOn, settles, wrong, headerByte, endStep, withinStep, escapeStep, dcsStep, dcsRested, finishReading}
 use Rattle.meaning.specs.Calls.{opens, limitsHold, ranges, settingFor, drawingOf}
 
 -- ---- tests
@@ -461,7 +461,7 @@ pub blank-opens : (l : Limits) (stride length : ℕ) → opens l stride length �
 blank-opens l stride length e = blank-sound (opens-roomy l stride length e)
 
 -- what any payload makes of it is sound
-pub payload-sound : {s : Setting} → Roomy s → (o : Settings) (p : Palette) (bs : List ℕ) → Sound s (payload s o p bs .drawing)
+pub payload-sound : {s : Setting} → Roomy s → (o : Parameters) (p : Palette) (bs : List ℕ) → Sound s (payload s o p bs .drawing)
 unfolding payload
 payload-sound r o p bs = drawAll-sound (commands bs) (blank-sound r p (o .p2))
 
@@ -522,13 +522,13 @@ unfolding tooLarge
 not-too-large h = simp (le-ltb _ _ (h .width), le-ltb _ _ (h .height), le-ltb _ _ (h .pixels), le-ltb _ _ (h .stride), le-ltb _ _ (h .rows))
 
 -- an outcome with no refusal finishes with a report
-pub never-ten : {s : Setting} {out : Outcome} (o : Settings) → Sound s (out .drawing) → out .refusal ≡ none
+pub never-ten : {s : Setting} {out : Outcome} (o : Parameters) → Sound s (out .drawing) → out .refusal ≡ none
     → finish s o out ≡ finished (reportOf o (out .drawing))
 unfolding finish reported
 never-ten {s} {out} o h e = rw (e, not-too-large (h .fits)) refl
 
 -- so a payload with no refusal has a report, whatever the bytes
-pub payload-reports : {s : Setting} → Roomy s → (o : Settings) (p : Palette) (bs : List ℕ) → payload s o p bs .refusal ≡ none
+pub payload-reports : {s : Setting} → Roomy s → (o : Parameters) (p : Palette) (bs : List ℕ) → payload s o p bs .refusal ≡ none
     → finish s o (payload s o p bs) ≡ finished (reportOf o (payload s o p bs .drawing))
 payload-reports r o p bs = never-ten o (payload-sound r o p bs)
 
@@ -538,7 +538,7 @@ ReportOr4To7 (finished r) = Unit {0}
 ReportOr4To7 (turnedDown n) = (4 ≤ n) × (n ≤ 7)
 
 -- finishing after any commands answers nothing else
-pub finish-numbers : {s : Setting} {d : Drawing} (o : Settings) (cs : List Placed) → Sound s d → ReportOr4To7 (finish s o (drawAll s cs d))
+pub finish-numbers : {s : Setting} {d : Drawing} (o : Parameters) (cs : List Placed) → Sound s d → ReportOr4To7 (finish s o (drawAll s cs d))
 unfolding finish reported
 finish-numbers {s} {d} o cs h =
     option-case ReportOr4To7 (drawAll s cs d .refusal)
@@ -548,7 +548,7 @@ finish-numbers {s} {d} o cs h =
 -- nor does finishing a session answer anything else
 pub finish-reading : (s : Setting) (r : Reading) → Sound s (r .drawing) → ReportOr4To7 (finishReading s r)
 unfolding finishReading settled
-finish-reading s r = finish-numbers (r .settings) (closed (r .begun))
+finish-reading s r = finish-numbers (r .parameters) (closed (r .begun))
 
 -- ---- a payload, byte by byte
 
@@ -621,7 +621,7 @@ Before (over e r) = ⊥
 -- all that a byte can do to a DCS sequence, whichever byte it is
 pub data DcsDoes (s : Setting) (p : Palette) (b : ℕ) : Phase → Step Phase → Type 0 where
   advances : {t u : Phase} → Before t → Before u → DcsDoes s p b t (next u 0)
-  begins : {t : Phase} → Before t → (o : Settings) → DcsDoes s p b t (next (within (opened o p)) 0)
+  begins : {t : Phase} → Before t → (o : Parameters) → DcsDoes s p b t (next (within (opened o p)) 0)
   turns : {t : Phase} {n : ℕ} → Before t → DcsDoes s p b t (refuse t n)
   reads : (r : Reading) {t : Reading} {i : ℕ} → payloadStep s r b ≡ next t i → DcsDoes s p b (within r) (next (within t) i)
   refuses : (r : Reading) {t : Reading} {n : ℕ} → payloadStep s r b ≡ refuse t n → DcsDoes s p b (within r) (refuse (within t) n)
@@ -641,11 +641,13 @@ module _ (s : Setting) (p : Palette) (b : ℕ) where
 
   header-does : (bs : List ℕ) → DcsDoes s p b (header bs) (headerStep p bs b)
   unfolding headerStep
-  header-does bs =
-      cond-case (DcsDoes s p b (header bs)) (skipped b) (λ _. advances tt tt)
-      λ _. cond-case (DcsDoes s p b (header bs)) (digit b || eqb b semicolon) (λ _. advances tt tt)
-      λ _. cond-case (DcsDoes s p b (header bs)) (eqb b 0x71) (λ _. begins tt (settingsOf bs))
-      λ _. cond-case (DcsDoes s p b (header bs)) (ends b) (λ _. turns tt) (λ _. turns tt)
+  header-does bs = go (headerByte bs b)
+    where
+      go : (x : HeaderByte)
+          → DcsDoes s p b (header bs) (elim x [ goesOn more ↦ next (header more) 0 | settles o ↦ next (within (opened o p)) 0 | wrong n ↦ refuse (header bs) n ])
+      go (goesOn more) = advances tt tt
+      go (settles o) = begins tt o
+      go (wrong n) = turns tt
 
   end-does : (r t : Reading) → payloadStep s r b ≡ halt t → DcsDoes s p b (within r) (endStep t b)
   unfolding endStep

@@ -339,9 +339,9 @@ wentOn-rested s r c k out e = ap₂ went e (ap inkOfAll (settled-strokes s r))
     went begun old =
         elim (out .refusal) [
           | none ↦
-              next (record { settings = r .settings; passed = suc (r .passed); begun = begun; drawing = out .drawing; over = none })
+              next (record { parameters = r .parameters; passed = suc (r .passed); begun = begun; drawing = out .drawing; over = none })
               (inkOfAll (out .drawing .strokes) - old)
-          | some n ↦ refuse (record { settings = r .settings; passed = r .passed; begun = none; drawing = out .drawing; over = none }) n
+          | some n ↦ refuse (record { parameters = r .parameters; passed = r .passed; begun = none; drawing = out .drawing; over = none }) n
         ]
 
 -- a sixel comes to the same after a stop, where the begun command was not refused

@@ -23,7 +23,7 @@ use Rattle.canvas.specs.Picture.{Area, shownColour}
 use Rattle.meaning.specs.Commands as Commands
 use Rattle.meaning.specs.Drawing as Strokes
 use Rattle.meaning.specs.Drawing.{Limits, Setting, Drawing, Outcome, inkOfAll, blank}
-use Rattle.meaning.specs.Payload.{Settings, Ratio, byRaster, leftToP1, Report, Finished, finished, turnedDown, payload, finish}
+use Rattle.meaning.specs.Payload.{Parameters, Ratio, byRaster, leftToP1, Report, Finished, finished, turnedDown, payload, finish}
 use Rattle.meaning.specs.Reader.{Run, How, readAll, stopped, halted, refusedBy, readFrom, call}
 use Rattle.meaning.specs.Sessions.{Reading, opened, payloadStep, rested, End, complete, cancelled, interrupted, Phase, start, dcsStep, finishDcs}
 use Rattle.meaning.specs.OneShot.{Found, found, missing, findPayload, partOf, oneShot}
@@ -94,16 +94,16 @@ pub record Result : Type 0 where
   pub end : Option End
   pub left : List ℕ
 
-abbrev pub noSettings : Settings
-noSettings = record { p1 = none; p2 = none }
+abbrev pub noParameters : Parameters
+noParameters = record { p1 = none; p2 = none }
 
 -- the payload as a whole, and byte by byte for its ink and what stays unread
 unfoldable pub payloadResult : Setting → List ℕ → Result
 payloadResult s bs =
-    let out : Outcome = payload s noSettings standard bs in
-    let run : Run Reading = readFrom (payloadStep s) (opened noSettings standard) bs in
+    let out : Outcome = payload s noParameters standard bs in
+    let run : Run Reading = readFrom (payloadStep s) (opened noParameters standard) bs in
     record {
-      answer = finish s noSettings out;
+      answer = finish s noParameters out;
       drawing = out .drawing;
       ink = run .ink;
       end = none;
@@ -303,7 +303,7 @@ openedHeard (notOpened n) acts = declined n ∷ []
 
 unfoldable pub heard : Calls → List Heard
 unfolding openedHeard
-heard c = openedHeard (openPayload (c .limits) (c .stride) (c .length) noSettings standard) (c .acts)
+heard c = openedHeard (openPayload (c .limits) (c .stride) (c .length) noParameters standard) (c .acts)
 
 -- ---- what the tests compute through
 
@@ -313,7 +313,7 @@ unfolding payload finish finishDcs oneShot findPayload partOf readFrom call payl
     openPayload feedPayload finishPayload inkOfAll shownColour standard Commands.commands Strokes.drawAll Strokes.extentOf
     Bytes.ends Bytes.skipped Bytes.sixel Bytes.digit Values.decimal Values.values Values.held16
     Picture.reach Picture.grownTo Picture.rowsOf Picture.fits Picture.colourAt Picture.lastStroke Picture.orHere Picture.covers Picture.inSixel
-    Picture.among Picture.bit
+    Picture.span Picture.bit
     Registers.ofTable Registers.registerOf Registers.stored Registers.setRgb Registers.setHls Registers.packedBytes
     Standard.listed Standard.standardAt Standard.base Standard.cube Standard.grey Standard.percents
     Packing.packed Packing.pixelOf Percent.percentByte Percent.held Turn.turned Turn.modulo360

@@ -8,10 +8,10 @@ use lib.Dec.{leb, ltb, eqb}
 use Rattle.colours.specs.declared.Palette.{Palette}
 use Rattle.canvas.specs.Picture.{Area, rowsOf, fits, picture}
 use Rattle.meaning.specs.Drawing.{Limits, Setting, Drawing}
-use Rattle.meaning.specs.Payload.{Settings, Finished, turnedDown}
+use Rattle.meaning.specs.Payload.{Parameters, Finished, turnedDown}
 use Rattle.meaning.specs.Reader.{Step, How, readAll, stopped, halted, refusedBy, Run, call}
 use Rattle.meaning.specs.OneShot.{oneShot, findPayload, partOf}
-use Rattle.meaning.specs.Sessions.{Reading, opened, payloadStep, rested, finishReading, End, Phase, start, introduced, header, within, afterEscape, over, dcsStep, dcsRested, finishDcs}
+use Rattle.meaning.specs.Sessions.{Reading, opened, settled, payloadStep, rested, finishReading, End, Phase, start, introduced, header, within, afterEscape, over, dcsStep, dcsRested, finishDcs}
 
 -- ---- opening
 
@@ -49,7 +49,7 @@ firstOf (t ∷ ts) = cond (t .holds) (some (t .number)) (firstOf ts)
 
 pub record Session (S : Type 0) : Type 0 where
   pub setting : Setting
-  pub canvas : ℕ
+  pub length : ℕ
   pub state : S
   pub failed : Bool
 
@@ -62,7 +62,7 @@ unfoldable pub openWith : {S : Type 0} → Limits → ℕ → ℕ → S → Open
 unfolding opens settingFor
 openWith l stride length state =
     cond (opens l stride length)
-    (isOpen (record { setting = settingFor l stride length; canvas = length; state = state; failed = false }))
+    (isOpen (record { setting = settingFor l stride length; length = length; state = state; failed = false }))
     (notOpened 11)
 
 -- what an answered call says besides its counts
@@ -86,7 +86,7 @@ atEnd (some e) = ended e
 
 -- the session after a call
 unfoldable pub sessionAfter : {S : Type 0} → Session S → S → Bool → Session S
-sessionAfter s t failed = record { setting = s .setting; canvas = s .canvas; state = t; failed = failed }
+sessionAfter s t failed = record { setting = s .setting; length = s .length; state = t; failed = failed }
 
 -- a call that is not refused tells its counts and a status
 unfoldable pub tells : {S E : Type 0} → Session S → Run S → Status E → Fed S E
@@ -107,7 +107,7 @@ answered end s r =
 module _ {S : Type 0} (areaOf : S → Area) where
   -- another length than at the opening, or a picture that does not fit
   unfoldable pub misfits : Session S → ℕ → Bool
-  misfits s length = not (eqb length (s .canvas)) || not (fits (s .setting .stride) length (areaOf (s .state)))
+  misfits s length = not (eqb length (s .length)) || not (fits (s .setting .stride) length (areaOf (s .state)))
 
   -- feed: 9, 12, 13
   unfoldable pub feedRefusal : Session S → ℕ → ℕ → Option ℕ
@@ -158,6 +158,15 @@ unfoldable pub shown : ℕ → Option Drawing → List ℕ → List ℕ
 shown stride none opening = opening
 shown stride (some d) opening = picture stride (d .area) (d .background) (d .strokes) opening
 
+-- the drawing that finishing leaves: the pending command has been carried out
+unfoldable pub drawingAtFinish : Setting → Phase → Option Drawing
+drawingAtFinish s start = none
+drawingAtFinish s introduced = none
+drawingAtFinish s (header bs) = none
+drawingAtFinish s (within r) = some (r .drawing)
+drawingAtFinish s (afterEscape r) = some (r .drawing)
+drawingAtFinish s (over e r) = some (settled s r .drawing)
+
 -- how a DCS sequence ended
 unfoldable pub dcsEnd : Phase → Option End
 dcsEnd start = none
@@ -167,7 +176,7 @@ dcsEnd (within r) = none
 dcsEnd (afterEscape r) = none
 dcsEnd (over e r) = some e
 
-unfoldable pub openPayload : Limits → ℕ → ℕ → Settings → Palette → Opened Reading
+unfoldable pub openPayload : Limits → ℕ → ℕ → Parameters → Palette → Opened Reading
 unfolding openWith
 openPayload l stride length o p = openWith l stride length (opened o p)
 

@@ -28,11 +28,16 @@ pub record Begun : Type 0 where
   pub kind : Kind
   pub argument : List ℕ
 
--- the bytes that lengthen a command: digits, and in a colour and a raster `;`
+-- values are written in digits, with `;` between
+unfoldable pub ofValues : ℕ → Bool
+ofValues b = digit b || eqb b semicolon
+
+-- the bytes that lengthen a command
 unfoldable pub lengthens : Kind → ℕ → Bool
+unfolding ofValues
 lengthens repeat b = digit b
-lengthens colour b = digit b || eqb b semicolon
-lengthens raster b = digit b || eqb b semicolon
+lengthens colour b = ofValues b
+lengthens raster b = ofValues b
 
 -- the begun command takes the byte
 unfoldable pub taken : Option Begun → ℕ → Bool

@@ -49,10 +49,15 @@ pub record Drawing : Type 0 where
   pub palette : Palette
   pub background : List ℕ
 
--- 0,0,0,0 exactly when P2 is 1, else register 0 at the start
+-- the background is transparent exactly when P2 is 1
+unfoldable pub transparent : Option ℕ → Bool
+transparent none = false
+transparent (some n) = eqb n 1
+
+-- 0,0,0,0 where it is transparent, else register 0 at the start
 unfoldable pub backgroundOf : Palette → Option ℕ → List ℕ
-backgroundOf p none = registerOf p 0
-backgroundOf p (some n) = cond (eqb n 1) (0 ∷ 0 ∷ 0 ∷ 0 ∷ []) (registerOf p 0)
+unfolding transparent
+backgroundOf p p2 = cond (transparent p2) (0 ∷ 0 ∷ 0 ∷ 0 ∷ []) (registerOf p 0)
 
 -- the drawing before the first byte
 unfoldable pub blank : Palette → Option ℕ → Drawing

@@ -1,15 +1,14 @@
 -- Reading all at once (document 01, 'DCS framing and one-shot').
 use Prim.Native.Nat.{ℕ}
-use mathlib.Core.Bool.{Bool, true, false, cond, _&&_, _||_}
+use mathlib.Core.Bool.{cond, _&&_}
 use mathlib.Core.Option.{Option, none, some}
-use mathlib.Core.List.{List, [], _∷_, _++_}
+use mathlib.Core.List.{List, [], _∷_}
 use lib.Dec.{eqb}
 use lib.ListN.{drop, getD}
-use Rattle.numbers.specs.Bytes.{skipped, digit, ends, semicolon}
 use Rattle.colours.specs.declared.Palette.{Palette}
 use Rattle.meaning.specs.Drawing.{Setting}
-use Rattle.meaning.specs.Payload.{Settings, Finished, turnedDown, finish, payload}
-use Rattle.meaning.specs.Sessions.{escape, settingsOf}
+use Rattle.meaning.specs.Payload.{Parameters, Finished, turnedDown, finish, payload}
+use Rattle.meaning.specs.Sessions.{escape, HeaderByte, goesOn, settles, wrong, headerByte}
 
 -- what comes after the first 90 or 1B `P`, wherever it stands; none where there is neither
 unfoldable pub afterIntroducer : List ℕ → Option (List ℕ)
@@ -17,19 +16,16 @@ afterIntroducer [] = none
 afterIntroducer (b ∷ bs) =
     cond (eqb b 0x90) (some bs) (cond (eqb b escape && eqb (getD bs 0 0) 0x50) (some (drop 1 bs)) (afterIntroducer bs))
 
--- what an input has: settings and the part that is its payload, or a refusal's number
+-- what an input has: parameters and the part that is its payload, or a refusal's number
 pub data Found : Type 0 where
-  found : Settings → List ℕ → Found
+  found : Parameters → List ℕ → Found
   missing : ℕ → Found
 
 -- a header, with its digits and `;` so far: the part begins after `q`, and without one it is 8
 unfoldable pub headerFrom : List ℕ → List ℕ → Found
 headerFrom got [] = missing 8
 headerFrom got (b ∷ bs) =
-    cond (skipped b) (headerFrom got bs)
-    (cond (digit b || eqb b semicolon) (headerFrom (got ++ (b ∷ [])) bs)
-    (cond (eqb b 0x71) (found (settingsOf got) bs)
-    (cond (ends b) (missing 2) (missing 3))))
+    elim (headerByte got b) [ goesOn more ↦ headerFrom more bs | settles o ↦ found o bs | wrong n ↦ missing n ]
 
 -- without an introducer the whole input is payload, with no parameters
 unfoldable pub findPayload : List ℕ → Found

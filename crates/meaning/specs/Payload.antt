@@ -7,15 +7,15 @@ use lib.Dec.{leb, ltb, eqb}
 use Rattle.colours.specs.declared.Palette.{Palette}
 use Rattle.canvas.specs.Picture.{Stroke, Area}
 use Rattle.meaning.specs.Commands.{commands}
-use Rattle.meaning.specs.Drawing.{Limits, Setting, Drawing, Outcome, blank, drawAll, extentOf, pixelsOf}
+use Rattle.meaning.specs.Drawing.{Setting, Drawing, Outcome, transparent, blank, drawAll, extentOf, pixelsOf}
 
 -- P1 and P2, each a 16-bit number or none
-pub record Settings : Type 0 where
+pub record Parameters : Type 0 where
   pub p1 : Option ℕ
   pub p2 : Option ℕ
 
 -- the drawing of a payload from its first byte to its end, or to its first refusal
-unfoldable pub payload : Setting → Settings → Palette → List ℕ → Outcome
+unfoldable pub payload : Setting → Parameters → Palette → List ℕ → Outcome
 payload s o p bs = drawAll s (commands bs) (blank p (o .p2))
 
 -- the raster's ratio, as so many to 1, or else it is left to P1
@@ -27,11 +27,6 @@ unfoldable pub ratioOf : Option ℕ → Option ℕ → Ratio
 ratioOf p1 none = leftToP1 p1
 ratioOf p1 (some n) = byRaster n
 
--- the background is transparent exactly when P2 is 1
-unfoldable pub transparent : Option ℕ → Bool
-transparent none = false
-transparent (some n) = eqb n 1
-
 -- what finishing reports
 pub record Report : Type 0 where
   pub size : Area
@@ -40,7 +35,7 @@ pub record Report : Type 0 where
   pub extent : Area
   pub palette : Palette
 
-unfoldable pub reportOf : Settings → Drawing → Report
+unfoldable pub reportOf : Parameters → Drawing → Report
 unfolding ratioOf transparent
 reportOf o d =
     record {
@@ -64,11 +59,11 @@ tooLarge s a =
     || (ltb (s .limits .pixels) (pixelsOf a) || (ltb (s .stride) (a .width) || ltb (s .rows) (a .height))))
 
 -- a size that is too large is 10, else there is a report
-unfoldable pub reported : Setting → Settings → Drawing → Finished
+unfoldable pub reported : Setting → Parameters → Drawing → Finished
 unfolding tooLarge reportOf
 reported s o d = cond (tooLarge s (d .area)) (turnedDown 10) (finished (reportOf o d))
 
 -- the refusal of a command comes before that
-unfoldable pub finish : Setting → Settings → Outcome → Finished
+unfoldable pub finish : Setting → Parameters → Outcome → Finished
 unfolding reported
 finish s o out = elim (out .refusal) [ none ↦ reported s o (out .drawing) | some n ↦ turnedDown n ]

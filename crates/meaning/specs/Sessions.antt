@@ -9,24 +9,24 @@ use Rattle.numbers.specs.Bytes.{skipped, digit, ends, semicolon}
 use Rattle.numbers.specs.Values.{values, held16}
 use Rattle.colours.specs.declared.Palette.{Palette}
 use Rattle.canvas.specs.Picture.{Stroke, Area}
-use Rattle.meaning.specs.Commands.{Begun, Scanned, closed, scanByte}
+use Rattle.meaning.specs.Commands.{Begun, Scanned, ofValues, closed, scanByte}
 use Rattle.meaning.specs.Drawing.{Limits, Setting, Drawing, Outcome, blank, drawAll, inkOfAll}
-use Rattle.meaning.specs.Payload.{Settings, Finished, finished, turnedDown, finish}
+use Rattle.meaning.specs.Payload.{Parameters, Finished, finished, turnedDown, finish}
 use Rattle.meaning.specs.Reader.{Step, next, halt, refuse}
 
 -- ---- a payload
 
--- where a payload stands: its settings, the bytes passed, the begun command, the drawing of those that ended, and the byte that ended the
+-- where a payload stands: its parameters, the bytes passed, the begun command, the drawing of those that ended, and the byte that ended the
 -- payload
 pub record Reading : Type 0 where
-  pub settings : Settings
+  pub parameters : Parameters
   pub passed : ℕ
   pub begun : Option Begun
   pub drawing : Drawing
   pub over : Option ℕ
 
-unfoldable pub opened : Settings → Palette → Reading
-opened o p = record { settings = o; passed = 0; begun = none; drawing = blank p (o .p2); over = none }
+unfoldable pub opened : Parameters → Palette → Reading
+opened o p = record { parameters = o; passed = 0; begun = none; drawing = blank p (o .p2); over = none }
 
 -- the begun command carried out
 unfoldable pub settled : Setting → Reading → Outcome
@@ -35,14 +35,14 @@ settled s r = drawAll s (closed (r .begun)) (r .drawing)
 -- what a stop for ink leaves: a command pending before the unread sixel has taken effect
 unfoldable pub rested : Setting → Reading → Reading
 unfolding settled
-rested s r = record { settings = r .settings; passed = r .passed; begun = none; drawing = settled s r .drawing; over = r .over }
+rested s r = record { parameters = r .parameters; passed = r .passed; begun = none; drawing = settled s r .drawing; over = r .over }
 
 -- the end of a payload: the byte ends the begun command and stays unread
 unfoldable pub endedAt : ℕ → Reading → Outcome → Step Reading
 endedAt b r out =
     elim (out .refusal) [
-      | none ↦ halt (record { settings = r .settings; passed = r .passed; begun = none; drawing = out .drawing; over = some b })
-      | some n ↦ refuse (record { settings = r .settings; passed = r .passed; begun = none; drawing = out .drawing; over = none }) n
+      | none ↦ halt (record { parameters = r .parameters; passed = r .passed; begun = none; drawing = out .drawing; over = some b })
+      | some n ↦ refuse (record { parameters = r .parameters; passed = r .passed; begun = none; drawing = out .drawing; over = none }) n
     ]
 
 -- another byte: the commands that it ends or is are carried out, and its ink is what they add
@@ -50,9 +50,9 @@ unfoldable pub wentOn : Reading → Scanned → Outcome → Step Reading
 wentOn r c out =
     elim (out .refusal) [
       | none ↦
-          next (record { settings = r .settings; passed = suc (r .passed); begun = c .begun; drawing = out .drawing; over = none })
+          next (record { parameters = r .parameters; passed = suc (r .passed); begun = c .begun; drawing = out .drawing; over = none })
           (inkOfAll (out .drawing .strokes) - inkOfAll (r .drawing .strokes))
-      | some n ↦ refuse (record { settings = r .settings; passed = r .passed; begun = none; drawing = out .drawing; over = none }) n
+      | some n ↦ refuse (record { parameters = r .parameters; passed = r .passed; begun = none; drawing = out .drawing; over = none }) n
     ]
 
 unfoldable pub readByte : Setting → Reading → ℕ → Step Reading
@@ -68,7 +68,7 @@ payloadStep s r b = elim (r .over) [ none ↦ readByte s r b | some e ↦ halt r
 
 -- finishing carries the pending command out
 unfoldable pub finishReading : Setting → Reading → Finished
-finishReading s r = finish s (r .settings) (settled s r)
+finishReading s r = finish s (r .parameters) (settled s r)
 
 -- ---- a DCS sequence
 
@@ -89,8 +89,8 @@ abbrev pub escape : ℕ
 escape = 0x1B
 
 -- the first two of a header's three values, none where it has fewer; P3 reaches no answer
-unfoldable pub settingsOf : List ℕ → Settings
-settingsOf bs =
+unfoldable pub parametersOf : List ℕ → Parameters
+parametersOf bs =
     record {
       p1 = Option·map held16 (getElem? (values 3 bs) 0);
       p2 = Option·map held16 (getElem? (values 3 bs) 1);
@@ -104,14 +104,29 @@ startStep b = cond (eqb b escape) (next introduced 0) (cond (eqb b 0x90) (next (
 unfoldable pub introducedStep : ℕ → Step Phase
 introducedStep b = cond (eqb b 0x50) (next (header []) 0) (refuse introduced 1)
 
--- a header's byte is skipped, or belongs to its three values, or is `q`; else it is 2 or 3
+-- what a header's byte does: the header goes on with these digits and `;`, or `q` closes it, or it is refused
+pub data HeaderByte : Type 0 where
+  goesOn : List ℕ → HeaderByte
+  settles : Parameters → HeaderByte
+  wrong : ℕ → HeaderByte
+
+-- it is skipped, or belongs to the three values, or is `q`; else it is 2 or 3
+unfoldable pub headerByte : List ℕ → ℕ → HeaderByte
+unfolding parametersOf ofValues
+headerByte bs b =
+    cond (skipped b) (goesOn bs)
+    (cond (ofValues b) (goesOn (bs ++ (b ∷ [])))
+    (cond (eqb b 0x71) (settles (parametersOf bs))
+    (cond (ends b) (wrong 2) (wrong 3))))
+
 unfoldable pub headerStep : Palette → List ℕ → ℕ → Step Phase
-unfolding settingsOf
+unfolding headerByte
 headerStep p bs b =
-    cond (skipped b) (next (header bs) 0)
-    (cond (digit b || eqb b semicolon) (next (header (bs ++ (b ∷ []))) 0)
-    (cond (eqb b 0x71) (next (within (opened (settingsOf bs) p)) 0)
-    (cond (ends b) (refuse (header bs) 2) (refuse (header bs) 3))))
+    elim (headerByte bs b) [
+      | goesOn more ↦ next (header more) 0
+      | settles o ↦ next (within (opened o p)) 0
+      | wrong n ↦ refuse (header bs) n
+    ]
 
 -- the byte that ends a payload: 1B is consumed and waits for the next, 9C and 18 and 1A are consumed, another C1 byte stays unread
 unfoldable pub endStep : Reading → ℕ → Step Phase
