@@ -12,7 +12,7 @@ use Rattle.canvas.specs.Picture.{Stroke, Area}
 use Rattle.meaning.specs.Commands.{Begun, Scanned, ofValues, closed, scanByte}
 use Rattle.meaning.specs.Drawing.{Limits, Setting, Drawing, Outcome, blank, drawAll, inkOfAll}
 use Rattle.meaning.specs.Payload.{Parameters, Finished, finished, turnedDown, finish}
-use Rattle.meaning.specs.Reader.{Step, next, halt, refuse}
+use Rattle.meaning.specs.Reader.{Step, next, halt, refuse, readAll, stopped, halted, refusedBy, Run}
 
 -- ---- a payload
 
@@ -69,6 +69,17 @@ payloadStep s r b = elim (r .over) [ none ↦ readByte s r b | some e ↦ halt r
 -- finishing carries the pending command out
 unfoldable pub finishReading : Setting → Reading → Finished
 finishReading s r = finish s (r .parameters) (settled s r)
+
+-- what reading some of a payload comes to: the drawing that a refusal left, or else the one with the begun command carried out
+unfoldable pub outcomeOf : Setting → Run Reading → Outcome
+unfolding settled
+outcomeOf s q =
+    elim (q .how) [
+      | readAll ↦ settled s (q .state)
+      | stopped ↦ settled s (q .state)
+      | halted ↦ settled s (q .state)
+      | refusedBy n ↦ record { drawing = q .state .drawing; refusal = some n }
+    ]
 
 -- ---- a DCS sequence
 
