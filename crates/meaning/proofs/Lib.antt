@@ -1,3 +1,7 @@
+pub mod RunLaws
+pub mod CallLaws
+pub mod CallerLaws
+pub mod HistoryLaws
 pub mod ReaderLaws
 pub mod AreaLaws
 pub mod InkLaws
