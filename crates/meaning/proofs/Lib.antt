@@ -6,5 +6,6 @@ pub mod ReaderLaws
 pub mod AreaLaws
 pub mod InkLaws
 pub mod PayloadLaws
+pub mod Demand3
 pub mod Trials
 pub mod Examples

@@ -122,7 +122,7 @@ reading-is-payload s o p bs = reading-from s (opened o p) bs refl
 -- ---- what that says of a run that was not refused, and of one that was
 
 -- not refused: the begun command carried out
-outcome-settled : (s : Setting) (q : Run Reading) → isRefused (q .how) ≡ false → outcomeOf s q ≡ settled s (q .state)
+pub outcome-settled : (s : Setting) (q : Run Reading) → isRefused (q .how) ≡ false → outcomeOf s q ≡ settled s (q .state)
 unfolding outcomeOf isRefused
 outcome-settled s q = go (q .how)
   where
@@ -140,7 +140,7 @@ outcome-settled s q = go (q .how)
     go (refusedBy n) e = absurd (true≢false e)
 
 -- refused: the drawing that the refusal left, and its number
-outcome-refused : (s : Setting) (q : Run Reading) {n : ℕ} → q .how ≡ refusedBy n
+pub outcome-refused : (s : Setting) (q : Run Reading) {n : ℕ} → q .how ≡ refusedBy n
     → outcomeOf s q ≡ record { drawing = q .state .drawing; refusal = some n }
 unfolding outcomeOf
 outcome-refused s q e = rw e
