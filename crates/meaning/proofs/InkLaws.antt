@@ -442,7 +442,7 @@ abbrev pub dcsInk : Phase → ℕ
 dcsInk t = inkIf (drawingOf t)
 
 -- nothing is drawn before the payload
-before-ink : (t : Phase) → Before t → dcsInk t ≡ 0
+pub before-ink : (t : Phase) → Before t → dcsInk t ≡ 0
 unfolding drawingOf
 before-ink start h = refl
 before-ink introduced h = refl

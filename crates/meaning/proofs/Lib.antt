@@ -6,6 +6,8 @@ pub mod ReaderLaws
 pub mod AreaLaws
 pub mod InkLaws
 pub mod PayloadLaws
+pub mod DcsParts
+pub mod DcsLaws
 pub mod Demand3
 pub mod Trials
 pub mod Examples

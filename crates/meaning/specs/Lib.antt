@@ -5,4 +5,5 @@ pub mod Reader
 pub mod Histories
 pub mod Sessions
 pub mod OneShot
+pub mod Sequence
 pub mod Calls
