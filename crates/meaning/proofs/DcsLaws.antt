@@ -17,12 +17,12 @@ use Rattle.meaning.specs.Payload.{Parameters, payload, payloadInk, turne
 use Rattle.meaning.specs.Reader.{How, readAll, halted, refusedBy, isRefused, Run, after, readFrom}
 use Rattle.meaning.specs.Sessions.{Reading, settled, finishReading, End, Phase, start, within, over, dcsStep, finishDcs}
 use Rattle.meaning.specs.OneShot.{Found, found, missing, headerFrom, findPayload, answerOf, oneShot}
-use Rattle.meaning.specs.Sequence.{Introducer, sequencePayload, sequenceInk}
+use Rattle.meaning.specs.Sequence.{Introducer, sequencePayload, sequenceInk, inPayload, framed, howWithout}
 use Rattle.meaning.specs.Calls.{drawingOf, drawingAtFinish, dcsEnd}
 use Rattle.meaning.proofs.AreaLaws.{Before}
 use Rattle.meaning.proofs.InkLaws.{dcsInk, before-ink, dcs-ink}
 use Rattle.meaning.proofs.PayloadLaws.{readPayload, reading-settled, reading-finish, reading-refused, reading-numbers, reading-ink}
-use Rattle.meaning.proofs.DcsParts.{inPayload, framed, within-reads, howWithout, without-refused, Leads, sequence-leads, framed-refused, framed-in, framed-over, framed-ink, no-end, before-open, introducer-found, introducer-sequence, Agrees, sequence-agrees}
+use Rattle.meaning.proofs.DcsParts.{within-reads, without-refused, Leads, sequence-leads, framed-refused, framed-in, framed-over, framed-ink, no-end, before-open, introducer-found, introducer-sequence, Agrees, sequence-agrees}
 
 module _ (s : Setting) (p : Palette) (bs : List ℕ) where
   -- the reading of a DCS sequence from its first byte
@@ -49,6 +49,17 @@ module _ (s : Setting) (p : Palette) (bs : List ℕ) where
       let q : Run Reading = readPayload s o p part in
       let inner : q .how ≡ refusedBy n = framed-refused s p q part (sym (ap (λ (x : Run Phase). x .how) (h .1)) ∙ r) in
       (inner, ap (λ (x : Run Phase). x .state) (h .1) ∙ ap (λ (x : Run Phase). x .state) (framed-in s p q part inner))
+
+  -- with its drawing
+  pub sequence-refused-drawing : {o : Parameters} {part : List ℕ} {n : ℕ} → sequencePayload bs ≡ found o part → readSequence .how ≡ refusedBy n
+      → (payload s o p part .refusal ≡ some n) × (drawingOf (readSequence .state) ≡ some (payload s o p part .drawing))
+  unfolding drawingOf
+  sequence-refused-drawing {o} {part} e r =
+      let h = sequence-refused-within e r in
+      let whole = reading-refused s o p part (h .0) in (
+        ap (λ (out : Outcome). out .refusal) whole,
+        ap drawingOf (h .1) ∙ ap (λ (out : Outcome). some (out .drawing)) (sym whole),
+      )
 
   -- refused with 1, 2 or 3 is exactly what introducer and header are refused with
   pub sequence-refused : (n : ℕ) → n ≤ 3 → (readSequence .how ≡ refusedBy n) ↔ (sequencePayload bs ≡ missing n)

@@ -17,7 +17,7 @@ use Rattle.meaning.specs.Payload.{Parameters, payload, payloadInk, Finis
 use Rattle.meaning.specs.Reader.{Step, next, halt, refuse, How, readAll, stopped, halted, refusedBy, isRefused, Run, still, after, follow, readFrom}
 use Rattle.meaning.specs.Sessions.{Reading, opened, payloadStep, finishReading, End, Phase, start, introduced, header, within, afterEscape, over, HeaderByte, goesOn, settles, wrong, headerByte, startStep, introducedStep, headerStep, endStep, withinStep, escapeStep, dcsStep, finishDcs}
 use Rattle.meaning.specs.OneShot.{afterIntroducer, Found, found, missing, headerFrom, findPayload, answerOf, oneShot}
-use Rattle.meaning.specs.Sequence.{Introducer, c1, escaped, afterFirstEscape, sequencePayload, sequenceInk}
+use Rattle.meaning.specs.Sequence.{Introducer, c1, escaped, afterFirstEscape, sequencePayload, inPayload, readEnd, framed, howWithout}
 use Rattle.meaning.specs.Calls.{drawingOf, dcsEnd}
 use Rattle.meaning.proofs.RunLaws.{after-zero, after-after, read-as}
 use Rattle.meaning.proofs.CallLaws.{drop-one-more}
@@ -26,41 +26,20 @@ use Rattle.meaning.proofs.PayloadLaws.{readPayload, reading-finish, rea
 
 -- ---- within the payload
 
--- a payload's run, as that of a sequence which is in its payload
-unfoldable pub inPayload : Run Reading → Run Phase
-inPayload q = record { state = within (q .state); consumed = q .consumed; ink = q .ink; how = q .how }
-
 module _ (s : Setting) (p : Palette) where
-  -- the byte that ended the payload is read as an end, and what comes after it
-  unfoldable pub readEnd : Reading → List ℕ → Run Phase
-  unfolding still follow after readFrom endStep
-  readEnd t [] = still (within t) readAll
-  readEnd t (b ∷ bs) = follow (endStep t b) (λ u i. after 1 i (readFrom (dcsStep s p) u bs))
-
-  -- what a sequence makes of its payload's run over some bytes: where the payload has ended its end is read, and else it is that run
-  unfoldable pub framed : Run Reading → List ℕ → Run Phase
-  unfolding inPayload readEnd
-  framed q bs =
-      elim (q .how) [
-        | readAll ↦ inPayload q
-        | stopped ↦ inPayload q
-        | halted ↦ after (q .consumed) (q .ink) (readEnd (q .state) (drop (q .consumed) bs))
-        | refusedBy n ↦ inPayload q
-      ]
-
-  after-framed : (b i : ℕ) (q : Run Reading) (bs : List ℕ) → after 1 i (framed q bs) ≡ framed (after 1 i q) (b ∷ bs)
+  after-framed : (b i : ℕ) (q : Run Reading) (bs : List ℕ) → after 1 i (framed s p q bs) ≡ framed s p (after 1 i q) (b ∷ bs)
   unfolding framed inPayload after
   after-framed b i q bs = go (q .how)
     where
       run : How → Run Reading
       run h = record { state = q .state; consumed = q .consumed; ink = q .ink; how = h }
 
-      go : (h : How) → after 1 i (framed (run h) bs) ≡ framed (after 1 i (run h)) (b ∷ bs)
+      go : (h : How) → after 1 i (framed s p (run h) bs) ≡ framed s p (after 1 i (run h)) (b ∷ bs)
       go readAll = refl
       go stopped = refl
       go halted =
-          sym (after-after 1 i (q .consumed) (q .ink) (readEnd (q .state) (drop (q .consumed) bs)))
-          ∙ ap (λ (us : List ℕ). after (1 + q .consumed) (i + q .ink) (readEnd (q .state) us)) (sym (drop-one-more (q .consumed) b bs))
+          sym (after-after 1 i (q .consumed) (q .ink) (readEnd s p (q .state) (drop (q .consumed) bs)))
+          ∙ ap (λ (us : List ℕ). after (1 + q .consumed) (i + q .ink) (readEnd s p (q .state) us)) (sym (drop-one-more (q .consumed) b bs))
       go (refusedBy n) = refl
 
   -- what a sequence makes of its payload's step
@@ -73,7 +52,7 @@ module _ (s : Setting) (p : Palette) where
   within-as r b e = ap (stepped b) e
 
   -- within its payload a sequence reads as a payload session does, and where that has come to its end it reads the end
-  pub within-reads : (r : Reading) (bs : List ℕ) → readFrom (dcsStep s p) (within r) bs ≡ framed (readFrom (payloadStep s) r bs) bs
+  pub within-reads : (r : Reading) (bs : List ℕ) → readFrom (dcsStep s p) (within r) bs ≡ framed s p (readFrom (payloadStep s) r bs) bs
   unfolding readFrom framed inPayload still stepped
   within-reads r [] = refl
   within-reads r (b ∷ bs) = go (payloadStep s r b) refl (λ t. within-reads t bs)
@@ -82,8 +61,8 @@ module _ (s : Setting) (p : Palette) where
       inner t i = after 1 i (readFrom (payloadStep s) t bs)
 
       go : (x : Step Reading) → payloadStep s r b ≡ x
-          → ((t : Reading) → readFrom (dcsStep s p) (within t) bs ≡ framed (readFrom (payloadStep s) t bs) bs)
-          → readFrom (dcsStep s p) (within r) (b ∷ bs) ≡ framed (follow x inner) (b ∷ bs)
+          → ((t : Reading) → readFrom (dcsStep s p) (within t) bs ≡ framed s p (readFrom (payloadStep s) t bs) bs)
+          → readFrom (dcsStep s p) (within r) (b ∷ bs) ≡ framed s p (follow x inner) (b ∷ bs)
       go (next t i) e later =
           read-as (dcsStep s p) (within r) b bs (within-as r b e) ∙ ap (after 1 i) (later t)
           ∙ after-framed b i (readFrom (payloadStep s) t bs) bs
@@ -92,11 +71,7 @@ module _ (s : Setting) (p : Palette) where
 
 -- ---- before the payload
 
--- how reading comes to its end where there is no payload: 8 says that bytes are missing, another number refuses
-unfoldable pub howWithout : ℕ → How
-howWithout n = cond (eqb n 8) readAll (refusedBy n)
-
--- which it does with that number
+-- a refusal before the payload has that number, and it is not 8
 pub without-refused : (m n : ℕ) → howWithout m ≡ refusedBy n → (m ≡ n) × (m ≡ 8 → ⊥)
 unfolding howWithout isRefused
 without-refused m n =

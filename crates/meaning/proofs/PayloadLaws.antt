@@ -19,20 +19,20 @@ use Rattle.meaning.proofs.InkLaws.{inkDrawn, settled-strokes, payload-i
 
 -- ---- scanning
 
--- what was scanned, and what comes after it
-unfoldable pub scannedOn : Scanned → Scanned → Scanned
-scannedOn first later = record { begun = later .begun; ended = first .ended ++ later .ended }
-
 -- scanning xs and then ys, from the place after xs, is scanning xs ++ ys
 pub scan-append : (at : ℕ) (c : Option Begun) (xs ys : List ℕ)
-    → scan at c (xs ++ ys) ≡ scannedOn (scan at c xs) (scan (at + length xs) (scan at c xs .begun) ys)
-unfolding scan scannedOn
+    → scan at c (xs ++ ys)
+    ≡ record {
+      begun = scan (at + length xs) (scan at c xs .begun) ys .begun;
+      ended = scan at c xs .ended ++ scan (at + length xs) (scan at c xs .begun) ys .ended;
+    }
+unfolding scan
 scan-append at c [] ys = ap (λ (n : ℕ). scan n c ys) (sym (add-zero at))
 scan-append at c (b ∷ xs) ys =
     let first : Scanned = scanByte at c b in
     let later : Scanned = scan (suc at) (first .begun) xs in
     let place : suc at + length xs ≡ at + suc (length xs) = omega arith in
-    ap (scannedOn first) (scan-append (suc at) (first .begun) xs ys)
+    ap (λ (k : Scanned). record { begun = k .begun; ended = first .ended ++ k .ended }) (scan-append (suc at) (first .begun) xs ys)
     ∙ ap₂ (λ (o : Option Begun) (cs : List Placed). record { begun = o; ended = cs })
     (ap (λ (n : ℕ). scan n (later .begun) ys .begun) place)
     (sym (append-assoc (first .ended) (later .ended) _)

@@ -9,7 +9,7 @@ use Rattle.colours.specs.declared.Palette.{Palette}
 use Rattle.canvas.specs.Picture.{Area, rowsOf, fits, picture}
 use Rattle.meaning.specs.Drawing.{Limits, Setting, Drawing}
 use Rattle.meaning.specs.Payload.{Parameters, Finished, turnedDown}
-use Rattle.meaning.specs.Reader.{Step, How, readAll, stopped, halted, refusedBy, Run, call}
+use Rattle.meaning.specs.Reader.{Step, readAll, stopped, halted, refusedBy, Run, call, Turn, Caller, ready, turns, proper}
 use Rattle.meaning.specs.OneShot.{oneShot, findPayload, partOf}
 use Rattle.meaning.specs.Sessions.{Reading, opened, settled, payloadStep, rested, finishReading, End, Phase, start, introduced, header, within, afterEscape, over, dcsStep, dcsRested, finishDcs}
 
@@ -209,3 +209,20 @@ readOneShot l stride length p bs = cond (opens l stride length) (oneShot (settin
 unfoldable pub partHandedBack : Limits → ℕ → ℕ → List ℕ → List ℕ
 unfolding opens
 partHandedBack l stride length bs = cond (opens l stride length) (partOf (findPayload bs)) []
+
+-- ---- callers that present what was left unread (document 01, 'Ink')
+
+-- where a caller of a payload session stands after its turns, from the opening on
+abbrev pub payloadTurns : Setting → Parameters → Palette → List Turn → Caller Reading
+payloadTurns s o p ts = turns (payloadStep s) (rested s) (ready (opened o p)) ts
+
+-- each call of it may be made, with an allowance of at least A
+abbrev pub properPayload : Setting → Parameters → Palette → ℕ → List Turn → Bool
+properPayload s o p A ts = proper (payloadStep s) (rested s) A (ready (opened o p)) ts
+
+-- the same of a DCS session
+abbrev pub dcsTurns : Setting → Palette → List Turn → Caller Phase
+dcsTurns s p ts = turns (dcsStep s p) (dcsRested s) (ready start) ts
+
+abbrev pub properDcs : Setting → Palette → ℕ → List Turn → Bool
+properDcs s p A ts = proper (dcsStep s p) (dcsRested s) A (ready start) ts
