@@ -1,9 +1,14 @@
+pub mod Cases
 pub mod RunLaws
 pub mod CallLaws
 pub mod CallerLaws
 pub mod HistoryLaws
 pub mod ReaderLaws
+pub mod CommandLaws
+pub mod SizeLaws
+pub mod StepLaws
 pub mod AreaLaws
+pub mod SixelLaws
 pub mod InkLaws
 pub mod PayloadLaws
 pub mod DcsParts

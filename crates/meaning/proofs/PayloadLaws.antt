@@ -10,12 +10,12 @@ use lib.ListN.{length}
 use Rattle.numbers.specs.Bytes.{ends}
 use Rattle.colours.specs.declared.Palette.{Palette}
 use Rattle.meaning.specs.Commands.{Placed, Begun, Scanned, closed, scanByte, scan, body, endOf, commands}
-use Rattle.meaning.specs.Drawing.{Setting, Drawing, blank, Outcome, drawAll, inkOfAll}
-use Rattle.meaning.specs.Payload.{Parameters, payload, payloadInk, finish, turnedDown}
-use Rattle.meaning.specs.Reader.{Step, next, halt, refuse, How, readAll, stopped, halted, refusedBy, isRefused, Run, still, after, follow, readFrom}
+use Rattle.meaning.specs.Drawing.{Setting, blank, Outcome, drawAll, inkOfAll}
+use Rattle.meaning.specs.Payload.{Parameters, payload, payloadInk, finish}
+use Rattle.meaning.specs.Reader.{Step, halt, How, readAll, stopped, halted, refusedBy, isRefused, Run, still, after, follow, readFrom}
 use Rattle.meaning.specs.Sessions.{Reading, opened, settled, endedAt, wentOn, readByte, payloadStep, finishReading, outcomeOf}
 use Rattle.meaning.proofs.AreaLaws.{cond-case, option-case, Leaves, leaves-map, payload-case, readFrom-keeps, drawOn, drawOn-none, drawOn-some, drawAll-append, FourToSeven, drawAll-numbers}
-use Rattle.meaning.proofs.InkLaws.{inkDrawn, settled-strokes, payload-ink}
+use Rattle.meaning.proofs.InkLaws.{settled-strokes, payload-ink}
 
 -- ---- scanning
 

@@ -2,23 +2,13 @@
 use Prim.Native.Nat.{ℕ, _+_}
 use native.Mathlib.Nat.{zero-add, add-assoc}
 use mathlib.Core.Path.{_≡_, refl, sym, ap, ap₂, _∙_}
-use mathlib.Core.Bool.{Bool, true, false, cond}
+use mathlib.Core.Bool.{false, cond}
 use mathlib.Core.List.{List, [], _∷_, _++_}
 use lib.ListN.{take, drop, take-append-drop}
-use Rattle.meaning.specs.Reader.{Step, next, halt, refuse, How, readAll, stopped, halted, refusedBy, isAll, Run, after, continued, follow, readFrom, thenRead, pieces}
-use Rattle.meaning.specs.Histories.{byte}
+use Rattle.meaning.specs.Reader.{Step, next, halt, refuse, How, readAll, stopped, halted, refusedBy, isAll, Run, after, continued, follow, readFrom, thenRead}
+use Rattle.meaning.proofs.Cases.{cond-map, cond-no}
 
 -- ---- runs
-
--- a function goes into a test
-pub cond-map : {A B : Type 0} (f : A → B) (c : Bool) (x y : A) → f (cond c x y) ≡ cond c (f x) (f y)
-cond-map f true x y = refl
-cond-map f false x y = refl
-
--- a test that fails
-pub cond-no : {A : Type 0} (c : Bool) (x y : A) → c ≡ false → cond c x y ≡ y
-cond-no true x y e = cc
-cond-no false x y e = refl
 
 -- two runs with the same counts
 pub same-counts : {S : Type 0} (s : S) (h : How) {n m i j : ℕ} → n ≡ m → i ≡ j
