@@ -159,6 +159,11 @@ sixel-rested : (s : Setting) (r : Reading) (b : ℕ) → settled s r .refusal �
 unfolding sixelOutcome rested closed
 sixel-rested s r b e = sym (drawOn-none s (settled s r) (sixelAt r b) e)
 
+-- and where it was, the sixel comes to that refusal
+sixel-refused : (s : Setting) (r : Reading) (b : ℕ) {n : ℕ} → settled s r .refusal ≡ some n → sixelOutcome s r b ≡ settled s r
+unfolding sixelOutcome
+sixel-refused s r b e = drawOn-some s (settled s r) (sixelAt r b) e
+
 -- a payload that has not ended goes on with a sixel
 sixel-read : (s : Setting) (r : Reading) (b : ℕ) → r .over ≡ none → sixel b ≡ true
     → payloadStep s r b ≡ wentOn r (scanByte (r .passed) (r .begun) b) (sixelOutcome s r b)
@@ -189,9 +194,8 @@ sixel-again s r b c o h e = go (settled s r .refusal) refl
         (sixel-read s (rested s r) b o e ∙ ap (wentOn (rested s r) k) (sixel-rested s r b q)
         ∙ wentOn-rested s r c k (sixelOutcome s r b) (sixel-begun (r .passed) none b e ∙ sym h))
     go (some n) q =
-        let same : sixelOutcome s r b ≡ settled s r = drawOn-some s (settled s r) (sixelAt r b) q in
         let kept : sixelOutcome s r b .drawing .strokes ≡ r .drawing .strokes =
-        ap (λ (out : Outcome). out .drawing .strokes) same ∙ settled-strokes s r in
+        ap (λ (out : Outcome). out .drawing .strokes) (sixel-refused s r b q) ∙ settled-strokes s r in
         inked-none (payloadStep s (rested s r) b) (wentOn r c (sixelOutcome s r b))
         (wentOn-inks (λ i. i ≡ 0) r c (sixelOutcome s r b) (no-more r _ kept))
 
@@ -212,6 +216,32 @@ payload-rest s r b e =
     quiet c q =
         inked-none (payloadStep s (rested s r) b) (wentOn r c (drawAll s (c .ended) (r .drawing)))
         (wentOn-inks (λ i. i ≡ 0) r c (drawAll s (c .ended) (r .drawing)) (no-more r _ (quiet-strokes s (c .ended) (r .drawing) q)))
+
+-- where a byte with ink is read, the begun command before it is not refused
+pub inked-settled : (s : Setting) (r : Reading) (b : ℕ) {t : Reading} {i : ℕ} → payloadStep s r b ≡ next t i → 0 < i
+    → settled s r .refusal ≡ none
+inked-settled s r b e = subst (Inks Fine) e (payload-case (Inks Fine) s r b (λ _. readByte-case (Inks Fine) s r b ended quiet inked) (λ _. tt))
+  where
+    Fine : ℕ → Type 0
+    Fine i = 0 < i → settled s r .refusal ≡ none
+
+    dry : (c : Scanned) (out : Outcome) → out .drawing .strokes ≡ r .drawing .strokes → Inks Fine (wentOn r c out)
+    dry c out same = wentOn-inks Fine r c out (λ some-ink. let none-more = no-more r _ same in absurd (omega arith))
+
+    ended : Inks Fine (endedAt b r (settled s r))
+    ended = ended-inks Fine b r (settled s r)
+
+    quiet : (c : Scanned) → AllQuiet (c .ended) → Inks Fine (wentOn r c (drawAll s (c .ended) (r .drawing)))
+    quiet c q = dry c _ (quiet-strokes s (c .ended) (r .drawing) q)
+
+    inked : (c : Scanned) → c .begun ≡ none → sixel b ≡ true → Inks Fine (wentOn r c (sixelOutcome s r b))
+    inked c _ _ = go (settled s r .refusal) refl
+      where
+        go : (x : Option ℕ) → settled s r .refusal ≡ x → Inks Fine (wentOn r c (sixelOutcome s r b))
+        go none q = wentOn-inks Fine r c (sixelOutcome s r b) (λ _. q)
+        go (some n) q =
+            dry c (sixelOutcome s r b)
+            (ap (λ (out : Outcome). out .drawing .strokes) (sixel-refused s r b q) ∙ settled-strokes s r)
 
 -- ---- an ended payload stays where it is
 

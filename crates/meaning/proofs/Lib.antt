@@ -3,6 +3,7 @@ pub mod RunLaws
 pub mod CallLaws
 pub mod CallerLaws
 pub mod HistoryLaws
+pub mod SoFarLaws
 pub mod ReaderLaws
 pub mod CommandLaws
 pub mod SizeLaws
@@ -14,5 +15,6 @@ pub mod PayloadLaws
 pub mod DcsParts
 pub mod DcsLaws
 pub mod Demand3
+pub mod EachCall
 pub mod Trials
 pub mod Examples
