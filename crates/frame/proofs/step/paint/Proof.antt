@@ -1,0 +1,53 @@
+use borrow.Author.Needs.{needs}
+use Rattle.frame.proofs.step.paint.Statement.{statement}
+use Rattle.frame.proofs.step.paint.Tie as tie
+use Rattle.frame.proofs.step.paint.Reads as reads
+use Rattle.frame.proofs.step.paint.Lts as lts
+use Rattle.canvas.proofs.grow.Reads as grow-reads
+use Rattle.canvas.proofs.paint_sixel.Reads as paint-sixel-reads
+use Rattle.frame.proofs.step.after_sixel.Reads as after-sixel-reads
+
+-- src/step.rt:94:16
+cast-ones : tie.Need-cast-ones
+cast-ones c = ?
+
+-- src/step.rt:95:15
+mul-ink : tie.Need-mul-ink
+mul-ink c = ?
+
+-- src/step.rt:97:9
+returns : tie.Need-returns
+returns c = ?
+
+-- src/step.rt:105:5
+grow-requires : tie.Need-grow-requires
+grow-requires c κs = search needs
+
+-- src/step.rt:114:5
+paint-sixel-requires : tie.Need-paint-sixel-requires
+paint-sixel-requires c κs = ?
+
+-- src/step.rt:124:16
+after-sixel-requires : tie.Need-after-sixel-requires
+after-sixel-requires c κs = search needs
+
+-- src/step.rt:80:1
+same-length : tie.Need-same-length
+same-length c = search needs
+
+-- src/step.rt:80:1
+returns-2 : tie.Need-returns-2
+returns-2 c = ?
+
+pub paint-spec : {M : Type 1} → statement M
+paint-spec =
+    tie.close
+    (tie.spec
+    cast-ones
+    mul-ink
+    returns
+    grow-requires
+    paint-sixel-requires
+    after-sixel-requires
+    same-length
+    returns-2)
