@@ -7,7 +7,7 @@ use native.Mathlib.Omega.{arith}
 use borrow.Author.Tests.{lt-ltb, le-ltb, le-leb, lt-leb, ltb-true, ltb-false, leb-true}
 use lib.Dec.{leb, ltb}
 use Rattle.numbers.proofs.Laws.{cond-yes, cond-no}
-use Rattle.canvas.proofs.Covers.{and-left, and-right, same-test}
+use Rattle.canvas.proofs.Covers.{and-left, and-right, same-test, by-test}
 use Rattle.frame.specs.declared.Ground.{Ground}
 use Rattle.frame.specs.declared.Pen.{Pen}
 use Rattle.frame.specs.declared.Sheet.{Sheet}
@@ -110,3 +110,61 @@ module _ (p : Pen) (a : Sheet) (g : Ground) where
 
 pub ruleset sized =
     (room-pixels, room-wide, room-high, room-left, grown-as, raster-wide, raster-high, raster-grown, sixel-visible, sixel-grown, sixel-refused)
+
+-- ---- what an area that is needed has
+
+-- a sheet grown to a size that has room
+pub record Roomy (a : Sheet) (g : Ground) (w h : ℕ) : Type 0 where
+  pub wider : a .width ≤ w
+  pub higher : a .height ≤ h
+  pub width : w ≤ g .stride
+  pub height : h ≤ g .rows
+
+refused-area : {r : Refusal} {w h : ℕ} → Refused r ≡ Area w h → ⊥
+refused-area e = let z : _≡_ {A = ℕ} 0 1 = cc in omega arith
+
+room-area : (g : Ground) (wide high w h : ℕ) → roomFor g wide high ≡ Area w h
+    → (wide ≡ w) × (high ≡ h) × (wide ≤ g .stride) × (high ≤ g .rows)
+unfolding roomFor
+room-area g wide high w h e =
+    by-test (ltb (g .limits .pixels) (wide * high))
+    (λ t. absurd (refused-area (sym (cond-yes _ _ t) ∙ e)))
+    (λ t. by-test (ltb (g .stride) wide)
+    (λ u. absurd (refused-area (sym (cond-no _ _ t ∙ cond-yes _ _ u) ∙ e)))
+    (λ u. by-test (ltb (g .rows) high)
+    (λ v. absurd (refused-area (sym (cond-no _ _ t ∙ cond-no _ _ u ∙ cond-yes _ _ v) ∙ e)))
+    (λ v. let k : Area wide high ≡ Area w h = sym (cond-no _ _ t ∙ cond-no _ _ u ∙ cond-no _ _ v) ∙ e in
+    ((cc), (cc), ltb-false _ _ u, ltb-false _ _ v))))
+
+pub grown-roomy : (a : Sheet) (g : Ground) (x y w h : ℕ) → grownArea a g x y ≡ Area w h → Roomy a g w h × (x ≤ w) × (y ≤ h)
+unfolding grownArea
+grown-roomy a g x y w h e =
+    let k = room-area g (max (a .width) x) (max (a .height) y) w h e in
+    let p : max (a .width) x ≡ w = k .0 in
+    let q : max (a .height) y ≡ h = k .1 in
+    (record { wider = omega arith; higher = omega arith; width = omega (arith, k .2); height = omega (arith, k .3) }, omega arith, omega arith)
+
+pub raster-roomy : (a : Sheet) (g : Ground) (x y w h : ℕ) → rasterArea a g x y ≡ Area w h → Roomy a g w h
+unfolding rasterArea
+raster-roomy a g x y w h e =
+    by-test (ltb (g .limits .width) x)
+    (λ t. absurd (refused-area (sym (cond-yes _ _ t) ∙ e)))
+    (λ t. by-test (ltb (g .limits .height) y)
+    (λ u. absurd (refused-area (sym (cond-no _ _ t ∙ cond-yes _ _ u) ∙ e)))
+    (λ u. grown-roomy a g x y w h (sym (cond-no _ _ t ∙ cond-no _ _ u) ∙ e) .0))
+
+-- the next sixel's area has room, and the sixel in it
+pub sixel-roomy : (p : Pen) (a : Sheet) (g : Ground) (w h : ℕ) → a .width ≤ g .stride → a .height ≤ g .rows → sixelArea p a g ≡ Area w h
+    → Roomy a g w h × (p .column + p .repeat ≤ w) × (p .row + 6 ≤ h)
+unfolding sixelArea
+sixel-roomy p a g w h aw ah e =
+    by-test (ends p (a .width) (a .height))
+    (λ t. let k : Area (a .width) (a .height) ≡ Area w h = sym (cond-yes _ _ t) ∙ e in
+    let x : a .width ≡ w = cc in
+    let y : a .height ≡ h = cc in
+    (record { wider = omega arith; higher = omega arith; width = omega arith; height = omega arith },
+    omega (arith, ends-columns p (a .width) (a .height) refl t),
+    omega (arith, ends-rows p (a .width) (a .height) refl t)))
+    (λ t. by-test (ends p (g .limits .width) (g .limits .height))
+    (λ u. grown-roomy a g (p .column + p .repeat) (p .row + 6) w h (sym (cond-no _ _ t ∙ cond-yes _ _ u) ∙ e))
+    (λ u. absurd (refused-area (sym (cond-no _ _ t ∙ cond-no _ _ u) ∙ e))))

@@ -1,3 +1,4 @@
+use Rattle.frame.proofs.StepLaws.{drawing}
 use borrow.Author.Needs.{needs}
 use Rattle.frame.proofs.step.after_sixel.Statement.{statement}
 use Rattle.frame.proofs.step.after_sixel.Tie as tie
@@ -20,7 +21,7 @@ inked-bottom-requires c κs = search needs
 
 -- src/step.rt:50:1
 returns : tie.Need-returns
-returns c = ?
+returns c = search (needs, drawing)
 
 pub after-sixel-spec : {M : Type 1} → statement M
 after-sixel-spec = tie.close (tie.spec add-right larger-requires inked-bottom-requires returns)

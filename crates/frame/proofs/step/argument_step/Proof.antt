@@ -1,3 +1,4 @@
+use Rattle.frame.proofs.StepLaws.{arguments}
 use borrow.Author.Needs.{needs}
 use Rattle.frame.proofs.step.argument_step.Statement.{statement}
 use Rattle.frame.proofs.step.argument_step.Tie as tie
@@ -25,7 +26,7 @@ with-command-requires c κs = search needs
 
 -- src/step.rt:271:9
 returns : tie.Need-returns
-returns c = ?
+returns c = search (needs, arguments)
 
 -- src/step.rt:277:8
 is-skipped-requires : tie.Need-is-skipped-requires
@@ -33,7 +34,7 @@ is-skipped-requires c κs = search needs
 
 -- src/step.rt:278:9
 returns-2 : tie.Need-returns-2
-returns-2 c = ?
+returns-2 c = search (needs, arguments)
 
 -- src/step.rt:284:8
 parts-values-requires : tie.Need-parts-values-requires
@@ -49,7 +50,7 @@ with-command-requires-2 c κs = search needs
 
 -- src/step.rt:285:9
 returns-3 : tie.Need-returns-3
-returns-3 c = ?
+returns-3 c = search (needs, arguments)
 
 -- src/step.rt:291:5
 settle-requires : tie.Need-settle-requires
@@ -61,7 +62,7 @@ same-length c = search needs
 
 -- src/step.rt:258:1
 returns-4 : tie.Need-returns-4
-returns-4 c = ?
+returns-4 c = search (needs, arguments)
 
 pub argument-step-spec : {M : Type 1} → statement M
 argument-step-spec =

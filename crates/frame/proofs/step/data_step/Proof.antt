@@ -1,3 +1,4 @@
+use Rattle.frame.proofs.StepLaws.{effects}
 use borrow.Author.Needs.{needs}
 use Rattle.frame.proofs.step.data_step.Statement.{statement}
 use Rattle.frame.proofs.step.data_step.Tie as tie
@@ -14,7 +15,7 @@ is-sixel-requires c κs = search needs
 
 -- src/step.rt:197:50
 sub-draw-sixel : tie.Need-sub-draw-sixel
-sub-draw-sixel c = ?
+sub-draw-sixel c = search (needs, effects)
 
 -- src/step.rt:197:9
 draw-sixel-requires : tie.Need-draw-sixel-requires
@@ -26,7 +27,7 @@ same-length c = search needs
 
 -- src/step.rt:197:9
 returns : tie.Need-returns
-returns c = ?
+returns c = search (needs, effects, c .before .before .draw-sixel .ensures)
 
 -- src/step.rt:199:8
 ends-payload-requires : tie.Need-ends-payload-requires
@@ -34,7 +35,7 @@ ends-payload-requires c κs = search needs
 
 -- src/step.rt:200:9
 returns-2 : tie.Need-returns-2
-returns-2 c = ?
+returns-2 c = search (needs, effects)
 
 -- src/step.rt:207:16
 own-effect-requires : tie.Need-own-effect-requires
@@ -42,7 +43,7 @@ own-effect-requires c κs = search needs
 
 -- src/step.rt:192:1
 returns-3 : tie.Need-returns-3
-returns-3 c = ?
+returns-3 c = search (needs, effects)
 
 pub data-step-spec : {M : Type 1} → statement M
 data-step-spec =

@@ -1,3 +1,4 @@
+use Rattle.frame.proofs.StepLaws.{drawing, needed-holds}
 use borrow.Author.Needs.{needs}
 use Rattle.frame.proofs.step.draw_sixel.Statement.{statement}
 use Rattle.frame.proofs.step.draw_sixel.Tie as tie
@@ -16,7 +17,9 @@ enum-known-width c = search needs
 
 -- src/step.rt:137:43
 paint-requires : tie.Need-paint-requires
-paint-requires c κs = ?
+paint-requires c κs =
+    let s = c .before .before .before .before .before .before .before .before in
+    needed-holds (s .args .frame) (s .args .ground) _ _ _ (s .pre) (c .before .before .before .before .sixel-area .ensures) (c .before .before .width .given .1)
 
 -- src/step.rt:138:25
 enum-known-refusal : tie.Need-enum-known-refusal
@@ -28,11 +31,11 @@ same-length c = search needs
 
 -- src/step.rt:130:1
 returns : tie.Need-returns
-returns c = ?
+returns c = search (needs, drawing, c .before .before .paint .ensures)
 
 -- src/step.rt:130:1
 returns-2 : tie.Need-returns-2
-returns-2 c = ?
+returns-2 c = search (needs, drawing)
 
 pub draw-sixel-spec : {M : Type 1} → statement M
 draw-sixel-spec =

@@ -1,3 +1,4 @@
+use Rattle.frame.proofs.StepLaws.{effects}
 use borrow.Author.Needs.{needs}
 use Rattle.frame.proofs.step.own_effect.Statement.{statement}
 use Rattle.frame.proofs.step.own_effect.Tie as tie
@@ -13,7 +14,7 @@ begin-requires c κs = search needs
 
 -- src/step.rt:174:9
 returns : tie.Need-returns
-returns c = ?
+returns c = search (needs, effects)
 
 -- src/step.rt:177:9
 begin-requires-2 : tie.Need-begin-requires-2
@@ -21,7 +22,7 @@ begin-requires-2 c κs = search needs
 
 -- src/step.rt:177:9
 returns-2 : tie.Need-returns-2
-returns-2 c = ?
+returns-2 c = search (needs, effects)
 
 -- src/step.rt:180:9
 moved-requires : tie.Need-moved-requires
@@ -29,7 +30,7 @@ moved-requires c κs = search needs
 
 -- src/step.rt:180:9
 returns-3 : tie.Need-returns-3
-returns-3 c = ?
+returns-3 c = search (needs, effects)
 
 -- src/step.rt:183:29
 row-below-requires : tie.Need-row-below-requires
@@ -41,7 +42,7 @@ moved-requires-2 c κs = search needs
 
 -- src/step.rt:183:9
 returns-4 : tie.Need-returns-4
-returns-4 c = ?
+returns-4 c = search (needs, effects)
 
 -- src/step.rt:186:9
 begin-requires-3 : tie.Need-begin-requires-3
@@ -49,11 +50,11 @@ begin-requires-3 c κs = search needs
 
 -- src/step.rt:186:9
 returns-5 : tie.Need-returns-5
-returns-5 c = ?
+returns-5 c = search (needs, effects)
 
 -- src/step.rt:169:1
 returns-6 : tie.Need-returns-6
-returns-6 c = ?
+returns-6 c = search (needs, effects)
 
 pub own-effect-spec : {M : Type 1} → statement M
 own-effect-spec =

@@ -1,3 +1,4 @@
+use Rattle.frame.proofs.StepLaws.{arguments}
 use borrow.Author.Needs.{needs}
 use Rattle.frame.proofs.step.parts_values.Statement.{statement}
 use Rattle.frame.proofs.step.parts_values.Tie as tie
@@ -11,11 +12,11 @@ takes-semicolon-requires c κs = search needs
 
 -- src/step.rt:230:9
 returns : tie.Need-returns
-returns c = ?
+returns c = search (needs, arguments)
 
 -- src/step.rt:226:1
 returns-2 : tie.Need-returns-2
-returns-2 c = ?
+returns-2 c = search (needs, arguments)
 
 pub parts-values-spec : {M : Type 1} → statement M
 parts-values-spec = tie.close (tie.spec takes-semicolon-requires returns returns-2)

@@ -1,3 +1,4 @@
+use Rattle.frame.proofs.StepLaws.{arguments, settle-room}
 use borrow.Author.Needs.{needs}
 use Rattle.frame.proofs.step.settle.Statement.{statement}
 use Rattle.frame.proofs.step.settle.Tie as tie
@@ -12,7 +13,9 @@ end-command-requires c κs = search needs
 
 -- src/step.rt:245:5
 grow-requires : tie.Need-grow-requires
-grow-requires c κs = ?
+grow-requires c κs =
+    let s = c .before .before .before .before .before .before .before .before in
+    settle-room (s .args .frame) (s .args .ground) _ _ (s .pre) (c .before .before .before .before .before .end-command .ensures)
 
 -- src/step.rt:236:1
 same-length : tie.Need-same-length
@@ -20,7 +23,7 @@ same-length c = search needs
 
 -- src/step.rt:236:1
 returns : tie.Need-returns
-returns c = ?
+returns c = search (needs, arguments)
 
 pub settle-spec : {M : Type 1} → statement M
 settle-spec = tie.close (tie.spec end-command-requires grow-requires same-length returns)

@@ -1,3 +1,4 @@
+use Rattle.frame.proofs.StepLaws.{either}
 use borrow.Author.Needs.{needs}
 use Rattle.frame.proofs.step.step.Statement.{statement}
 use Rattle.frame.proofs.step.step.Tie as tie
@@ -20,7 +21,7 @@ same-length c = search needs
 
 -- src/step.rt:309:9
 returns : tie.Need-returns
-returns c = ?
+returns c = search (needs, either, c .before .before .data-step .ensures)
 
 -- src/step.rt:311:5
 argument-step-requires : tie.Need-argument-step-requires
@@ -32,7 +33,7 @@ same-length-2 c = search needs
 
 -- src/step.rt:295:1
 returns-2 : tie.Need-returns-2
-returns-2 c = ?
+returns-2 c = search (needs, either)
 
 pub step-spec : {M : Type 1} → statement M
 step-spec =

@@ -1,3 +1,4 @@
+use Rattle.frame.proofs.StepLaws.{arguments}
 use borrow.Author.Needs.{needs}
 use Rattle.frame.proofs.step.takes_semicolon.Statement.{statement}
 use Rattle.frame.proofs.step.takes_semicolon.Tie as tie
@@ -22,19 +23,19 @@ enum-told-4 c = search needs
 
 -- src/step.rt:214:1
 returns : tie.Need-returns
-returns c = ?
+returns c = search (needs, arguments)
 
 -- src/step.rt:214:1
 returns-2 : tie.Need-returns-2
-returns-2 c = ?
+returns-2 c = search (needs, arguments)
 
 -- src/step.rt:214:1
 returns-3 : tie.Need-returns-3
-returns-3 c = ?
+returns-3 c = search (needs, arguments)
 
 -- src/step.rt:214:1
 returns-4 : tie.Need-returns-4
-returns-4 c = ?
+returns-4 c = search (needs, arguments)
 
 pub takes-semicolon-spec : {M : Type 1} → statement M
 takes-semicolon-spec =
