@@ -1,3 +1,4 @@
 pub mod SizeLaws
 pub mod CommandLaws
 pub mod StepLaws
+pub mod FeedLaws

@@ -161,10 +161,11 @@ sixel-roomy p a g w h aw ah e =
     by-test (ends p (a .width) (a .height))
     (λ t. let k : Area (a .width) (a .height) ≡ Area w h = sym (cond-yes _ _ t) ∙ e in
     let x : a .width ≡ w = cc in
-    let y : a .height ≡ h = cc in
-    (record { wider = omega arith; higher = omega arith; width = omega arith; height = omega arith },
-    omega (arith, ends-columns p (a .width) (a .height) refl t),
-    omega (arith, ends-rows p (a .width) (a .height) refl t)))
+    let y : a .height ≡ h = cc in (
+      record { wider = omega arith; higher = omega arith; width = omega arith; height = omega arith },
+      omega (arith, ends-columns p (a .width) (a .height) refl t),
+      omega (arith, ends-rows p (a .width) (a .height) refl t),
+    ))
     (λ t. by-test (ends p (g .limits .width) (g .limits .height))
     (λ u. grown-roomy a g (p .column + p .repeat) (p .row + 6) w h (sym (cond-no _ _ t ∙ cond-yes _ _ u) ∙ e))
     (λ u. absurd (refused-area (sym (cond-no _ _ t ∙ cond-no _ _ u) ∙ e))))

@@ -108,16 +108,17 @@ module _ (f : Frame) (g : Ground) (bits left w h : ℕ) (p : Palette) (l : List 
 pub needed-holds : {x : Needed} (f : Frame) (g : Ground) (n w h : ℕ) → Fits f g n → x ≡ sixelArea (f .pen) (f .sheet) g → x ≡ Area w h
     → Fits f g n × Holds f g w h
 needed-holds f g n w h fits e k =
-    let r = sixel-roomy (f .pen) (f .sheet) g w h (fits .width) (fits .height) (sym e ∙ k) in
-    (fits,
-    record {
-      wider = r .0 .wider;
-      higher = r .0 .higher;
-      columns = r .1;
-      sixRows = r .2;
-      width = r .0 .width;
-      height = r .0 .height;
-    })
+    let r = sixel-roomy (f .pen) (f .sheet) g w h (fits .width) (fits .height) (sym e ∙ k) in (
+      fits,
+      record {
+        wider = r .0 .wider;
+        higher = r .0 .higher;
+        columns = r .1;
+        sixRows = r .2;
+        width = r .0 .width;
+        height = r .0 .height;
+      },
+    )
 
 module _ {x : Needed} (f : Frame) (g : Ground) (bits left : ℕ) (p : Palette) (l : List ℕ) (needed : x ≡ sixelArea (f .pen) (f .sheet) g) where
   pub drawn-area : {t : Turned} {w h : ℕ} → x ≡ Area w h → t ≡ paintedOn f g bits left w h p l → t ≡ drawnBy f g bits left p l
@@ -222,39 +223,54 @@ parts-yes b k e h = h ∙ ap (λ (s : Bool). s && takesSemicolon k) (sym (eq-eqb
 pub parts-no : (b : ℕ) (k : Kind) → (b ≡ semicolon → ⊥) → false ≡ (eqb b semicolon && takesSemicolon k)
 parts-no b k n = ap (λ (s : Bool). s && takesSemicolon k) (sym (ne-eqb b semicolon n))
 
--- a command that ends leaves the visible area, or one that has room and holds it
-same-roomy : (f : Frame) (g : Ground) (n : ℕ) → Fits f g n → Roomy (f .sheet) g (f .sheet .width) (f .sheet .height)
+-- the visible area as it was, where it has room
+pub same-roomy : (f : Frame) (g : Ground) (n : ℕ) → Fits f g n → Roomy (f .sheet) g (f .sheet .width) (f .sheet .height)
 same-roomy f g n fits = record { wider = omega arith; higher = omega arith; width = fits .width; height = fits .height }
 
--- the sheet after a step has room, and holds the one before
-abbrev Kept : Frame → Ground → Stepped → Type 0
-Kept f g s = Roomy (f .sheet) g (s .frame .sheet .width) (s .frame .sheet .height)
+-- the end of a command: the area has room and holds the one before, no ink is spent, and where the command was carried
+-- out none is pending
+pub record Ends (f : Frame) (g : Ground) (s : Stepped) : Type 0 where
+  pub roomy : Roomy (f .sheet) g (s .frame .sheet .width) (s .frame .sheet .height)
+  pub ink : s .ink ≡ 0
+  pub settled : s .outcome ≡ outcomes.Settled → s .frame .command .kind ≡ kinds.Data
 
-repeat-roomy : (f : Frame) (g : Ground) (n : ℕ) → Fits f g n → Kept f g (repeatEnded f g)
-unfolding repeatEnded settledAs refusedAs
-repeat-roomy f g n fits =
-    by-test (ltb (g .limits .repeats) (f .command .number)) (λ t. rw t (same-roomy f g n fits)) (λ t. rw t (same-roomy f g n fits))
+settled-ends : (f : Frame) (g : Ground) (p : Pen) (a : Sheet) (r : Raster) → Roomy (f .sheet) g (a .width) (a .height) → Ends f g (settledAs p a r (f .command))
+unfolding settledAs
+settled-ends f g p a r k = record { roomy = k; ink = refl; settled = λ e. refl }
 
-needed-roomy : (f : Frame) (g : Ground) (r : Raster) (x : Needed) (n a b : ℕ) → Fits f g n → rasterArea (f .sheet) g a b ≡ x → Kept f g (rasterGrown f r x)
-unfolding rasterGrown settledAs refusedAs withArea
-needed-roomy f g r (Area w h) n a b fits e = raster-roomy (f .sheet) g a b w h e
-needed-roomy f g r (Refused y) n a b fits e = same-roomy f g n fits
+refused-ends : (f : Frame) (g : Ground) (r : Refusal) (n : ℕ) → Fits f g n → Ends f g (refusedAs f r)
+unfolding refusedAs
+refused-ends f g r n fits = record { roomy = same-roomy f g n fits; ink = refl; settled = λ e. cc }
 
-raster-ends-roomy : (f : Frame) (g : Ground) (r : Raster) (n : ℕ) → Fits f g n → Kept f g (rasterEndedBy f g r)
-unfolding rasterEndedBy settledAs
-raster-ends-roomy f g r n fits =
-    by-test (eqb (r .width) 0 && eqb (r .height) 0) (λ t. rw t (same-roomy f g n fits)) (λ t. rw t (needed-roomy f g r _ n _ _ fits refl))
+repeat-ends : (f : Frame) (g : Ground) (n : ℕ) → Fits f g n → Ends f g (repeatEnded f g)
+unfolding repeatEnded
+repeat-ends f g n fits =
+    by-test (ltb (g .limits .repeats) (f .command .number))
+    (λ t. rw t (refused-ends f g _ n fits))
+    (λ t. rw t (settled-ends f g _ _ _ (same-roomy f g n fits)))
 
-pub ended-in-roomy : (k : Kind) (f : Frame) (g : Ground) (p : Palette) (n : ℕ) → Fits f g n → Kept f g (endedIn k f g p .stepped)
-unfolding endedIn settledAs colorEndedBy
-ended-in-roomy kinds.Data f g p n fits = same-roomy f g n fits
-ended-in-roomy kinds.Repeat f g p n fits = repeat-roomy f g n fits
-ended-in-roomy kinds.Color f g p n fits = same-roomy f g n fits
-ended-in-roomy kinds.Raster f g p n fits = raster-ends-roomy f g (rasterBy (f .raster) (finishedOf f)) n fits
+needed-ends : (f : Frame) (g : Ground) (r : Raster) (x : Needed) (n a b : ℕ) → Fits f g n → rasterArea (f .sheet) g a b ≡ x → Ends f g (rasterGrown f r x)
+unfolding rasterGrown withArea
+needed-ends f g r (Area w h) n a b fits e = settled-ends f g _ _ r (raster-roomy (f .sheet) g a b w h e)
+needed-ends f g r (Refused y) n a b fits e = refused-ends f g y n fits
 
-pub ended-roomy : (f : Frame) (g : Ground) (p : Palette) (n : ℕ) → Fits f g n → Kept f g (ended f g p .stepped)
+raster-ends : (f : Frame) (g : Ground) (r : Raster) (n : ℕ) → Fits f g n → Ends f g (rasterEndedBy f g r)
+unfolding rasterEndedBy
+raster-ends f g r n fits =
+    by-test (eqb (r .width) 0 && eqb (r .height) 0)
+    (λ t. rw t (settled-ends f g _ _ r (same-roomy f g n fits)))
+    (λ t. rw t (needed-ends f g r _ n _ _ fits refl))
+
+ended-in : (k : Kind) (f : Frame) (g : Ground) (p : Palette) (n : ℕ) → Fits f g n → Ends f g (endedIn k f g p .stepped)
+unfolding endedIn colorEndedBy
+ended-in kinds.Data f g p n fits = settled-ends f g _ _ _ (same-roomy f g n fits)
+ended-in kinds.Repeat f g p n fits = repeat-ends f g n fits
+ended-in kinds.Color f g p n fits = settled-ends f g _ _ _ (same-roomy f g n fits)
+ended-in kinds.Raster f g p n fits = raster-ends f g (rasterBy (f .raster) (finishedOf f)) n fits
+
+pub ended-ends : (f : Frame) (g : Ground) (p : Palette) (n : ℕ) → Fits f g n → Ends f g (ended f g p .stepped)
 unfolding ended
-ended-roomy f g p n fits = ended-in-roomy (f .command .kind) f g p n fits
+ended-ends f g p n fits = ended-in (f .command .kind) f g p n fits
 
 -- what growing to it asks
 pub settle-room : {s : Stepped} {q : Palette} (f : Frame) (g : Ground) (p : Palette) (n : ℕ) → Fits f g n → record { stepped = s; palette = q } ≡ ended f g p
@@ -263,8 +279,8 @@ pub settle-room : {s : Stepped} {q : Palette} (f : Frame) (g : Ground) (p : Pale
     × (f .sheet .height ≤ s .frame .sheet .height)
     × (s .frame .sheet .height ≤ rowsOf n (g .stride))
 settle-room {s} f g p n fits e =
-    let k : Kept f g s = rw (← ap (λ (x : Ended). x .stepped) e) at (ended-roomy f g p n fits) in
-    (k .wider, k .width, k .higher, omega (arith, k .height, fits .rows))
+    let k : Ends f g s = rw (← ap (λ (x : Ended). x .stepped) e) at (ended-ends f g p n fits) in
+    (k .roomy .wider, k .roomy .width, k .roomy .higher, omega (arith, k .roomy .height, fits .rows))
 
 pub settled-as : {s : Stepped} {q : Palette} {l₁ : List ℕ} (f : Frame) (g : Ground) (p : Palette) (l : List ℕ) → record { stepped = s; palette = q } ≡ ended f g p
     → l₁ ≡ grown (g .stride) (areaOf (f .sheet .width) (f .sheet .height)) (areaOf (s .frame .sheet .width) (s .frame .sheet .height)) (g .background) l
