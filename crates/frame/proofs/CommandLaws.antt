@@ -42,12 +42,16 @@ pub begun-as : {q : Parameters} (f : Frame) (k : Kind) (n : ℕ) → q ≡ numbe
 unfolding begun withCommand
 begun-as f k n e = ap (λ (q : Parameters). withCommand f (record { kind = k; number = 0; parameters = q })) e
 
-pub digit-number : {n : ℕ} (c : Command) (b : ℕ) → c .kind ≡ kinds.Repeat → n ≡ numbers.repeated (c .number) b
-    → _≡_ {A = Command} (record { kind = c .kind; number = n; parameters = c .parameters }) (byDigit c b)
-unfolding byDigit byDigitIn numberLonger
-digit-number c b k e =
-    ap (λ (m : ℕ). record { kind = c .kind; number = m; parameters = c .parameters }) e
-    ∙ sym (ap (λ (j : Kind). byDigitIn j c b) k)
+-- the frame with the pending command changed
+abbrev framed : Frame → Command → Frame
+framed f c = record { pen = f .pen; sheet = f .sheet; raster = f .raster; command = c }
+
+pub digit-number : {n : ℕ} (f : Frame) (b : ℕ) → f .command .kind ≡ kinds.Repeat → n ≡ numbers.repeated (f .command .number) b
+    → framed f (record { kind = f .command .kind; number = n; parameters = f .command .parameters }) ≡ withCommand f (byDigit (f .command) b)
+unfolding withCommand byDigit byDigitIn numberLonger
+digit-number f b k e =
+    ap (λ (m : ℕ). framed f (record { kind = f .command .kind; number = m; parameters = f .command .parameters })) e
+    ∙ sym (ap (λ (j : Kind). framed f (byDigitIn j (f .command) b)) k)
 
 other-digit : (k : Kind) (c : Command) (b : ℕ) → OneOf (0 ∷ 2 ∷ 3 ∷ []) (tagOf KindType.the-type k) → byDigitIn k c b ≡ valuesLonger c b
 unfolding byDigitIn
@@ -56,17 +60,17 @@ other-digit kinds.Repeat c b h = absurd (miss (0 ∷ 2 ∷ 3 ∷ []) 1 tt h)
 other-digit kinds.Color c b h = refl
 other-digit kinds.Raster c b h = refl
 
-pub digit-value : {q : Parameters} (c : Command) (b : ℕ) → OneOf (0 ∷ 2 ∷ 3 ∷ []) (tagOf KindType.the-type (c .kind)) → q ≡ numbers.withDigit (c .parameters) b
-    → _≡_ {A = Command} (record { kind = c .kind; number = c .number; parameters = q }) (byDigit c b)
-unfolding byDigit valuesLonger
-digit-value c b k e =
-    ap (λ (q : Parameters). record { kind = c .kind; number = c .number; parameters = q }) e
-    ∙ sym (other-digit (c .kind) c b k)
+pub digit-value : {q : Parameters} (f : Frame) (b : ℕ) → OneOf (0 ∷ 2 ∷ 3 ∷ []) (tagOf KindType.the-type (f .command .kind)) → q ≡ numbers.withDigit (f .command .parameters) b
+    → framed f (record { kind = f .command .kind; number = f .command .number; parameters = q }) ≡ withCommand f (byDigit (f .command) b)
+unfolding withCommand byDigit valuesLonger
+digit-value f b k e =
+    ap (λ (q : Parameters). framed f (record { kind = f .command .kind; number = f .command .number; parameters = q })) e
+    ∙ ap (framed f) (sym (other-digit (f .command .kind) (f .command) b k))
 
-pub semicolon-as : {q : Parameters} (c : Command) → q ≡ numbers.withSemicolon (c .parameters)
-    → _≡_ {A = Command} (record { kind = c .kind; number = c .number; parameters = q }) (bySemicolon c)
-unfolding bySemicolon
-semicolon-as c e = ap (λ (q : Parameters). record { kind = c .kind; number = c .number; parameters = q }) e
+pub semicolon-as : {q : Parameters} (f : Frame) → q ≡ numbers.withSemicolon (f .command .parameters)
+    → framed f (record { kind = f .command .kind; number = f .command .number; parameters = q }) ≡ withCommand f (bySemicolon (f .command))
+unfolding withCommand bySemicolon
+semicolon-as f e = ap (λ (q : Parameters). framed f (record { kind = f .command .kind; number = f .command .number; parameters = q })) e
 
 -- ---- a repeat ends
 

@@ -298,11 +298,11 @@ settled-as {s} {q} f g p l e k =
     e
 
 module _ (f : Frame) (g : Ground) (b : ℕ) (p : Palette) (l : List ℕ) {d : Bool} (digits : d ≡ digit b) where
-  pub argument-digit : {c : Command} {next : Frame} → d ≡ true → c ≡ byDigit (f .command) b → next ≡ withCommand f c
+  pub argument-digit : {next : Frame} → d ≡ true → next ≡ withCommand f (byDigit (f .command) b)
       → _≡_ {A = Turned} (record { stepped = record { frame = next; ink = 0; outcome = outcomes.Read }; palette = p; canvas = l }) (argumentStep f g b p l)
   unfolding argumentStep readAs
-  argument-digit h e k =
-      ap (λ (x : Frame). record { stepped = readAs x 0; palette = p; canvas = l }) (k ∙ ap (withCommand f) e)
+  argument-digit h k =
+      ap (λ (x : Frame). record { stepped = readAs x 0; palette = p; canvas = l }) k
       ∙ sym (cond-yes _ _ (sym digits ∙ h))
 
   module _ {s : Bool} (no : d ≡ false) (skips : s ≡ skipped b) where
@@ -312,11 +312,11 @@ module _ (f : Frame) (g : Ground) (b : ℕ) (p : Palette) (l : List ℕ) {d : Bo
     argument-skipped h = sym (cond-no _ _ (sym digits ∙ no) ∙ cond-yes _ _ (sym skips ∙ h))
 
     module _ {t : Bool} (kept : s ≡ false) (parts : t ≡ (eqb b semicolon && takesSemicolon (f .command .kind))) where
-      pub argument-parted : {c : Command} {next : Frame} → t ≡ true → c ≡ bySemicolon (f .command) → next ≡ withCommand f c
+      pub argument-parted : {next : Frame} → t ≡ true → next ≡ withCommand f (bySemicolon (f .command))
           → _≡_ {A = Turned} (record { stepped = record { frame = next; ink = 0; outcome = outcomes.Read }; palette = p; canvas = l }) (argumentStep f g b p l)
       unfolding argumentStep readAs
-      argument-parted h e k =
-          ap (λ (x : Frame). record { stepped = readAs x 0; palette = p; canvas = l }) (k ∙ ap (withCommand f) e)
+      argument-parted h k =
+          ap (λ (x : Frame). record { stepped = readAs x 0; palette = p; canvas = l }) k
           ∙ sym (cond-no _ _ (sym digits ∙ no) ∙ cond-no _ _ (sym skips ∙ kept) ∙ cond-yes _ _ (sym parts ∙ h))
 
       pub argument-settled : {x : Turned} → t ≡ false → x ≡ settledStep f g p l → x ≡ argumentStep f g b p l

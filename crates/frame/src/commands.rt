@@ -24,86 +24,61 @@ use numbers::Parameters;
 pub fn begin(frame: Frame, kind: Kind, places: usize) -> Frame
     ensures { λ r. ⌜ r ≡ begun frame kind places ⌝ }
 {
-    let pen = frame.pen;
-    let sheet = frame.sheet;
-    let raster = frame.raster;
-    let parameters = Parameters::new(places);
-    Frame {
-        pen,
-        sheet,
-        raster,
-        command: Command {
-            kind,
-            number: 0,
-            parameters,
-        },
-    }
+    let command = Command {
+        kind,
+        number: 0,
+        parameters: Parameters::new(places),
+    };
+    let mut next = frame;
+    next.command = command;
+    next
 }
 
 // A digit of the argument.
-pub fn extend_by_digit(command: Command, byte: u8) -> Command
-    ensures { λ r. ⌜ r ≡ byDigit command byte ⌝ }
+pub fn extend_by_digit(frame: Frame, byte: u8) -> Frame
+    ensures { λ r. ⌜ r ≡ withCommand frame (byDigit (frame .command) byte) ⌝ }
 {
+    let mut command = frame.command;
     let kind = command.kind;
-    let parameters = command.parameters;
+    let mut next = frame;
     if let Kind::Repeat = kind {
-        return Command {
-            kind,
-            number: numbers::more_repeat(command.number, byte),
-            parameters,
-        };
+        command.number = numbers::more_repeat(command.number, byte);
+        next.command = command;
+        return next;
     }
-    Command {
-        kind,
-        number: command.number,
-        parameters: parameters.digit(byte),
-    }
+    let parameters = command.parameters;
+    command.parameters = parameters.digit(byte);
+    next.command = command;
+    next
 }
 
 // A `;` of the argument.
-pub fn extend_by_semicolon(command: Command) -> Command
-    ensures { λ r. ⌜ r ≡ bySemicolon command ⌝ }
+pub fn extend_by_semicolon(frame: Frame) -> Frame
+    ensures { λ r. ⌜ r ≡ withCommand frame (bySemicolon (frame .command)) ⌝ }
 {
-    let kind = command.kind;
+    let mut command = frame.command;
     let parameters = command.parameters;
-    Command {
-        kind,
-        number: command.number,
-        parameters: parameters.semicolon(),
-    }
-}
-
-pub fn with_command(frame: Frame, command: Command) -> Frame
-    ensures { λ r. ⌜ r ≡ withCommand frame command ⌝ }
-{
-    let pen = frame.pen;
-    let sheet = frame.sheet;
-    let raster = frame.raster;
-    Frame {
-        pen,
-        sheet,
-        raster,
-        command,
-    }
+    command.parameters = parameters.semicolon();
+    let mut next = frame;
+    next.command = command;
+    next
 }
 
 // No command is pending any more.
-fn settled(pen: Pen, sheet: Sheet, raster: Raster, command: Command) -> Stepped
-    ensures { λ r. ⌜ r ≡ settledAs pen sheet raster command ⌝ }
+fn settled(frame: Frame) -> Stepped
+    ensures { λ r. ⌜ r ≡ settledAs (frame .pen) (frame .sheet) (frame .raster) (frame .command) ⌝ }
 {
-    let parameters = command.parameters;
-    let frame = Frame {
-        pen,
-        sheet,
-        raster,
-        command: Command {
-            kind: Kind::Data,
-            number: command.number,
-            parameters,
-        },
+    let ended = frame.command;
+    let parameters = ended.parameters;
+    let command = Command {
+        kind: Kind::Data,
+        number: ended.number,
+        parameters,
     };
+    let mut next = frame;
+    next.command = command;
     Stepped {
-        frame,
+        frame: next,
         ink: 0,
         outcome: Outcome::Settled,
     }
@@ -123,21 +98,14 @@ fn refused(frame: Frame, refusal: Refusal) -> Stepped
 fn end_repeat(frame: Frame, ground: Ground) -> Stepped
     ensures { λ r. ⌜ r ≡ repeatEnded frame ground ⌝ }
 {
-    let command = frame.command;
-    let number = command.number as usize;
+    let number = frame.command.number as usize;
     if ground.limits.repeats < number {
         return refused(frame, Refusal::Repeat);
     }
-    let pen = frame.pen;
-    let color = pen.color;
-    let waiting = Pen {
-        column: pen.column,
-        row: pen.row,
-        repeat: larger(1, number),
-        register: pen.register,
-        color,
-    };
-    settled(waiting, frame.sheet, frame.raster, command)
+    let repeat = larger(1, number);
+    let mut next = frame;
+    next.pen.repeat = repeat;
+    settled(next)
 }
 
 // With five values, space 1 or 2 redefines the register.
@@ -173,21 +141,17 @@ fn register_of(parameters: Parameters) -> usize
 fn end_color(frame: Frame, colors: &mut [u32; 256]) -> Stepped
     ensures { λ r. ⌜ (ofTable (now (colors .exit)) ≡ paletteAfter (ofTable (now (colors .entry))) (finishedOf frame)) × (r ≡ colorEndedBy frame (ofTable (now (colors .exit))) (finishedOf frame)) ⌝ }
 {
-    let command = frame.command;
-    let begun = command.parameters;
+    let begun = frame.command.parameters;
     let parameters = begun.finish();
     let register = register_of(parameters);
     redefine(colors, register, parameters);
     let color = colours::rgb_bytes(colors, register);
-    let pen = frame.pen;
-    let chosen = Pen {
-        column: pen.column,
-        row: pen.row,
-        repeat: pen.repeat,
-        register,
-        color,
-    };
-    settled(chosen, frame.sheet, frame.raster, command)
+    let mut pen = frame.pen;
+    pen.register = register;
+    pen.color = color;
+    let mut next = frame;
+    next.pen = pen;
+    settled(next)
 }
 
 // A quotient of exactly 1, 2, 3 or 5, else 0.
@@ -265,27 +229,23 @@ fn sizeless(raster: Raster) -> bool
 fn end_raster(frame: Frame, ground: Ground) -> Stepped
     ensures { λ r. ⌜ r ≡ rasterEndedBy frame ground (rasterBy (frame .raster) (finishedOf frame)) ⌝ }
 {
-    let command = frame.command;
-    let begun = command.parameters;
+    let begun = frame.command.parameters;
+    let mut next = frame;
     let raster = raster_after(frame.raster, begun.finish());
-    let sheet = frame.sheet;
+    next.raster = raster;
     if sizeless(raster) {
-        return settled(frame.pen, sheet, raster, command);
+        return settled(next);
     }
     match raster_area(
-        sheet,
+        frame.sheet,
         ground,
         larger(1, raster.width),
         larger(1, raster.height),
     ) {
         Needed::Area { width, height } => {
-            let grown = Sheet {
-                width,
-                height,
-                right: sheet.right,
-                bottom: sheet.bottom,
-            };
-            settled(frame.pen, grown, raster, command)
+            next.sheet.width = width;
+            next.sheet.height = height;
+            settled(next)
         }
         Needed::Refused(refusal) => refused(frame, refusal),
     }
@@ -298,7 +258,7 @@ pub fn end_command(frame: Frame, ground: Ground, colors: &mut [u32; 256]) -> Ste
     let command = frame.command;
     let kind = command.kind;
     match kind {
-        Kind::Data => settled(frame.pen, frame.sheet, frame.raster, command),
+        Kind::Data => settled(frame),
         Kind::Repeat => end_repeat(frame, ground),
         Kind::Color => end_color(frame, colors),
         Kind::Raster => end_raster(frame, ground),

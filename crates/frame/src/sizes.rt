@@ -4,6 +4,7 @@ ghost use Prim.Native.Nat.{_+_, _*_, max};
 ghost use mathlib.Core.Bool.{_&&_};
 ghost use lib.Dec.{leb, ltb};
 ghost use Rattle.frame.specs.Sizes.{grownArea, rasterArea, sixelArea};
+use crate::Frame;
 use crate::Ground;
 use crate::Pen;
 use crate::Refusal;
@@ -89,9 +90,11 @@ fn within(pen: Pen, width: usize, height: usize) -> bool
 }
 
 // The area that the next sixel needs. One that is visible already has passed every limit before.
-pub fn sixel_area(pen: Pen, sheet: Sheet, ground: Ground) -> Needed
-    ensures { λ r. ⌜ r ≡ sixelArea pen sheet ground ⌝ }
+pub fn sixel_area(frame: Frame, ground: Ground) -> Needed
+    ensures { λ r. ⌜ r ≡ sixelArea (frame .pen) (frame .sheet) ground ⌝ }
 {
+    let pen = frame.pen;
+    let sheet = frame.sheet;
     if within(pen, sheet.width, sheet.height) {
         return Needed::Area {
             width: sheet.width,

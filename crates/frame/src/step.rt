@@ -19,7 +19,6 @@ use crate::commands::begin;
 use crate::commands::end_command;
 use crate::commands::extend_by_digit;
 use crate::commands::extend_by_semicolon;
-use crate::commands::with_command;
 use crate::sizes::Needed;
 use crate::sizes::larger;
 use crate::sizes::sixel_area;
@@ -51,29 +50,17 @@ fn after_sixel(frame: Frame, bits: u8, width: usize, height: usize) -> Frame
     requires { ⌜ (frame .pen .column + frame .pen .repeat < 18446744073709551616) × (frame .pen .row + 6 < 18446744073709551616) ⌝ }
     ensures { λ r. ⌜ r ≡ inked frame bits width height ⌝ }
 {
-    let pen = frame.pen;
-    let color = pen.color;
-    let sheet = frame.sheet;
-    let raster = frame.raster;
-    let command = frame.command;
-    let right = pen.column + pen.repeat;
-    Frame {
-        pen: Pen {
-            column: right,
-            row: pen.row,
-            repeat: 1,
-            register: pen.register,
-            color,
-        },
-        sheet: Sheet {
-            width,
-            height,
-            right: larger(sheet.right, right),
-            bottom: inked_bottom(sheet.bottom, pen.row, bits),
-        },
-        raster,
-        command,
-    }
+    let right = frame.pen.column + frame.pen.repeat;
+    let inked_right = larger(frame.sheet.right, right);
+    let bottom = inked_bottom(frame.sheet.bottom, frame.pen.row, bits);
+    let mut next = frame;
+    next.pen.column = right;
+    next.pen.repeat = 1;
+    next.sheet.width = width;
+    next.sheet.height = height;
+    next.sheet.right = inked_right;
+    next.sheet.bottom = bottom;
+    next
 }
 
 // Paints a sixel that has passed its limits, unless its ink exceeds what is left.
@@ -89,10 +76,8 @@ fn paint(
     requires { ⌜ Fits frame ground (length (now canvas)) × Holds frame ground width height ⌝ }
     ensures { λ r. ⌜ ((p : Palette) → record { stepped = r; palette = p; canvas = now (canvas .exit) } ≡ paintedOn frame ground bits left width height p (now (canvas .entry))) ⌝ }
 {
-    let pen = frame.pen;
-    let sheet = frame.sheet;
     let ones = u32::count_ones(bits as u32) as usize;
-    let ink = ones * pen.repeat;
+    let ink = ones * frame.pen.repeat;
     if left < ink {
         return Stepped {
             frame,
@@ -101,12 +86,12 @@ fn paint(
         };
     }
     let background = ground.background;
-    let color = pen.color;
+    let color = frame.pen.color;
     canvas::grow(
         canvas,
         ground.stride,
-        sheet.width,
-        sheet.height,
+        frame.sheet.width,
+        frame.sheet.height,
         width,
         height,
         background,
@@ -114,9 +99,9 @@ fn paint(
     canvas::paint_sixel(
         canvas,
         ground.stride,
-        pen.column,
-        pen.row,
-        pen.repeat,
+        frame.pen.column,
+        frame.pen.row,
+        frame.pen.repeat,
         bits,
         color,
     );
@@ -131,9 +116,7 @@ fn draw_sixel(frame: Frame, ground: Ground, canvas: &mut [u8], bits: u8, left: u
     requires { ⌜ Fits frame ground (length (now canvas)) ⌝ }
     ensures { λ r. ⌜ ((p : Palette) → record { stepped = r; palette = p; canvas = now (canvas .exit) } ≡ drawnBy frame ground bits left p (now (canvas .entry))) ⌝ }
 {
-    let pen = frame.pen;
-    let sheet = frame.sheet;
-    match sixel_area(pen, sheet, ground) {
+    match sixel_area(frame, ground) {
         Needed::Area { width, height } => paint(frame, ground, canvas, bits, left, width, height),
         Needed::Refused(refusal) => Stepped {
             frame,
@@ -146,30 +129,16 @@ fn draw_sixel(frame: Frame, ground: Ground, canvas: &mut [u8], bits: u8, left: u
 fn moved(frame: Frame, row: usize) -> Frame
     ensures { λ r. ⌜ r ≡ movedTo frame row ⌝ }
 {
-    let pen = frame.pen;
-    let color = pen.color;
-    let sheet = frame.sheet;
-    let raster = frame.raster;
-    let command = frame.command;
-    Frame {
-        pen: Pen {
-            column: 0,
-            row,
-            repeat: pen.repeat,
-            register: pen.register,
-            color,
-        },
-        sheet,
-        raster,
-        command,
-    }
+    let mut next = frame;
+    next.pen.column = 0;
+    next.pen.row = row;
+    next
 }
 
 // The own effect of a byte that is no sixel and ends nothing.
 fn own_effect(frame: Frame, byte: u8) -> Frame
     ensures { λ r. ⌜ r ≡ ownOf frame byte ⌝ }
 {
-    let pen = frame.pen;
     if byte == b'#' {
         return begin(frame, Kind::Color, 5);
     }
@@ -177,10 +146,10 @@ fn own_effect(frame: Frame, byte: u8) -> Frame
         return begin(frame, Kind::Repeat, 0);
     }
     if byte == b'$' {
-        return moved(frame, pen.row);
+        return moved(frame, frame.pen.row);
     }
     if byte == b'-' {
-        return moved(frame, row_below(pen.row));
+        return moved(frame, row_below(frame.pen.row));
     }
     if byte == b'"' {
         return begin(frame, Kind::Raster, 4);
@@ -238,17 +207,14 @@ fn settle(frame: Frame, ground: Ground, colors: &mut [u32; 256], canvas: &mut [u
     ensures { λ r. ⌜ record { stepped = r; palette = ofTable (now (colors .exit)); canvas = now (canvas .exit) } ≡ settledStep frame ground (ofTable (now (colors .entry))) (now (canvas .entry)) ⌝ }
 {
     let ended = end_command(frame, ground, colors);
-    let old = frame.sheet;
-    let next = ended.frame;
-    let new = next.sheet;
     let background = ground.background;
     canvas::grow(
         canvas,
         ground.stride,
-        old.width,
-        old.height,
-        new.width,
-        new.height,
+        frame.sheet.width,
+        frame.sheet.height,
+        ended.frame.sheet.width,
+        ended.frame.sheet.height,
         background,
     );
     ended
@@ -269,7 +235,7 @@ fn argument_step(
     let kind = command.kind;
     if numbers::is_digit(byte) {
         return Stepped {
-            frame: with_command(frame, extend_by_digit(command, byte)),
+            frame: extend_by_digit(frame, byte),
             ink: 0,
             outcome: Outcome::Read,
         };
@@ -283,7 +249,7 @@ fn argument_step(
     }
     if parts_values(byte, kind) {
         return Stepped {
-            frame: with_command(frame, extend_by_semicolon(command)),
+            frame: extend_by_semicolon(frame),
             ink: 0,
             outcome: Outcome::Read,
         };

@@ -22,11 +22,11 @@ within-requires-2 c κs = search needs
 
 -- src/sizes.rt:102:42
 add-grown-area : tie.Need-add-grown-area
-add-grown-area c = omega (arith, ends-columns (c .before .before .before .before .before .args .pen) _ _ (c .before .before .within2 .ensures) (c .before .if2 .taken))
+add-grown-area c = omega (arith, ends-columns (c .before .before .before .before .before .before .before .args .frame .pen) _ _ (c .before .before .within2 .ensures) (c .before .if2 .taken))
 
 -- src/sizes.rt:102:67
 add-grown-area-2 : tie.Need-add-grown-area-2
-add-grown-area-2 c = omega (arith, ends-rows (c .before .before .before .before .before .before .args .pen) _ _ (c .before .before .before .within2 .ensures) (c .before .before .if2 .taken))
+add-grown-area-2 c = omega (arith, ends-rows (c .before .before .before .before .before .before .before .before .args .frame .pen) _ _ (c .before .before .before .within2 .ensures) (c .before .before .if2 .taken), c .before .before .before .before .before .before .before .before .good .1)
 
 -- src/sizes.rt:102:9
 grown-area-requires : tie.Need-grown-area-requires

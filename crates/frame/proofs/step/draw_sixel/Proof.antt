@@ -18,7 +18,7 @@ enum-known-width c = search needs
 -- src/step.rt:137:43
 paint-requires : tie.Need-paint-requires
 paint-requires c κs =
-    let s = c .before .before .before .before .before .before .before .before in
+    let s = c .before .before .before .before .before .before in
     needed-holds (s .args .frame) (s .args .ground) _ _ _ (s .pre) (c .before .before .before .before .sixel-area .ensures) (c .before .before .width .given .1)
 
 -- src/step.rt:138:25

@@ -14,12 +14,12 @@ use Rattle.frame.proofs.step.after_sixel.Reads as after-sixel-reads
 
 -- src/step.rt:94:16
 cast-ones : tie.Need-cast-ones
-cast-ones c = omega (arith, ones-le 8 (c .before .before .before .args .bits) (c .before .before .before .fits .bits .fits))
+cast-ones c = omega (arith, ones-le 8 (c .before .args .bits) (c .before .fits .bits .fits))
 
 -- src/step.rt:95:15
 mul-ink : tie.Need-mul-ink
 mul-ink c =
-    let s = c .before .before .before .before in
+    let s = c .before .before in
     omega (arith, ink-room (s .args .frame) (s .args .ground) (s .args .bits) (s .args .width) (s .args .height) (length (now (s .args .canvas))) (s .fits .bits .fits) (s .pre .0) (s .pre .1))
 
 -- src/step.rt:97:9
@@ -33,7 +33,7 @@ grow-requires c κs = search needs
 -- src/step.rt:114:5
 paint-sixel-requires : tie.Need-paint-sixel-requires
 paint-sixel-requires c κs =
-    let s = c .before .before .before .before .before .before .before .before .before .before .before .before in
+    let s = c .before .before .before .before .before .before .before .before .before .before in
     sixel-room (s .args .frame) (s .args .ground) _ _ _ _ (c .before .before .before .grow .kept .0) (s .pre .0) (s .pre .1)
 
 -- src/step.rt:124:16

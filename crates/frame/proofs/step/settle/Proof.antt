@@ -14,8 +14,8 @@ end-command-requires c κs = search needs
 -- src/step.rt:245:5
 grow-requires : tie.Need-grow-requires
 grow-requires c κs =
-    let s = c .before .before .before .before .before .before .before .before in
-    settle-room (s .args .frame) (s .args .ground) _ _ (s .pre) (c .before .before .before .before .before .end-command .ensures)
+    let s = c .before .before .before .before .before in
+    settle-room (s .args .frame) (s .args .ground) _ _ (s .pre) (c .before .before .end-command .ensures)
 
 -- src/step.rt:236:1
 same-length : tie.Need-same-length
