@@ -1,8 +1,8 @@
 -- Laws of the loop: what a step leaves, and how the bytes that are left go on after it.
-use Prim.Native.Nat.{ℕ, suc, _+_, _-_, _*_, _≤_, _<_}
-use mathlib.Core.Bool.{Bool, true, false, cond, _&&_}
+use Prim.Native.Nat.{ℕ, _+_, _-_, _*_, _≤_, _<_}
+use mathlib.Core.Bool.{_&&_}
 use mathlib.Core.List.{List, [], _∷_}
-use mathlib.Core.Path.{_≡_, refl, sym, ap, ap₂, _∙_}
+use mathlib.Core.Path.{_≡_, refl, sym, ap, _∙_}
 use native.Mathlib.Numerals.{add-one}
 use native.Mathlib.Omega.{arith}
 use borrow.Author.Tests.{ltb-false}
@@ -13,22 +13,19 @@ use lib.ListN.{length, getD, drop}
 use lib.Seq.{drop-cons, drop-length}
 use types.Run.{OneOf, miss}
 use Rattle.numbers.specs.Bytes.{skipped, digit, sixel, ends, semicolon, bang, quote, hash, dollar, dash}
-use Rattle.numbers.proofs.Laws.{cond-yes, cond-no}
 use Rattle.colours.specs.declared.Palette.{Palette}
 use Rattle.canvas.proofs.Covers.{by-test}
-use Rattle.frame.specs.declared.Command.{Command}
 use Rattle.frame.specs.declared.Frame.{Frame}
 use Rattle.frame.specs.declared.Ground.{Ground}
 use Rattle.frame.specs.declared.Kind.{Kind}
 use Rattle.frame.specs.declared.Kind.the-variants as kinds
 use Rattle.frame.specs.declared.Outcome.{Outcome}
 use Rattle.frame.specs.declared.Outcome.the-variants as outcomes
-use Rattle.frame.specs.declared.Refusal.{Refusal}
 use Rattle.frame.specs.declared.Stepped.{Stepped}
 use Rattle.frame.specs.declared.sizes.Needed.{Needed}
 use Rattle.frame.specs.declared.sizes.Needed.the-variants.{Area, Refused}
 use Rattle.frame.specs.Sizes.{sixelArea}
-use Rattle.frame.specs.Commands.{withCommand, begun, refusedAs, ended}
+use Rattle.frame.specs.Commands.{withCommand, begun, refusedAs}
 use Rattle.frame.specs.Step.{Turned, Fits, readAs, sheetAfter, inked, paintedOn, drawnIn, drawnBy, movedTo, ownOf, dataStep, takesSemicolon, settledStep, argumentStep, stepIn, stepOf}
 use Rattle.frame.specs.Feed.{thenData, byteStep, Reached, reachedAs, goOn, feedFrom}
 use Rattle.frame.proofs.SizeLaws.{Roomy, sixel-roomy}

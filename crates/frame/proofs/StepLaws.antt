@@ -1,15 +1,14 @@
 -- Laws of a step: one for each way through a function of `step`, and what each asks of its callees.
-use Prim.Native.Nat.{ℕ, _+_, _-_, _*_, _≤_, _<_, _^_, min, max}
+use Prim.Native.Nat.{ℕ, _+_, _-_, _*_, _≤_, _<_, min, max}
 use mathlib.Core.Bool.{Bool, true, false, cond, _&&_}
 use mathlib.Core.List.{List, [], _∷_}
 use mathlib.Core.Path.{_≡_, refl, sym, ap, ap₂, _∙_}
-use native.Mathlib.Nat.{mul-le-mul-left, mul-le-mul-right}
+use native.Mathlib.Nat.{mul-le-mul-right}
 use native.Mathlib.Omega.{arith}
-use borrow.Author.Tests.{lt-ltb, le-ltb, eq-eqb, ne-eqb, leb-true, ltb-false}
+use borrow.Author.Tests.{lt-ltb, le-ltb, eq-eqb, ne-eqb, leb-true}
 use denote.Enum.Declared.{tagOf}
 use lib.Count.{ones, ones-le}
 use lib.Dec.{leb, ltb, eqb}
-use lib.ListN.{length}
 use types.Run.{OneOf, miss}
 use Rattle.numbers.specs.Bytes.{skipped, digit, sixel, ends, between, semicolon, bang, quote, hash, dollar, dash}
 use Rattle.numbers.proofs.Laws.{cond-yes, cond-no}
@@ -18,12 +17,10 @@ use Rattle.canvas.specs.Picture.{areaOf, rowsOf}
 use Rattle.canvas.specs.Paint.{grown, sixelPainted}
 use Rattle.canvas.proofs.Covers.{and-left, by-test}
 use Rattle.canvas.proofs.Grid.{rows-room}
-use Rattle.frame.specs.declared.Command.{Command}
 use Rattle.frame.specs.declared.Frame.{Frame}
 use Rattle.frame.specs.declared.Ground.{Ground}
 use Rattle.frame.specs.declared.Kind.{Kind}
 use Rattle.frame.specs.declared.Kind.the-variants as kinds
-use Rattle.frame.specs.declared.Outcome.{Outcome}
 use Rattle.frame.specs.declared.Outcome.the-variants as outcomes
 use Rattle.frame.specs.declared.Pen.{Pen}
 use Rattle.frame.specs.declared.Raster.{Raster}

@@ -1,6 +1,6 @@
 // What one byte does.
 ghost use mathlib.Core.Path.{_≡_};
-ghost use Prim.Native.Nat.{_+_, _≤_, _<_, min, max};
+ghost use Prim.Native.Nat.{_+_, _<_, min, max};
 ghost use mathlib.Core.Bool.{cond, _&&_};
 ghost use lib.Dec.{eqb};
 ghost use lib.ListN.{length};
@@ -12,8 +12,6 @@ use crate::Frame;
 use crate::Ground;
 use crate::Kind;
 use crate::Outcome;
-use crate::Pen;
-use crate::Sheet;
 use crate::Stepped;
 use crate::commands::begin;
 use crate::commands::end_command;

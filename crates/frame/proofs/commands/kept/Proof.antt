@@ -2,14 +2,10 @@ use borrow.Author.Needs.{needs}
 use Rattle.frame.proofs.CommandLaws.{rastered}
 use Rattle.frame.proofs.commands.kept.Statement.{statement}
 use Rattle.frame.proofs.commands.kept.Tie as tie
-use Rattle.frame.proofs.commands.kept.Reads as reads
-use Rattle.frame.proofs.commands.kept.Lts as lts
 
--- src/commands.rt:240:9
 returns : tie.Need-returns
 returns c = search (needs, rastered)
 
--- src/commands.rt:236:1
 returns-2 : tie.Need-returns-2
 returns-2 c = search (needs, rastered)
 

@@ -1,39 +1,29 @@
-use Rattle.frame.proofs.CommandLaws.{rastered}
 use borrow.Author.Needs.{needs}
+use Rattle.frame.proofs.CommandLaws.{rastered}
 use Rattle.frame.proofs.commands.quotient.Statement.{statement}
 use Rattle.frame.proofs.commands.quotient.Tie as tie
-use Rattle.frame.proofs.commands.quotient.Reads as reads
-use Rattle.frame.proofs.commands.quotient.Lts as lts
 
--- src/commands.rt:200:9
 returns : tie.Need-returns
 returns c = search (needs, rastered)
 
--- src/commands.rt:202:13
 mul-if2 : tie.Need-mul-if2
 mul-if2 c = search needs
 
--- src/commands.rt:203:9
 returns-2 : tie.Need-returns-2
 returns-2 c = search (needs, rastered)
 
--- src/commands.rt:205:13
 mul-if3 : tie.Need-mul-if3
 mul-if3 c = search needs
 
--- src/commands.rt:206:9
 returns-3 : tie.Need-returns-3
 returns-3 c = search (needs, rastered)
 
--- src/commands.rt:208:13
 mul-if4 : tie.Need-mul-if4
 mul-if4 c = search needs
 
--- src/commands.rt:209:9
 returns-4 : tie.Need-returns-4
 returns-4 c = search (needs, rastered)
 
--- src/commands.rt:194:1
 returns-5 : tie.Need-returns-5
 returns-5 c = search (needs, rastered)
 

@@ -1,67 +1,47 @@
-use Rattle.frame.proofs.CommandLaws.{colored}
 use borrow.Author.Needs.{needs}
+use Rattle.frame.proofs.CommandLaws.{colored}
 use Rattle.frame.proofs.commands.redefine.Statement.{statement}
 use Rattle.frame.proofs.commands.redefine.Tie as tie
-use Rattle.frame.proofs.commands.redefine.Reads as reads
-use Rattle.frame.proofs.commands.redefine.Lts as lts
-use Rattle.colours.proofs.define_hls.Reads as define-hls-reads
-use Rattle.colours.proofs.define_rgb.Reads as define-rgb-reads
-use Rattle.numbers.proofs.Parameters.count.Reads as count-reads
-use Rattle.numbers.proofs.Parameters.value.Reads as value-reads
 
--- src/commands.rt:147:8
 count-requires : tie.Need-count-requires
 count-requires c κs = search needs
 
--- src/commands.rt:148:13
 value-requires : tie.Need-value-requires
 value-requires c κs = search needs
 
--- src/commands.rt:149:17
 value-requires-2 : tie.Need-value-requires-2
 value-requires-2 c κs = search needs
 
--- src/commands.rt:149:17
 cast-x : tie.Need-cast-x
 cast-x c = search (needs, colored)
 
--- src/commands.rt:150:17
 value-requires-3 : tie.Need-value-requires-3
 value-requires-3 c κs = search needs
 
--- src/commands.rt:150:17
 cast-y : tie.Need-cast-y
 cast-y c = search (needs, colored)
 
--- src/commands.rt:151:17
 value-requires-4 : tie.Need-value-requires-4
 value-requires-4 c κs = search needs
 
--- src/commands.rt:151:17
 cast-z : tie.Need-cast-z
 cast-z c = search (needs, colored)
 
--- src/commands.rt:153:13
 define-hls-requires : tie.Need-define-hls-requires
 define-hls-requires c κs = search needs
 
--- src/commands.rt:154:13
 returns : tie.Need-returns
 returns c = search (needs, colored)
 
--- src/commands.rt:157:13
 define-rgb-requires : tie.Need-define-rgb-requires
 define-rgb-requires c κs = search needs
 
--- src/commands.rt:144:1
 returns-2 : tie.Need-returns-2
 returns-2 c = search (needs, colored)
 
--- src/commands.rt:144:1
 returns-3 : tie.Need-returns-3
 returns-3 c = search (needs, colored)
 
--- src/commands.rt:144:1
 returns-4 : tie.Need-returns-4
 returns-4 c = search (needs, colored)
 

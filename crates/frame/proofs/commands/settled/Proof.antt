@@ -2,10 +2,7 @@ use mathlib.Core.Path.{refl}
 use Rattle.frame.specs.Commands.{settledAs}
 use Rattle.frame.proofs.commands.settled.Statement.{statement}
 use Rattle.frame.proofs.commands.settled.Tie as tie
-use Rattle.frame.proofs.commands.settled.Reads as reads
-use Rattle.frame.proofs.commands.settled.Lts as lts
 
--- src/commands.rt:91:1
 returns : tie.Need-returns
 unfolding settledAs
 returns c = refl

@@ -2,14 +2,10 @@ use borrow.Author.Needs.{needs}
 use Rattle.frame.proofs.CommandLaws.{rastered}
 use Rattle.frame.proofs.commands.sizeless.Statement.{statement}
 use Rattle.frame.proofs.commands.sizeless.Tie as tie
-use Rattle.frame.proofs.commands.sizeless.Reads as reads
-use Rattle.frame.proofs.commands.sizeless.Lts as lts
 
--- src/commands.rt:250:9
 returns : tie.Need-returns
 returns c = search (needs, rastered)
 
--- src/commands.rt:246:1
 returns-2 : tie.Need-returns-2
 returns-2 c = search (needs, rastered)
 

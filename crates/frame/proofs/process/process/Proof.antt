@@ -1,14 +1,11 @@
 use native.Mathlib.Omega.{arith}
+use borrow.Author.Needs.{needs}
 use lib.ListN.{length}
 use Rattle.colours.specs.Palette.{ofTable}
 use Rattle.frame.specs.Feed.{feedFrom}
 use Rattle.frame.proofs.FeedLaws.{Going, left-over, turn-ink, turns}
-use borrow.Author.Needs.{needs}
 use Rattle.frame.proofs.process.process.Statement.{statement}
 use Rattle.frame.proofs.process.process.Tie as tie
-use Rattle.frame.proofs.process.process.Reads as reads
-use Rattle.frame.proofs.process.process.Lts as lts
-use Rattle.frame.proofs.step.step.Reads as step-reads
 
 abbrev Inv-loop : tie.InvT-loop
 Inv-loop ground colors₀ canvas₀ bytes allowance now₀ consumed₀ ink₀ colors canvas now consumed ink =
@@ -18,70 +15,55 @@ abbrev μ-loop : tie.MeasureT-loop
 μ-loop ground colors₀ canvas₀ bytes allowance now₀ consumed₀ ink₀ colors canvas now consumed ink =
     left-over bytes consumed now
 
--- src/process.rt:28:5
 loop-holds : tie.Need-loop-holds Inv-loop μ-loop
 loop-holds c = search (needs, turns)
 
--- src/process.rt:29:20
 shared-slice-read-byte : tie.Need-shared-slice-read-byte Inv-loop μ-loop
 shared-slice-read-byte c = search (needs, turns)
 
--- src/process.rt:30:63
 sub-step : tie.Need-sub-step Inv-loop μ-loop
 sub-step c = search (needs, turns)
 
--- src/process.rt:30:13
 step-requires : tie.Need-step-requires Inv-loop μ-loop
 step-requires c κs = search (needs, turns)
 
--- src/process.rt:35:28
 enum-told : tie.Need-enum-told Inv-loop μ-loop
 enum-told c = search (needs, turns)
 
--- src/process.rt:35:28
 add-consumed : tie.Need-add-consumed Inv-loop μ-loop
 add-consumed c =
     let turn = c .before .before .before .before .before .before .before .before .before in
     omega (arith, turn .loop-test .taken, turn .before .before .before .before .good .1 .1 .1 .1 .0 .0)
 
--- src/process.rt:36:23
 add-ink : tie.Need-add-ink Inv-loop μ-loop
 add-ink c =
     let head = c .before .before .before .before .before .before .before .before .before .before .before in
     omega (arith, turn-ink (head .loop .inv) (c .before .before .before .before .before .before .step .ensures), head .before .before .before .fits .allowance)
 
--- src/process.rt:28:5
 loop-less : tie.Need-loop-less Inv-loop μ-loop
 loop-less c = search (needs, turns)
 
--- src/process.rt:28:5
 loop-again : tie.Need-loop-again Inv-loop μ-loop
 loop-again c = search (needs, turns)
 
 enum-told-2 : tie.Need-enum-told-2 Inv-loop μ-loop
 enum-told-2 c = search (needs, turns)
 
--- src/process.rt:28:5
 loop-less-2 : tie.Need-loop-less-2 Inv-loop μ-loop
 loop-less-2 c = search (needs, turns)
 
--- src/process.rt:28:5
 loop-again-2 : tie.Need-loop-again-2 Inv-loop μ-loop
 loop-again-2 c = search (needs, turns)
 
--- src/process.rt:40:17
 same-length : tie.Need-same-length Inv-loop μ-loop
 same-length c = search (needs, turns)
 
--- src/process.rt:40:17
 returns : tie.Need-returns Inv-loop μ-loop
 returns c = search (needs, turns)
 
--- src/process.rt:14:1
 same-length-2 : tie.Need-same-length-2 Inv-loop μ-loop
 same-length-2 c = search (needs, turns)
 
--- src/process.rt:14:1
 returns-2 : tie.Need-returns-2 Inv-loop μ-loop
 returns-2 c = search (needs, turns)
 

@@ -1,19 +1,14 @@
-use Rattle.frame.proofs.SizeLaws.{tested}
 use borrow.Author.Needs.{needs}
+use Rattle.frame.proofs.SizeLaws.{tested}
 use Rattle.frame.proofs.sizes.exceeds.Statement.{statement}
 use Rattle.frame.proofs.sizes.exceeds.Tie as tie
-use Rattle.frame.proofs.sizes.exceeds.Reads as reads
-use Rattle.frame.proofs.sizes.exceeds.Lts as lts
 
--- src/sizes.rt:32:9
 returns : tie.Need-returns
 returns c = search (needs, tested)
 
--- src/sizes.rt:34:5
 div-result : tie.Need-div-result
 div-result c = search needs
 
--- src/sizes.rt:28:1
 returns-2 : tie.Need-returns-2
 returns-2 c = search (needs, tested)
 

@@ -2,14 +2,10 @@ use borrow.Author.Needs.{needs}
 use Rattle.frame.proofs.SizeLaws.{tested}
 use Rattle.frame.proofs.sizes.reaches.Statement.{statement}
 use Rattle.frame.proofs.sizes.reaches.Tie as tie
-use Rattle.frame.proofs.sizes.reaches.Reads as reads
-use Rattle.frame.proofs.sizes.reaches.Lts as lts
 
--- src/sizes.rt:42:9
 returns : tie.Need-returns
 returns c = search (needs, tested)
 
--- src/sizes.rt:38:1
 returns-2 : tie.Need-returns-2
 returns-2 c = search (needs, tested)
 

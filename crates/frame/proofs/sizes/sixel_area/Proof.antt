@@ -1,42 +1,30 @@
 use native.Mathlib.Omega.{arith}
-use Rattle.frame.proofs.SizeLaws.{ends-columns, ends-rows, sized}
 use borrow.Author.Needs.{needs}
+use Rattle.frame.proofs.SizeLaws.{ends-columns, ends-rows, sized}
 use Rattle.frame.proofs.sizes.sixel_area.Statement.{statement}
 use Rattle.frame.proofs.sizes.sixel_area.Tie as tie
-use Rattle.frame.proofs.sizes.sixel_area.Reads as reads
-use Rattle.frame.proofs.sizes.sixel_area.Lts as lts
-use Rattle.frame.proofs.sizes.grown_area.Reads as grown-area-reads
-use Rattle.frame.proofs.sizes.within.Reads as within-reads
 
--- src/sizes.rt:95:8
 within-requires : tie.Need-within-requires
 within-requires c κs = search needs
 
--- src/sizes.rt:96:9
 returns : tie.Need-returns
 returns c = search (needs, sized)
 
--- src/sizes.rt:101:8
 within-requires-2 : tie.Need-within-requires-2
 within-requires-2 c κs = search needs
 
--- src/sizes.rt:102:42
 add-grown-area : tie.Need-add-grown-area
 add-grown-area c = omega (arith, ends-columns (c .before .before .before .before .before .before .before .args .frame .pen) _ _ (c .before .before .within2 .ensures) (c .before .if2 .taken))
 
--- src/sizes.rt:102:67
 add-grown-area-2 : tie.Need-add-grown-area-2
 add-grown-area-2 c = omega (arith, ends-rows (c .before .before .before .before .before .before .before .before .args .frame .pen) _ _ (c .before .before .before .within2 .ensures) (c .before .before .if2 .taken), c .before .before .before .before .before .before .before .before .good .1)
 
--- src/sizes.rt:102:9
 grown-area-requires : tie.Need-grown-area-requires
 grown-area-requires c κs = search needs
 
--- src/sizes.rt:102:9
 returns-2 : tie.Need-returns-2
 returns-2 c = search (needs, sized)
 
--- src/sizes.rt:92:1
 returns-3 : tie.Need-returns-3
 returns-3 c = search (needs, sized)
 

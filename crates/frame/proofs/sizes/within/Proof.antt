@@ -1,24 +1,17 @@
-use Rattle.frame.proofs.SizeLaws.{tested}
 use borrow.Author.Needs.{needs}
+use Rattle.frame.proofs.SizeLaws.{tested}
 use Rattle.frame.proofs.sizes.within.Statement.{statement}
 use Rattle.frame.proofs.sizes.within.Tie as tie
-use Rattle.frame.proofs.sizes.within.Reads as reads
-use Rattle.frame.proofs.sizes.within.Lts as lts
-use Rattle.frame.proofs.sizes.reaches.Reads as reaches-reads
 
--- src/sizes.rt:85:8
 reaches-requires : tie.Need-reaches-requires
 reaches-requires c κs = search needs
 
--- src/sizes.rt:86:9
 reaches-requires-2 : tie.Need-reaches-requires-2
 reaches-requires-2 c κs = search needs
 
--- src/sizes.rt:86:9
 returns : tie.Need-returns
 returns c = search (needs, tested)
 
--- src/sizes.rt:82:1
 returns-2 : tie.Need-returns-2
 returns-2 c = search (needs, tested)
 

@@ -1,58 +1,41 @@
-use Rattle.frame.proofs.StepLaws.{effects}
 use borrow.Author.Needs.{needs}
+use Rattle.frame.proofs.StepLaws.{effects}
 use Rattle.frame.proofs.step.own_effect.Statement.{statement}
 use Rattle.frame.proofs.step.own_effect.Tie as tie
-use Rattle.frame.proofs.step.own_effect.Reads as reads
-use Rattle.frame.proofs.step.own_effect.Lts as lts
-use Rattle.frame.proofs.commands.begin.Reads as begin-reads
-use Rattle.frame.proofs.step.moved.Reads as moved-reads
-use Rattle.frame.proofs.step.row_below.Reads as row-below-reads
 
--- src/step.rt:174:9
 begin-requires : tie.Need-begin-requires
 begin-requires c κs = search needs
 
--- src/step.rt:174:9
 returns : tie.Need-returns
 returns c = search (needs, effects)
 
--- src/step.rt:177:9
 begin-requires-2 : tie.Need-begin-requires-2
 begin-requires-2 c κs = search needs
 
--- src/step.rt:177:9
 returns-2 : tie.Need-returns-2
 returns-2 c = search (needs, effects)
 
--- src/step.rt:180:9
 moved-requires : tie.Need-moved-requires
 moved-requires c κs = search needs
 
--- src/step.rt:180:9
 returns-3 : tie.Need-returns-3
 returns-3 c = search (needs, effects)
 
--- src/step.rt:183:29
 row-below-requires : tie.Need-row-below-requires
 row-below-requires c κs = search needs
 
--- src/step.rt:183:9
 moved-requires-2 : tie.Need-moved-requires-2
 moved-requires-2 c κs = search needs
 
--- src/step.rt:183:9
 returns-4 : tie.Need-returns-4
 returns-4 c = search (needs, effects)
 
--- src/step.rt:186:9
 begin-requires-3 : tie.Need-begin-requires-3
 begin-requires-3 c κs = search needs
 
--- src/step.rt:186:9
 returns-5 : tie.Need-returns-5
 returns-5 c = search (needs, effects)
 
--- src/step.rt:169:1
 returns-6 : tie.Need-returns-6
 returns-6 c = search (needs, effects)
 

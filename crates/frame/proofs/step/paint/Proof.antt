@@ -1,50 +1,37 @@
-use Rattle.frame.proofs.StepLaws.{drawing, ink-room, sixel-room}
 use native.Mathlib.Omega.{arith}
+use borrow.Author.Needs.{needs}
+use denote.Ref.{now}
 use lib.Count.{ones-le}
 use lib.ListN.{length}
-use denote.Ref.{now}
-use borrow.Author.Needs.{needs}
+use Rattle.frame.proofs.StepLaws.{drawing, ink-room, sixel-room}
 use Rattle.frame.proofs.step.paint.Statement.{statement}
 use Rattle.frame.proofs.step.paint.Tie as tie
-use Rattle.frame.proofs.step.paint.Reads as reads
-use Rattle.frame.proofs.step.paint.Lts as lts
-use Rattle.canvas.proofs.grow.Reads as grow-reads
-use Rattle.canvas.proofs.paint_sixel.Reads as paint-sixel-reads
-use Rattle.frame.proofs.step.after_sixel.Reads as after-sixel-reads
 
--- src/step.rt:94:16
 cast-ones : tie.Need-cast-ones
 cast-ones c = omega (arith, ones-le 8 (c .before .args .bits) (c .before .fits .bits .fits))
 
--- src/step.rt:95:15
 mul-ink : tie.Need-mul-ink
 mul-ink c =
     let s = c .before .before in
     omega (arith, ink-room (s .args .frame) (s .args .ground) (s .args .bits) (s .args .width) (s .args .height) (length (now (s .args .canvas))) (s .fits .bits .fits) (s .pre .0) (s .pre .1))
 
--- src/step.rt:97:9
 returns : tie.Need-returns
 returns c = search (needs, drawing)
 
--- src/step.rt:105:5
 grow-requires : tie.Need-grow-requires
 grow-requires c κs = search needs
 
--- src/step.rt:114:5
 paint-sixel-requires : tie.Need-paint-sixel-requires
 paint-sixel-requires c κs =
     let s = c .before .before .before .before .before .before .before .before .before .before in
     sixel-room (s .args .frame) (s .args .ground) _ _ _ _ (c .before .before .before .grow .kept .0) (s .pre .0) (s .pre .1)
 
--- src/step.rt:124:16
 after-sixel-requires : tie.Need-after-sixel-requires
 after-sixel-requires c κs = search needs
 
--- src/step.rt:80:1
 same-length : tie.Need-same-length
 same-length c = search needs
 
--- src/step.rt:80:1
 returns-2 : tie.Need-returns-2
 returns-2 c = search (needs, drawing)
 

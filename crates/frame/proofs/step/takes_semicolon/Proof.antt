@@ -1,39 +1,29 @@
-use Rattle.frame.proofs.StepLaws.{arguments}
 use borrow.Author.Needs.{needs}
+use Rattle.frame.proofs.StepLaws.{arguments}
 use Rattle.frame.proofs.step.takes_semicolon.Statement.{statement}
 use Rattle.frame.proofs.step.takes_semicolon.Tie as tie
-use Rattle.frame.proofs.step.takes_semicolon.Reads as reads
-use Rattle.frame.proofs.step.takes_semicolon.Lts as lts
 
--- src/step.rt:218:23
 enum-told : tie.Need-enum-told
 enum-told c = search needs
 
--- src/step.rt:219:25
 enum-told-2 : tie.Need-enum-told-2
 enum-told-2 c = search needs
 
--- src/step.rt:220:24
 enum-told-3 : tie.Need-enum-told-3
 enum-told-3 c = search needs
 
--- src/step.rt:221:25
 enum-told-4 : tie.Need-enum-told-4
 enum-told-4 c = search needs
 
--- src/step.rt:214:1
 returns : tie.Need-returns
 returns c = search (needs, arguments)
 
--- src/step.rt:214:1
 returns-2 : tie.Need-returns-2
 returns-2 c = search (needs, arguments)
 
--- src/step.rt:214:1
 returns-3 : tie.Need-returns-3
 returns-3 c = search (needs, arguments)
 
--- src/step.rt:214:1
 returns-4 : tie.Need-returns-4
 returns-4 c = search (needs, arguments)
 
