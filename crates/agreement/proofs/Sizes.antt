@@ -85,7 +85,7 @@ within-allowed {s} {a} w h f p q =
     }
 
 -- an allowed size is not refused
-allowed-none : {s : Setting} {a : Area} {w h : ℕ} → Allowed s a w h → sizeRefusal s a w h ≡ none
+pub allowed-none : {s : Setting} {a : Area} {w h : ℕ} → Allowed s a w h → sizeRefusal s a w h ≡ none
 unfolding sizeRefusal
 allowed-none k = simp (le-ltb _ _ (k .width), le-ltb _ _ (k .height), le-ltb _ _ (k .pixels), le-ltb _ _ (k .stride), le-ltb _ _ (k .rows))
 

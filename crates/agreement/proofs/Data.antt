@@ -1,0 +1,129 @@
+-- A byte while no command is pending does in the code what it does in the definition.
+use Prim.Native.Nat.{ℕ, suc, _+_, _-_, _*_, _≤_, _<_, min, max}
+use native.Mathlib.Omega.{arith}
+use mathlib.Core.Path.{_≡_, refl, sym, ap, ap₂, _∙_, subst}
+use mathlib.Core.Bool.{Bool, true, false, cond}
+use mathlib.Core.Option.{Option, none, some}
+use mathlib.Core.List.{List, [], _∷_, _++_}
+use borrow.Author.Tests.{ltb-true, ltb-false, eqb-true}
+use lib.Count.{ones}
+use lib.Dec.{leb, ltb, eqb}
+use Rattle.numbers.specs.Bytes.{skipped, digit, sixel, ends, bang, quote, hash, dollar, dash}
+use Rattle.numbers.specs.Step as numbers
+use Rattle.numbers.proofs.Reading.{read-none}
+use Rattle.numbers.proofs.Repeat.{counted-none}
+use Rattle.colours.specs.declared.Palette.{Palette}
+use Rattle.frame.specs.declared.Command.{Command}
+use Rattle.frame.specs.declared.Ground.{Ground}
+use Rattle.frame.specs.declared.Kind.the-variants as kinds
+use Rattle.frame.specs.declared.Outcome.the-variants as outcomes
+use Rattle.frame.specs.declared.Refusal.{Refusal}
+use Rattle.frame.specs.Numbers.{numberOf}
+use Rattle.frame.specs.Commands.{begun, withCommand}
+use Rattle.frame.specs.Step.{Turned, readAs, movedTo, ownOf, dataStep, rowCeiling}
+use Rattle.meaning.specs.Commands.{Begun, return, line, own, scanByte, closed}
+use Rattle.meaning.specs.Drawing.{Setting, Pen, Drawing, withPen, moved, drawCommand, drawAll, andThen, inkOfAll}
+use Rattle.meaning.specs.Payload.{Parameters}
+use Rattle.meaning.specs.Reader.{Step, next, halt, refuse}
+use Rattle.meaning.specs.Sessions.{Reading, settled, rested, endedAt, wentOn, readByte, payloadStep}
+use Rattle.meaning.proofs.AreaLaws.{Sound, command-drawn}
+use Rattle.agreement.specs.Same.{groundOf, penOf, sheetOf, rasterOf, frameOf, canvasOf, Bounded, SameDrawing, SameBegun, Same}
+
+-- ---- what a byte comes to in the definition and in the code
+
+-- the two stand for each other after a step
+abbrev pub SameAfter : Setting → List ℕ → Reading → Ground → Turned → Type 0
+SameAfter s opening r g t = Same s opening r g (t .stepped .frame) (t .palette) (t .canvas)
+
+-- the byte is read, with its ink; or its ink exceeds what is left, and the begun command alone has been carried out; or it ends the payload;
+-- or it is refused
+pub data Agrees (s : Setting) (opening : List ℕ) (r : Reading) (g : Ground) (b left : ℕ) : Step Reading → Turned → Type 0 where
+  reads : {u : Reading} {i : ℕ} {t : Turned} → i ≤ left → u .over ≡ none → t .stepped .outcome ≡ outcomes.Read → t .stepped .ink ≡ i
+      → SameAfter s opening u g t → Agrees s opening r g b left (next u i) t
+  stops : {u : Reading} {i : ℕ} {t : Turned} → left < i → t .stepped .outcome ≡ outcomes.Stopped → SameAfter s opening (rested s r) g t
+      → Agrees s opening r g b left (next u i) t
+  halts : {u : Reading} {t : Turned} → u .over ≡ some b → t .stepped .outcome ≡ outcomes.Ended b → SameAfter s opening u g t
+      → Agrees s opening r g b left (halt u) t
+  refuses : {u : Reading} {n : ℕ} {t : Turned} (why : Refusal) → numberOf why ≡ n → t .stepped .outcome ≡ outcomes.Refused why
+      → SameDrawing s opening (u .drawing) g (t .stepped .frame) (t .palette) (t .canvas) → Agrees s opening r g b left (refuse u n) t
+
+-- a reading with no begun command
+abbrev pub plain : Parameters → ℕ → Drawing → Reading
+plain o n d = record { parameters = o; passed = n; begun = none; drawing = d; over = none }
+
+-- a byte that is read and draws nothing
+pub quietly : {s : Setting} {opening : List ℕ} {r u : Reading} {g : Ground} {b left : ℕ} {t : Turned} (x : ℕ) → u .over ≡ none
+    → t .stepped .outcome ≡ outcomes.Read → t .stepped .ink ≡ 0 → SameAfter s opening u g t → Agrees s opening r g b left (next u (x - x)) t
+quietly x over e ink same =
+    let nothing : 0 ≡ x - x = omega arith in
+    reads {i = x - x} (omega arith) over e (ink ∙ nothing) same
+
+-- one value whatever a test says
+cond-same : {A : Type 0} (t : Bool) (x : A) → cond t x x ≡ x
+cond-same true x = refl
+cond-same false x = refl
+
+module _ {s : Setting} (bounded : Bounded s) (opening : List ℕ) (o : Parameters) (n : ℕ) {d : Drawing} (sound : Sound s d) (c : Command) (idle : c .kind ≡ kinds.Data) where
+  -- the code's ground and its step
+  abbrev ground : Ground
+  ground = groundOf s (d .background)
+
+  abbrev step : ℕ → ℕ → Turned
+  step b left = dataStep (frameOf d c) (groundOf s (d .background)) b left (d .palette) (canvasOf s d opening)
+
+  abbrev AgreesAt : ℕ → ℕ → Type 0
+  AgreesAt b left = Agrees s opening (plain o n d) (groundOf s (d .background)) b left (payloadStep s (plain o n d) b) (step b left)
+
+  -- the drawing as it was
+  kept : (k : Command) → SameDrawing s opening d (groundOf s (d .background)) (frameOf d k) (d .palette) (canvasOf s d opening)
+  unfolding frameOf
+  kept k = record { bounded = bounded; sound = sound; ground = refl; frame = refl; palette = refl; canvas = refl }
+
+  -- a command begins
+  hash-agrees : (left : ℕ) → AgreesAt hash left
+  unfolding dataStep payloadStep readByte scanByte drawAll frameOf sixel ends skipped
+  hash-agrees left = quietly _ refl refl refl (record { drawing = kept _; begun = (refl, read-none 5) })
+
+  bang-agrees : (left : ℕ) → AgreesAt bang left
+  unfolding dataStep payloadStep readByte scanByte drawAll frameOf sixel ends skipped
+  bang-agrees left = quietly _ refl refl refl (record { drawing = kept _; begun = (refl, counted-none) })
+
+  quote-agrees : (left : ℕ) → AgreesAt quote left
+  unfolding dataStep payloadStep readByte scanByte drawAll frameOf sixel ends skipped
+  quote-agrees left = quietly _ refl refl refl (record { drawing = kept _; begun = (refl, read-none 4) })
+
+  -- the pen moves to column 0 and a row
+  moved-same : (row held : ℕ) → held ≡ min row rowCeiling
+      → SameDrawing s opening (withPen d (moved (d .pen) 0 row)) ground (movedTo (frameOf d c) held) (d .palette) (canvasOf s d opening)
+  unfolding withPen moved movedTo frameOf canvasOf
+  moved-same row held e =
+      record {
+        bounded = bounded;
+        sound = record { fits = sound .fits; strokes = sound .strokes; repeats = sound .repeats };
+        ground = refl;
+        frame = ap (movedTo (frameOf d c)) e;
+        palette = refl;
+        canvas = refl;
+      }
+
+  dollar-agrees : (left : ℕ) → AgreesAt dollar left
+  unfolding dataStep payloadStep readByte scanByte drawAll andThen drawCommand frameOf sixel ends skipped
+  dollar-agrees left = quietly _ refl refl refl (record { drawing = moved-same _ _ refl; begun = idle })
+
+  dash-agrees : (left : ℕ) → AgreesAt dash left
+  unfolding dataStep payloadStep readByte scanByte drawAll andThen drawCommand frameOf sixel ends skipped
+  dash-agrees left =
+      let held : min (min (d .pen .row) rowCeiling + 6) rowCeiling ≡ min (d .pen .row + 6) rowCeiling = omega arith in
+      quietly _ refl refl refl (record { drawing = moved-same _ _ held; begun = idle })
+
+  -- the end of the payload
+  end-agrees : (b left : ℕ) → sixel b ≡ false → ends b ≡ true → AgreesAt b left
+  unfolding dataStep payloadStep readByte endedAt settled closed drawAll frameOf
+  end-agrees b left e₁ e₂ = simp (e₁, e₂) (halts refl refl (record { drawing = kept c; begun = idle }))
+
+  -- a byte that does nothing
+  other-agrees : (b left : ℕ) → sixel b ≡ false → ends b ≡ false → eqb b hash ≡ false → eqb b bang ≡ false → eqb b dollar ≡ false → eqb b dash ≡ false
+      → eqb b quote ≡ false → AgreesAt b left
+  unfolding dataStep payloadStep readByte scanByte drawAll frameOf
+  other-agrees b left e₁ e₂ e₃ e₄ e₅ e₆ e₇ =
+      simp (e₁, e₂, e₃, e₄, e₅, e₆, e₇, cond-same) (quietly _ refl refl refl (record { drawing = kept c; begun = idle }))
