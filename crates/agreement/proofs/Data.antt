@@ -5,7 +5,7 @@ use mathlib.Core.Path.{_≡_, refl, sym, ap, ap₂, _∙_, subst}
 use mathlib.Core.Bool.{Bool, true, false, cond}
 use mathlib.Core.Option.{Option, none, some}
 use mathlib.Core.List.{List, [], _∷_, _++_}
-use borrow.Author.Tests.{ltb-true, ltb-false, eqb-true}
+use borrow.Author.Tests.{ltb-true, ltb-false, eqb-true, ne-eqb, le-leb, lt-leb}
 use lib.Count.{ones}
 use lib.Dec.{leb, ltb, eqb}
 use Rattle.numbers.specs.Bytes.{skipped, digit, sixel, ends, bang, quote, hash, dollar, dash}
@@ -13,21 +13,27 @@ use Rattle.numbers.specs.Step as numbers
 use Rattle.numbers.proofs.Reading.{read-none}
 use Rattle.numbers.proofs.Repeat.{counted-none}
 use Rattle.colours.specs.declared.Palette.{Palette}
+use Rattle.canvas.specs.Picture.{Stroke, reach}
+use Rattle.canvas.proofs.Covers.{by-test}
 use Rattle.frame.specs.declared.Command.{Command}
 use Rattle.frame.specs.declared.Ground.{Ground}
 use Rattle.frame.specs.declared.Kind.the-variants as kinds
 use Rattle.frame.specs.declared.Outcome.the-variants as outcomes
 use Rattle.frame.specs.declared.Refusal.{Refusal}
+use Rattle.frame.specs.declared.sizes.Needed.{Needed}
 use Rattle.frame.specs.Numbers.{numberOf}
 use Rattle.frame.specs.Commands.{begun, withCommand}
-use Rattle.frame.specs.Step.{Turned, readAs, movedTo, ownOf, dataStep, rowCeiling}
-use Rattle.meaning.specs.Commands.{Begun, return, line, own, scanByte, closed}
-use Rattle.meaning.specs.Drawing.{Setting, Pen, Drawing, withPen, moved, drawCommand, drawAll, andThen, inkOfAll}
+use Rattle.frame.specs.Step.{Turned, readAs, inked, canvasAfter, paintedOn, drawnIn, drawnBy, movedTo, ownOf, dataStep, rowCeiling}
+use Rattle.meaning.specs.Commands.{Begun, return, line, draw, Placed, Scanned, does, own, scanByte, closed}
+use Rattle.meaning.specs.Drawing.{Setting, Pen, Drawing, withPen, moved, unless, strokeOf, stroked, sixelled, drawCommand, drawAll, andThen, inkOf, inkOfAll}
 use Rattle.meaning.specs.Payload.{Parameters}
 use Rattle.meaning.specs.Reader.{Step, next, halt, refuse}
 use Rattle.meaning.specs.Sessions.{Reading, settled, rested, endedAt, wentOn, readByte, payloadStep}
-use Rattle.meaning.proofs.AreaLaws.{Sound, command-drawn}
+use Rattle.meaning.proofs.AreaLaws.{Allowed, Sound}
+use Rattle.meaning.proofs.InkLaws.{ink-append, sixel-range, scan-sixel}
 use Rattle.agreement.specs.Same.{groundOf, penOf, sheetOf, rasterOf, frameOf, canvasOf, Bounded, SameDrawing, SameBegun, Same}
+use Rattle.agreement.proofs.Sizes.{Sized, allows, turns, sixel-sized}
+use Rattle.agreement.proofs.Sixel.{stroke-same}
 
 -- ---- what a byte comes to in the definition and in the code
 
@@ -62,6 +68,18 @@ quietly x over e ink same =
 cond-same : {A : Type 0} (t : Bool) (x : A) → cond t x x ≡ x
 cond-same true x = refl
 cond-same false x = refl
+
+-- a stroke's ink is what it adds
+stroke-ink : (d : Drawing) (bits : ℕ) → inkOfAll (d .strokes ++ strokeOf bits d ∷ []) - inkOfAll (d .strokes) ≡ ones bits * d .pen .repeats
+unfolding inkOfAll inkOf strokeOf
+stroke-ink d bits = let sum = ink-append (d .strokes) (strokeOf bits d ∷ []) in omega arith
+
+-- a sixel does not end the payload
+sixel-ends : (b : ℕ) → sixel b ≡ true → ends b ≡ false
+unfolding ends
+sixel-ends b e =
+    let p : (63 ≤ b) × (b ≤ 126) = sixel-range b e in
+    simp (ne-eqb b 0x18 (omega arith), le-leb 0x1A b (omega arith), lt-leb b 0x1B (omega arith), lt-leb 0x80 b (omega arith))
 
 module _ {s : Setting} (bounded : Bounded s) (opening : List ℕ) (o : Parameters) (n : ℕ) {d : Drawing} (sound : Sound s d) (c : Command) (idle : c .kind ≡ kinds.Data) where
   -- the code's ground and its step
@@ -127,3 +145,65 @@ module _ {s : Setting} (bounded : Bounded s) (opening : List ℕ) (o : Parameter
   unfolding dataStep payloadStep readByte scanByte drawAll frameOf
   other-agrees b left e₁ e₂ e₃ e₄ e₅ e₆ e₇ =
       simp (e₁, e₂, e₃, e₄, e₅, e₆, e₇, cond-same) (quietly _ refl refl refl (record { drawing = kept c; begun = idle }))
+
+  -- a stroke is painted where its ink is within what is left, else the call stops
+  painted-agrees : (b bits left : ℕ) {w h : ℕ} → Allowed s (d .area) (d .pen .column + d .pen .repeats) (d .pen .row + 6)
+      → w ≡ reach (d .area) (strokeOf bits d) .width → h ≡ reach (d .area) (strokeOf bits d) .height
+      → Agrees s opening (plain o n d) ground b left
+      (wentOn (plain o n d) (record { begun = none; ended = [] }) (record { drawing = stroked d (strokeOf bits d); refusal = none }))
+      (paintedOn (frameOf d c) ground bits left w h (d .palette) (canvasOf s d opening))
+  unfolding wentOn paintedOn rested settled closed drawAll stroked frameOf
+  painted-agrees b bits left {w} {h} allowed p q = go (ltb left ink) refl
+    where
+      ink : ℕ
+      ink = ones bits * d .pen .repeats
+
+      added : ℕ
+      added = inkOfAll (d .strokes ++ strokeOf bits d ∷ []) - inkOfAll (d .strokes)
+
+      go : (t : Bool) → ltb left ink ≡ t
+          → Agrees s opening (plain o n d) ground b left
+          (wentOn (plain o n d) (record { begun = none; ended = [] }) (record { drawing = stroked d (strokeOf bits d); refusal = none }))
+          (cond t
+          (record { stepped = record { frame = frameOf d c; ink = 0; outcome = outcomes.Stopped }; palette = d .palette; canvas = canvasOf s d opening })
+          (record {
+            stepped = readAs (inked (frameOf d c) bits w h) ink;
+            palette = d .palette;
+            canvas = canvasAfter (frameOf d c) ground bits w h (canvasOf s d opening);
+          }))
+      go true e =
+          let beyond : left < added = omega (arith, ltb-true left ink e, stroke-ink d bits) in
+          stops beyond refl (record { drawing = kept c; begun = idle })
+      go false e =
+          let within : added ≤ left = omega (arith, ltb-false left ink e, stroke-ink d bits) in
+          reads within refl refl (sym (stroke-ink d bits)) (record { drawing = stroke-same bounded opening sound bits allowed c p q; begun = idle })
+
+  -- a sixel, with its size known
+  drawn-agrees : (b bits left : ℕ) {x : Needed} {y : Option ℕ}
+      → Sized s (d .area) (d .pen .column + d .pen .repeats) (d .pen .row + 6) x y
+      → Agrees s opening (plain o n d) ground b left
+      (wentOn (plain o n d) (record { begun = none; ended = [] }) (andThen d (unless y (stroked d (strokeOf bits d))) (drawAll s [])))
+      (drawnIn x (frameOf d c) ground bits left (d .palette) (canvasOf s d opening))
+  unfolding wentOn andThen unless drawAll drawnIn reach
+  drawn-agrees b bits left (allows allowed p q) = painted-agrees b bits left allowed p q
+  drawn-agrees b bits left (turns why e) = refuses why e refl (kept c)
+
+  -- a sixel
+  sixel-agrees : (b left : ℕ) → sixel b ≡ true → AgreesAt b left
+  unfolding payloadStep readByte does closed drawAll drawCommand sixelled dataStep drawnBy frameOf
+  sixel-agrees b left e =
+      rw (sixel-ends b e, scan-sixel n none b e, e) (drawn-agrees b (b - 63) left (sixel-sized sound (d .background) bounded (d .pen)))
+
+  -- a byte while no command is pending
+  pub data-agrees : (b left : ℕ) → AgreesAt b left
+  data-agrees b left =
+      by-test (sixel b) (sixel-agrees b left)
+      λ e₁. by-test (ends b) (end-agrees b left e₁)
+      λ e₂. by-test (eqb b hash) (λ e. known e (hash-agrees left))
+      λ e₃. by-test (eqb b bang) (λ e. known e (bang-agrees left))
+      λ e₄. by-test (eqb b dollar) (λ e. known e (dollar-agrees left))
+      λ e₅. by-test (eqb b dash) (λ e. known e (dash-agrees left))
+      λ e₆. by-test (eqb b quote) (λ e. known e (quote-agrees left)) (other-agrees b left e₁ e₂ e₃ e₄ e₅ e₆)
+    where
+      known : {k : ℕ} → eqb b k ≡ true → AgreesAt k left → AgreesAt b left
+      known {k} e = subst (λ (m : ℕ). AgreesAt m left) (sym (eqb-true b k e))
