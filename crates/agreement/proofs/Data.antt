@@ -65,7 +65,7 @@ quietly x over e ink same =
     reads {i = x - x} (omega arith) over e (ink ∙ nothing) same
 
 -- one value whatever a test says
-cond-same : {A : Type 0} (t : Bool) (x : A) → cond t x x ≡ x
+pub cond-same : {A : Type 0} (t : Bool) (x : A) → cond t x x ≡ x
 cond-same true x = refl
 cond-same false x = refl
 
