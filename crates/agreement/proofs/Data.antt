@@ -74,12 +74,14 @@ stroke-ink : (d : Drawing) (bits : ℕ) → inkOfAll (d .strokes ++ strokeOf bit
 unfolding inkOfAll inkOf strokeOf
 stroke-ink d bits = let sum = ink-append (d .strokes) (strokeOf bits d ∷ []) in omega arith
 
--- a sixel does not end the payload
-sixel-ends : (b : ℕ) → sixel b ≡ true → ends b ≡ false
+-- no byte from 1C to 7F ends the payload
+pub unended : (b : ℕ) → 0x1C ≤ b → b ≤ 0x7F → ends b ≡ false
 unfolding ends
-sixel-ends b e =
-    let p : (63 ≤ b) × (b ≤ 126) = sixel-range b e in
-    simp (ne-eqb b 0x18 (omega arith), le-leb 0x1A b (omega arith), lt-leb b 0x1B (omega arith), lt-leb 0x80 b (omega arith))
+unended b p q = simp (ne-eqb b 0x18 (omega arith), le-leb 0x1A b (omega arith), lt-leb b 0x1B (omega arith), lt-leb 0x80 b (omega arith))
+
+-- nor does a sixel
+sixel-ends : (b : ℕ) → sixel b ≡ true → ends b ≡ false
+sixel-ends b e = let p : (63 ≤ b) × (b ≤ 126) = sixel-range b e in unended b (omega arith) (omega arith)
 
 module _ {s : Setting} (bounded : Bounded s) (opening : List ℕ) (o : Parameters) (n : ℕ) {d : Drawing} (sound : Sound s d) (c : Command) (idle : c .kind ≡ kinds.Data) where
   -- the code's ground and its step

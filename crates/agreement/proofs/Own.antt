@@ -6,7 +6,7 @@ use mathlib.Core.Option.{Option, none, some}
 use mathlib.Core.List.{List, [], _∷_, _++_, append-nil}
 use lib.Dec.{eqb}
 use Rattle.numbers.specs.Bytes.{skipped, sixel, ends, bang, quote, hash, dollar, dash}
-use Rattle.meaning.specs.Commands.{repeat, colour, raster, return, line, draw, Placed, Begun, taken, Scanned, closed, begins, does, own, scanByte}
+use Rattle.meaning.specs.Commands.{repeat, colour, raster, return, line, draw, Placed, Begun, taken, longer, Scanned, closed, begins, does, own, scanByte}
 use Rattle.meaning.specs.Drawing.{Setting, Drawing, Outcome, drawAll, inkOfAll}
 use Rattle.meaning.specs.Reader.{Step, next, halt, refuse}
 use Rattle.meaning.specs.Sessions.{Reading, settled, rested, endedAt, wentOn, readByte, payloadStep}
@@ -114,3 +114,33 @@ module _ (s : Setting) (r : Reading) (b : ℕ) (going : r .over ≡ none) (unski
 
       went : Option ℕ → Step Reading
       went o = wentOn r alone (record { drawing = settled s r .drawing; refusal = o })
+
+-- ---- a byte that goes on with the begun command
+
+-- one byte more, and this command has begun
+unfoldable pub passedWith : Reading → Option Begun → Reading
+passedWith r k = record { parameters = r .parameters; passed = suc (r .passed); begun = k; drawing = r .drawing; over = none }
+
+module _ (s : Setting) (r : Reading) (b : ℕ) (going : r .over ≡ none) (unended : ends b ≡ false) where
+  -- a byte that ends no command draws nothing
+  goes-on : {k : Option Begun} → scanByte (r .passed) (r .begun) b ≡ record { begun = k; ended = [] }
+      → payloadStep s r b ≡ next (passedWith r k) (inkOfAll (r .drawing .strokes) - inkOfAll (r .drawing .strokes))
+  unfolding payloadStep readByte wentOn drawAll passedWith
+  goes-on scans =
+      ap (λ (o : Option ℕ). elim o [ none ↦ readByte s r b | some e ↦ halt r ]) going
+      ∙ ap (λ (t : Bool). cond t (endedAt b r (settled s r)) (went (scanByte (r .passed) (r .begun) b))) unended
+      ∙ ap went scans
+    where
+      went : Scanned → Step Reading
+      went c = wentOn r c (drawAll s (c .ended) (r .drawing))
+
+  -- a skipped byte
+  pub payload-skips : skipped b ≡ true → payloadStep s r b ≡ next (passedWith r (r .begun)) (inkOfAll (r .drawing .strokes) - inkOfAll (r .drawing .strokes))
+  unfolding scanByte
+  payload-skips e = goes-on (rw e)
+
+  -- a byte that the begun command takes
+  pub payload-takes : skipped b ≡ false → taken (r .begun) b ≡ true
+      → payloadStep s r b ≡ next (passedWith r (longer (r .begun) b)) (inkOfAll (r .drawing .strokes) - inkOfAll (r .drawing .strokes))
+  unfolding scanByte
+  payload-takes e t = goes-on (rw (e, t))
