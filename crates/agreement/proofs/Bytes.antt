@@ -141,6 +141,7 @@ with-command c same =
     record {
       bounded = same .bounded;
       sound = same .sound;
+      rated = same .rated;
       ground = same .ground;
       frame = ap (λ (f : Frame). withCommand f c) (same .frame);
       palette = same .palette;
@@ -153,7 +154,7 @@ idle-agrees : {s : Setting} {opening : List ℕ} {r : Reading} {g : Ground} {f :
 idle-agrees {s} {opening} {r} {g} {f} {p} {l} same none-begun going b left =
     subst (λ (u : Reading). Agrees s opening u g b left (payloadStep s u b) (dataStep f g b left p l)) (sym is-plain)
     (same-fact (λ g f p l. Agrees s opening at-rest g b left (payloadStep s at-rest b) (dataStep f g b left p l)) (same .drawing)
-    (data-agrees (same .drawing .bounded) opening (r .parameters) (r .passed) (same .drawing .sound) (f .command) kind b left))
+    (data-agrees (same .drawing .bounded) opening (r .parameters) (r .passed) (same .drawing .sound) (same .drawing .rated) (f .command) kind b left))
   where
     at-rest : Reading
     at-rest = plain (r .parameters) (r .passed) (r .drawing)

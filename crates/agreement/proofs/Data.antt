@@ -31,7 +31,7 @@ use Rattle.meaning.specs.Reader.{Step, next, halt, refuse}
 use Rattle.meaning.specs.Sessions.{Reading, settled, rested, endedAt, wentOn, readByte, payloadStep}
 use Rattle.meaning.proofs.AreaLaws.{Allowed, Sound}
 use Rattle.meaning.proofs.InkLaws.{ink-append, sixel-range, scan-sixel}
-use Rattle.agreement.specs.Same.{groundOf, penOf, sheetOf, rasterOf, frameOf, canvasOf, Bounded, SameDrawing, SameBegun, Same}
+use Rattle.agreement.specs.Same.{groundOf, penOf, sheetOf, rasterOf, frameOf, canvasOf, Rated, Bounded, SameDrawing, SameBegun, Same}
 use Rattle.agreement.proofs.Sizes.{Sized, allows, turns, sixel-sized}
 use Rattle.agreement.proofs.Sixel.{stroke-same}
 
@@ -83,7 +83,8 @@ unended b p q = simp (ne-eqb b 0x18 (omega arith), le-leb 0x1A b (omega arith), 
 sixel-ends : (b : ℕ) → sixel b ≡ true → ends b ≡ false
 sixel-ends b e = let p : (63 ≤ b) × (b ≤ 126) = sixel-range b e in unended b (omega arith) (omega arith)
 
-module _ {s : Setting} (bounded : Bounded s) (opening : List ℕ) (o : Parameters) (n : ℕ) {d : Drawing} (sound : Sound s d) (c : Command) (idle : c .kind ≡ kinds.Data) where
+module _ {s : Setting} (bounded : Bounded s) (opening : List ℕ) (o : Parameters) (n : ℕ) {d : Drawing} (sound : Sound s d)
+    (rated : Rated (d .raster .ratio)) (c : Command) (idle : c .kind ≡ kinds.Data) where
   -- the code's ground and its step
   abbrev ground : Ground
   ground = groundOf s (d .background)
@@ -97,7 +98,7 @@ module _ {s : Setting} (bounded : Bounded s) (opening : List ℕ) (o : Parameter
   -- the drawing as it was
   kept : (k : Command) → SameDrawing s opening d (groundOf s (d .background)) (frameOf d k) (d .palette) (canvasOf s d opening)
   unfolding frameOf
-  kept k = record { bounded = bounded; sound = sound; ground = refl; frame = refl; palette = refl; canvas = refl }
+  kept k = record { bounded = bounded; sound = sound; rated = rated; ground = refl; frame = refl; palette = refl; canvas = refl }
 
   -- a command begins
   hash-agrees : (left : ℕ) → AgreesAt hash left
@@ -120,6 +121,7 @@ module _ {s : Setting} (bounded : Bounded s) (opening : List ℕ) (o : Parameter
       record {
         bounded = bounded;
         sound = record { fits = sound .fits; strokes = sound .strokes; repeats = sound .repeats };
+        rated = rated;
         ground = refl;
         frame = ap (movedTo (frameOf d c)) e;
         palette = refl;
@@ -178,7 +180,7 @@ module _ {s : Setting} (bounded : Bounded s) (opening : List ℕ) (o : Parameter
           stops beyond refl (record { drawing = kept c; begun = idle })
       go false e =
           let within : added ≤ left = omega (arith, ltb-false left ink e, stroke-ink d bits) in
-          reads within refl refl (sym (stroke-ink d bits)) (record { drawing = stroke-same bounded opening sound bits allowed c p q; begun = idle })
+          reads within refl refl (sym (stroke-ink d bits)) (record { drawing = stroke-same bounded opening sound bits allowed rated c p q; begun = idle })
 
   -- a sixel, with its size known
   drawn-agrees : (b bits left : ℕ) {x : Needed} {y : Option ℕ}

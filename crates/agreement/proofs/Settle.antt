@@ -21,7 +21,8 @@ use Rattle.meaning.specs.Commands.{Begun, argued, closed}
 use Rattle.meaning.specs.Drawing.{Setting, Drawing, Drawn, drawn, refused, drawCommand, Outcome, andThen, drawAll}
 use Rattle.meaning.specs.Sessions.{Reading, settled, rested}
 use Rattle.meaning.proofs.AreaLaws.{Sound, Follows, follows-refl, command-drawn, quiet-drawn}
-use Rattle.agreement.specs.Same.{groundOf, frameOf, canvasOf, Bounded, SameDrawing, SameBegun, Same}
+use Rattle.agreement.specs.Same.{groundOf, frameOf, canvasOf, Rated, Bounded, SameDrawing, SameBegun, Same}
+use Rattle.agreement.proofs.Ratio.{command-rated}
 use Rattle.agreement.proofs.Ends.{settledTo, idle, Ends, gives, turned, command-ends}
 
 -- ---- what the two say of each other
@@ -45,7 +46,8 @@ same-drawing {s} {opening} {g = g} {f} {p} {l} q = subst (λ (d : Drawing). Same
 
 -- a pending command's end, and what follows from it of the drawing
 pub data EndsAs (s : Setting) (d : Drawing) (c : Command) : Outcome → Ended → Type 0 where
-  settles : (e : Drawing) → Follows s d e → e .strokes ≡ d .strokes → EndsAs s d c (record { drawing = e; refusal = none }) (settledTo e (idle c))
+  settles : (e : Drawing) → Follows s d e → e .strokes ≡ d .strokes → (Rated (d .raster .ratio) → Rated (e .raster .ratio))
+      → EndsAs s d c (record { drawing = e; refusal = none }) (settledTo e (idle c))
   refuses : (why : Refusal) {n : ℕ} → numberOf why ≡ n
       → EndsAs s d c (record { drawing = d; refusal = some n }) (record { stepped = refusedAs (frameOf d c) why; palette = d .palette })
 
@@ -55,7 +57,7 @@ pub pending-ends : {s : Setting} {d : Drawing} → Bounded s → Sound s d → (
 unfolding closed drawAll andThen ended frameOf settledTo idle
 pending-ends {s} {d} bounded sound background c none h =
     subst (λ k. EndsAs s d c (record { drawing = d; refusal = none }) (endedIn k (frameOf d c) (groundOf s background) (d .palette))) (sym h)
-    (settles d (follows-refl s d) refl)
+    (settles d (follows-refl s d) refl (λ h. h))
 pending-ends {s} {d} bounded sound background c (some b) h =
     go refl (command-ends bounded sound background c (b .place) (b .kind) (b .argument) h)
   where
@@ -63,7 +65,7 @@ pending-ends {s} {d} bounded sound background c (some b) h =
     k = argued (b .kind) (b .argument)
 
     go : {x : Drawn} {e : Ended} → drawCommand s k d ≡ x → Ends d c x e → EndsAs s d c (andThen d x (drawAll s [])) e
-    go q (gives e) = settles e (command-drawn s k d q) (quiet-drawn s k d tt q)
+    go q (gives e) = settles e (command-drawn s k d q) (quiet-drawn s k d tt q) (command-rated s (b .kind) (b .argument) d q)
     go q (turned why n) = refuses why n
 
 -- ---- the canvas
@@ -100,18 +102,20 @@ settledBy f g l e =
           l;
     }
 
-module _ {s : Setting} (opening : List ℕ) (r : Reading) (bounded : Bounded s) (sound : Sound s (r .drawing)) (c : Command) where
+module _ {s : Setting} (opening : List ℕ) (r : Reading) (bounded : Bounded s) (sound : Sound s (r .drawing))
+    (rated : Rated (r .drawing .raster .ratio)) (c : Command) where
   settle-ends : {out : Outcome} {e : Ended} → settled s r ≡ out → EndsAs s (r .drawing) c out e
       → Settling s opening r (groundOf s (r .drawing .background)) (out .refusal)
       (settledBy (frameOf (r .drawing) c) (groundOf s (r .drawing .background)) (canvasOf s (r .drawing) opening) e)
   unfolding settledBy rested settledTo idle frameOf groundOf refusedAs
-  settle-ends q (settles e follows same) =
+  settle-ends q (settles e follows same rates) =
       settling refl
       (record {
         drawing = same-drawing (ap (λ (out : Outcome). out .drawing) q)
             (record {
               bounded = bounded;
               sound = follows .sound sound;
+              rated = rates rated;
               ground = ap (groundOf s) (sym (follows .background));
               frame = refl;
               palette = refl;
@@ -124,6 +128,7 @@ module _ {s : Setting} (opening : List ℕ) (r : Reading) (bounded : Bounded s) 
       (record {
         bounded = bounded;
         sound = sound;
+        rated = rated;
         ground = refl;
         frame = refl;
         palette = refl;
@@ -137,5 +142,5 @@ unfolding settledStep settledBy settled
 settle-agrees {s} {opening} {r} {f = f} same =
     let d : SameDrawing s opening (r .drawing) _ f _ _ = same .drawing in
     same-fact (λ g f p l. Settling s opening r g (settled s r .refusal) (settledStep f g p l)) d
-    (settle-ends opening r (d .bounded) (d .sound) (f .command) refl
+    (settle-ends opening r (d .bounded) (d .sound) (d .rated) (f .command) refl
     (pending-ends (d .bounded) (d .sound) (r .drawing .background) (f .command) (r .begun) (same .begun)))

@@ -20,7 +20,7 @@ use Rattle.frame.specs.Step.{penAfter, inked, sheetAfter, canvasAfter, rowCeili
 use Rattle.meaning.specs.Commands.{draw}
 use Rattle.meaning.specs.Drawing.{Setting, Drawing, Drawn, drawn, unless, strokeOf, stroked, drawCommand, columnsReached, rowsReached, extentOf}
 use Rattle.meaning.proofs.AreaLaws.{cond-case, Allowed, Sound, Follows, command-drawn}
-use Rattle.agreement.specs.Same.{groundOf, penOf, sheetOf, rasterOf, frameOf, canvasOf, Bounded, SameDrawing}
+use Rattle.agreement.specs.Same.{groundOf, penOf, sheetOf, rasterOf, frameOf, canvasOf, Rated, Bounded, SameDrawing}
 use Rattle.agreement.proofs.Sizes.{allowed-none}
 
 -- ---- the extent of one stroke more
@@ -97,14 +97,15 @@ module _ {s : Setting} (bounded : Bounded s) (opening : List ℕ) {d : Drawing} 
           (paint.grown stride (d .area) a (d .background) (picture stride (d .area) (d .background) (d .strokes) opening))
 
   -- the two stand for each other after the stroke
-  pub stroke-same : (c : Command) {w h : ℕ} → w ≡ reach (d .area) (strokeOf bits d) .width → h ≡ reach (d .area) (strokeOf bits d) .height
+  pub stroke-same : Rated (d .raster .ratio) → (c : Command) {w h : ℕ} → w ≡ reach (d .area) (strokeOf bits d) .width → h ≡ reach (d .area) (strokeOf bits d) .height
       → SameDrawing s opening (stroked d (strokeOf bits d)) (groundOf s (d .background)) (inked (frameOf d c) bits w h) (d .palette)
       (canvasAfter (frameOf d c) (groundOf s (d .background)) bits w h (canvasOf s d opening))
   unfolding inked frameOf stroked strokeOf
-  stroke-same c p q =
+  stroke-same rated c p q =
       record {
         bounded = bounded;
         sound = stroke-follows .sound sound;
+        rated = rated;
         ground = refl;
         frame = ap withSheet (stroke-sheet p q);
         palette = refl;

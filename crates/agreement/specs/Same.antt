@@ -58,6 +58,11 @@ unfoldable pub ratioNumber : Option ℕ → ℕ
 ratioNumber none = 0
 ratioNumber (some n) = n
 
+-- a ratio that a raster can have: none, or so many to 1
+abbrev pub Rated : Option ℕ → Type 0
+Rated none = Unit {0}
+Rated (some n) = 1 ≤ n
+
 unfoldable pub rasterOf : Raster → codeRaster.Raster
 unfolding ratioNumber
 rasterOf d = record { ratio = ratioNumber (d .ratio); width = d .width; height = d .height }
@@ -84,6 +89,7 @@ pub record Bounded (s : Setting) : Type 0 where
 pub record SameDrawing (s : Setting) (opening : List ℕ) (d : Drawing) (g : Ground) (f : Frame) (p : Palette) (l : List ℕ) : Type 0 where
   pub bounded : Bounded s
   pub sound : Sound s d
+  pub rated : Rated (d .raster .ratio)
   pub ground : g ≡ groundOf s (d .background)
   pub frame : f ≡ frameOf d (f .command)
   pub palette : p ≡ d .palette
