@@ -1,12 +1,14 @@
 -- When the code's ground, frame, palette and canvas stand for a reading of the definition under a setting.
 use Prim.Native.Nat.{ℕ, _≤_, min, _^_}
 use mathlib.Core.Path.{_≡_}
+use mathlib.Core.Bool.{cond}
 use mathlib.Core.Option.{Option, none, some}
 use mathlib.Core.List.{List}
+use lib.Dec.{eqb}
 use Rattle.numbers.specs.Read.{Read, Counted}
 use Rattle.colours.specs.declared.Palette.{Palette}
 use Rattle.colours.specs.Palette.{registerOf}
-use Rattle.canvas.specs.Picture.{picture}
+use Rattle.canvas.specs.Picture.{areaOf, picture}
 use Rattle.frame.specs.declared.Command.{Command}
 use Rattle.frame.specs.declared.Frame.{Frame}
 use Rattle.frame.specs.declared.Ground.{Ground}
@@ -16,7 +18,8 @@ use Rattle.frame.specs.declared.Raster as codeRaster
 use Rattle.frame.specs.declared.Sheet as codeSheet
 use Rattle.frame.specs.Step.{rowCeiling}
 use Rattle.meaning.specs.Commands.{repeat, colour, raster, Begun}
-use Rattle.meaning.specs.Drawing.{Limits, Setting, Pen, Raster, Drawing, extentOf}
+use Rattle.meaning.specs.Drawing.{Limits, Setting, Pen, Raster, Drawing, transparent, extentOf}
+use Rattle.meaning.specs.Payload.{Parameters, Ratio, byRaster, leftToP1, Report}
 use Rattle.meaning.specs.Sessions.{Reading}
 use Rattle.meaning.proofs.AreaLaws.{Sound}
 
@@ -71,6 +74,16 @@ unfoldable pub frameOf : Drawing → Command → Frame
 unfolding penOf sheetOf rasterOf
 frameOf d c = record { pen = penOf (d .palette) (d .pen); sheet = sheetOf d; raster = rasterOf (d .raster); command = c }
 
+-- the frame before the first byte
+unfoldable pub blankFrame : Palette → Command → Frame
+blankFrame p c =
+    record {
+      pen = record { column = 0; row = 0; repeat = 1; register = 0; color = registerOf p 0 };
+      sheet = record { width = 1; height = 1; right = 1; bottom = 1 };
+      raster = record { ratio = 0; width = 0; height = 0 };
+      command = c;
+    }
+
 -- the canvas that shows a drawing on the bytes of the opening
 unfoldable pub canvasOf : Setting → Drawing → List ℕ → List ℕ
 canvasOf s d opening = picture (s .stride) (d .area) (d .background) (d .strokes) opening
@@ -109,3 +122,21 @@ SameBegun (some b) c =
 pub record Same (s : Setting) (opening : List ℕ) (r : Reading) (g : Ground) (f : Frame) (p : Palette) (l : List ℕ) : Type 0 where
   pub drawing : SameDrawing s opening (r .drawing) g f p l
   pub begun : SameBegun (r .begun) (f .command)
+
+-- ---- the report
+
+-- the ratio that a number of the code gives
+unfoldable pub ratioFrom : Option ℕ → ℕ → Ratio
+ratioFrom p1 n = cond (eqb n 0) (leftToP1 p1) (byRaster n)
+
+-- what a frame and a palette report at the finish
+unfoldable pub reportFrom : Parameters → Frame → Palette → Report
+unfolding ratioFrom
+reportFrom o f p =
+    record {
+      size = areaOf (f .sheet .width) (f .sheet .height);
+      ratio = ratioFrom (o .p1) (f .raster .ratio);
+      clear = transparent (o .p2);
+      extent = areaOf (f .sheet .right) (f .sheet .bottom);
+      palette = p;
+    }
