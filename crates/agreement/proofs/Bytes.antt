@@ -1,16 +1,16 @@
 -- A byte does in the code what it does in the definition.
-use Prim.Native.Nat.{ℕ, _+_, _-_, _≤_, _<_}
+use Prim.Native.Nat.{ℕ, _-_, _≤_}
 use native.Mathlib.Omega.{arith}
-use mathlib.Core.Path.{_≡_, refl, sym, ap, ap₂, _∙_, subst}
-use mathlib.Core.Bool.{Bool, true, false, cond, _&&_, _||_, and-true, true≢false}
+use mathlib.Core.Path.{_≡_, refl, sym, ap, _∙_, subst}
+use mathlib.Core.Bool.{Bool, true, false, _&&_, _||_, and-true, true≢false}
 use mathlib.Core.Option.{Option, none, some}
 use mathlib.Core.List.{List, [], _∷_, _++_}
-use borrow.Author.Tests.{leb-true, eqb-true, ne-eqb, le-leb, lt-leb}
+use borrow.Author.Tests.{leb-true, eqb-true, ne-eqb, lt-leb}
 use lib.Dec.{leb, eqb}
 use Rattle.numbers.specs.Bytes.{skipped, digit, ends, semicolon}
-use Rattle.numbers.specs.Read.{Read, Counted}
+use Rattle.numbers.specs.Read.{Read}
 use Rattle.numbers.proofs.Laws.{digit-least, digit-top}
-use Rattle.numbers.proofs.Fields.{Silent, unskipped, skipped-silent}
+use Rattle.numbers.proofs.Fields.{unskipped}
 use Rattle.numbers.proofs.Reading.{read-digit, read-semicolon}
 use Rattle.numbers.proofs.Repeat.{counted-more}
 use Rattle.colours.specs.declared.Palette.{Palette}
@@ -20,17 +20,15 @@ use Rattle.frame.specs.declared.Frame.{Frame}
 use Rattle.frame.specs.declared.Ground.{Ground}
 use Rattle.frame.specs.declared.Kind as codeKind
 use Rattle.frame.specs.declared.Kind.the-variants as kinds
-use Rattle.frame.specs.declared.Outcome as codeOutcome
-use Rattle.frame.specs.declared.Outcome.the-variants as outcomes
 use Rattle.frame.specs.Commands.{withCommand, byDigitIn, byDigit, bySemicolon}
-use Rattle.frame.specs.Step.{Turned, readAs, dataStep, takesSemicolon, settledStep, argumentStep, stepIn, stepOf}
+use Rattle.frame.specs.Step.{Turned, readAs, dataStep, takesSemicolon, argumentStep, stepIn, stepOf}
 use Rattle.frame.specs.Feed.{thenData, byteStep}
 use Rattle.meaning.specs.Commands.{Kind, repeat, colour, raster, Begun, ofValues, lengthens, taken, longer, closed}
 use Rattle.meaning.specs.Drawing.{Setting, Drawing, drawAll, inkOfAll}
-use Rattle.meaning.specs.Reader.{Step, next, halt, refuse}
+use Rattle.meaning.specs.Reader.{Step, next}
 use Rattle.meaning.specs.Sessions.{Reading, settled, rested, payloadStep}
 use Rattle.meaning.proofs.AreaLaws.{cond-case}
-use Rattle.agreement.specs.Same.{groundOf, frameOf, canvasOf, SameDrawing, SameBegun, Same}
+use Rattle.agreement.specs.Same.{frameOf, SameDrawing, SameBegun, Same}
 use Rattle.agreement.proofs.Settle.{same-fact, same-drawing, Settling, settling, refusing, settle-agrees}
 use Rattle.agreement.proofs.Data.{Agrees, reads, stops, halts, refuses, plain, quietly, unended, data-agrees}
 use Rattle.agreement.proofs.Own.{turnedAt, payload-settles, payload-turns, passedWith, payload-skips, payload-takes}

@@ -1,19 +1,17 @@
 -- A byte while no command is pending does in the code what it does in the definition.
-use Prim.Native.Nat.{ℕ, suc, _+_, _-_, _*_, _≤_, _<_, min, max}
+use Prim.Native.Nat.{ℕ, _+_, _-_, _*_, _≤_, _<_, min}
 use native.Mathlib.Omega.{arith}
-use mathlib.Core.Path.{_≡_, refl, sym, ap, ap₂, _∙_, subst}
+use mathlib.Core.Path.{_≡_, refl, sym, ap, _∙_, subst}
 use mathlib.Core.Bool.{Bool, true, false, cond}
 use mathlib.Core.Option.{Option, none, some}
 use mathlib.Core.List.{List, [], _∷_, _++_}
 use borrow.Author.Tests.{ltb-true, ltb-false, eqb-true, ne-eqb, le-leb, lt-leb}
 use lib.Count.{ones}
-use lib.Dec.{leb, ltb, eqb}
-use Rattle.numbers.specs.Bytes.{skipped, digit, sixel, ends, bang, quote, hash, dollar, dash}
-use Rattle.numbers.specs.Step as numbers
+use lib.Dec.{ltb, eqb}
+use Rattle.numbers.specs.Bytes.{skipped, sixel, ends, bang, quote, hash, dollar, dash}
 use Rattle.numbers.proofs.Reading.{read-none}
 use Rattle.numbers.proofs.Repeat.{counted-none}
-use Rattle.colours.specs.declared.Palette.{Palette}
-use Rattle.canvas.specs.Picture.{Stroke, reach}
+use Rattle.canvas.specs.Picture.{reach}
 use Rattle.canvas.proofs.Covers.{by-test}
 use Rattle.frame.specs.declared.Command.{Command}
 use Rattle.frame.specs.declared.Ground.{Ground}
@@ -22,16 +20,16 @@ use Rattle.frame.specs.declared.Outcome.the-variants as outcomes
 use Rattle.frame.specs.declared.Refusal.{Refusal}
 use Rattle.frame.specs.declared.sizes.Needed.{Needed}
 use Rattle.frame.specs.Numbers.{numberOf}
-use Rattle.frame.specs.Commands.{begun, withCommand}
-use Rattle.frame.specs.Step.{Turned, readAs, inked, canvasAfter, paintedOn, drawnIn, drawnBy, movedTo, ownOf, dataStep, rowCeiling}
-use Rattle.meaning.specs.Commands.{Begun, return, line, draw, Placed, Scanned, does, own, scanByte, closed}
-use Rattle.meaning.specs.Drawing.{Setting, Pen, Drawing, withPen, moved, unless, strokeOf, stroked, sixelled, drawCommand, drawAll, andThen, inkOf, inkOfAll}
+use Rattle.frame.specs.Commands.{begun}
+use Rattle.frame.specs.Step.{Turned, readAs, inked, canvasAfter, paintedOn, drawnIn, drawnBy, movedTo, dataStep, rowCeiling}
+use Rattle.meaning.specs.Commands.{does, scanByte, closed}
+use Rattle.meaning.specs.Drawing.{Setting, Drawing, withPen, moved, unless, strokeOf, stroked, sixelled, drawCommand, drawAll, andThen, inkOf, inkOfAll}
 use Rattle.meaning.specs.Payload.{Parameters}
 use Rattle.meaning.specs.Reader.{Step, next, halt, refuse}
 use Rattle.meaning.specs.Sessions.{Reading, settled, rested, endedAt, wentOn, readByte, payloadStep}
 use Rattle.meaning.proofs.AreaLaws.{Allowed, Sound}
 use Rattle.meaning.proofs.InkLaws.{ink-append, sixel-range, scan-sixel}
-use Rattle.agreement.specs.Same.{groundOf, penOf, sheetOf, rasterOf, frameOf, canvasOf, Rated, Bounded, SameDrawing, SameBegun, Same}
+use Rattle.agreement.specs.Same.{groundOf, frameOf, canvasOf, Rated, Bounded, SameDrawing, Same}
 use Rattle.agreement.proofs.Sizes.{Sized, allows, turns, sixel-sized}
 use Rattle.agreement.proofs.Sixel.{stroke-same}
 

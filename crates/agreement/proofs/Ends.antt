@@ -1,5 +1,5 @@
 -- A command that ends does in the code what it does in the definition.
-use Prim.Native.Nat.{ℕ, _+_, _*_, _≤_, _<_, min, max}
+use Prim.Native.Nat.{ℕ, _+_, _*_, max}
 use native.Mathlib.Omega.{arith}
 use mathlib.Core.Path.{_≡_, refl, sym, ap, ap₂, _∙_, subst}
 use mathlib.Core.Bool.{Bool, true, false, cond, _&&_}
@@ -18,7 +18,6 @@ use Rattle.colours.specs.declared.Palette.{Palette}
 use Rattle.colours.specs.Palette.{registerOf}
 use Rattle.canvas.specs.Picture.{grownTo}
 use Rattle.frame.specs.declared.Command.{Command}
-use Rattle.frame.specs.declared.Frame.{Frame}
 use Rattle.frame.specs.declared.Ground.{Ground}
 use Rattle.frame.specs.declared.Kind as codeKind
 use Rattle.frame.specs.declared.Kind.the-variants as kinds
@@ -28,10 +27,10 @@ use Rattle.frame.specs.declared.Refusal.the-variants as refusals
 use Rattle.frame.specs.declared.sizes.Needed.{Needed}
 use Rattle.frame.specs.Numbers.{numberOf}
 use Rattle.frame.specs.Sizes.{rasterArea}
-use Rattle.frame.specs.Commands.{settledAs, refusedAs, withRepeat, repeatEnded, redefinedBy, registerIn, withColor, paletteAfter, colorEndedBy, quotientOf, ratioBy, keptSize, rasterBy, withArea, rasterGrown, rasterEndedBy, Ended, finishedOf, endedIn, ended}
-use Rattle.meaning.specs.Commands.{Kind, repeat, colour, raster, argued, Begun}
-use Rattle.meaning.specs.Drawing.{Setting, Raster, Drawing, Drawn, drawn, refused, withPen, withRepeats, repeated, selected, redefined, withRegister, coloured, sizeRefusal, unless, quotient, ratioAfter, kept, rasterAfter, withRaster, stretched, rastered, drawCommand}
-use Rattle.meaning.proofs.AreaLaws.{cond-case, Sound}
+use Rattle.frame.specs.Commands.{settledAs, refusedAs, withRepeat, redefinedBy, registerIn, withColor, quotientOf, ratioBy, keptSize, rasterBy, rasterGrown, rasterEndedBy, Ended, endedIn, ended}
+use Rattle.meaning.specs.Commands.{Kind, repeat, colour, raster, argued}
+use Rattle.meaning.specs.Drawing.{Setting, Raster, Drawing, Drawn, drawn, refused, withPen, withRepeats, repeated, selected, redefined, coloured, unless, quotient, ratioAfter, kept, rasterAfter, withRaster, stretched, rastered, drawCommand}
+use Rattle.meaning.proofs.AreaLaws.{Sound}
 use Rattle.agreement.specs.Same.{groundOf, penOf, sheetOf, ratioNumber, rasterOf, frameOf, Bounded, SameBegun}
 use Rattle.agreement.proofs.Sizes.{Sized, allows, turns, raster-sized}
 

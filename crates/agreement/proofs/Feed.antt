@@ -1,10 +1,10 @@
 -- Bytes one after the other come to the same in the code and in the definition.
-use Prim.Native.Nat.{ℕ, _+_, _-_, _≤_, _<_}
+use Prim.Native.Nat.{ℕ, _+_, _-_, _≤_}
 use native.Mathlib.Nat.{add-zero}
 use native.Mathlib.Omega.{arith}
-use mathlib.Core.Path.{_≡_, refl, sym, ap, ap₂, _∙_, subst}
-use mathlib.Core.Bool.{Bool, true, false, cond}
-use mathlib.Core.Option.{Option, none, some}
+use mathlib.Core.Path.{_≡_, refl, sym, _∙_, subst}
+use mathlib.Core.Bool.{cond}
+use mathlib.Core.Option.{none, some}
 use mathlib.Core.List.{List, [], _∷_}
 use borrow.Author.Tests.{le-leb, lt-leb}
 use lib.Dec.{leb}
@@ -16,7 +16,7 @@ use Rattle.frame.specs.declared.Outcome.the-variants as outcomes
 use Rattle.frame.specs.declared.Refusal.{Refusal}
 use Rattle.frame.specs.Numbers.{numberOf}
 use Rattle.frame.specs.Step.{Turned}
-use Rattle.frame.specs.Feed.{byteStep, Reached, reachedAs, goOn, feedFrom}
+use Rattle.frame.specs.Feed.{Reached, goOn, feedFrom}
 use Rattle.meaning.specs.Drawing.{Setting}
 use Rattle.meaning.specs.Reader.{Step, next, How, readAll, stopped, halted, refusedBy, Run, still, after, follow, call}
 use Rattle.meaning.specs.Sessions.{Reading, rested, payloadStep}
@@ -118,3 +118,11 @@ pub feed-agrees : {s : Setting} {opening : List ℕ} {r : Reading} {g : Ground} 
     → i ≤ a → Same s opening r g f p l → r .over ≡ none
     → FeedAgrees s opening g n i (call (payloadStep s) (rested s) (a - i) r bs) (feedFrom g a bs n i f p l)
 feed-agrees {s} {opening} {r} {g} {f} {p} {l} a bs n i = feeds s opening g a bs n i r f p l
+
+-- a whole call: its counts are the code's
+pub feed-call : {s : Setting} {opening : List ℕ} {r : Reading} {g : Ground} {f : Frame} {p : Palette} {l : List ℕ} (a : ℕ) (bs : List ℕ)
+    → Same s opening r g f p l → r .over ≡ none → FeedAgrees s opening g 0 0 (call (payloadStep s) (rested s) a r bs) (feedFrom g a bs 0 0 f p l)
+feed-call {s} {opening} {r} {g} {f} {p} {l} a bs same going =
+    let all : a - 0 ≡ a = omega arith in
+    subst (λ (left : ℕ). FeedAgrees s opening g 0 0 (call (payloadStep s) (rested s) left r bs) (feedFrom g a bs 0 0 f p l)) all
+    (feed-agrees a bs 0 0 (omega arith) same going)

@@ -1,17 +1,16 @@
 -- The code's opening and its finish are those of the definition.
 use Prim.Native.Nat.{ℕ, _≤_, _^_}
 use native.Mathlib.Omega.{arith}
-use mathlib.Core.Path.{_≡_, refl, sym, ap, ap₂, _∙_, subst}
-use mathlib.Core.Bool.{Bool, true, false, cond, _&&_}
+use mathlib.Core.Path.{_≡_, refl, sym, ap, _∙_, subst}
+use mathlib.Core.Bool.{true, _&&_}
 use mathlib.Core.Option.{Option, none, some}
-use mathlib.Core.List.{List, []}
+use mathlib.Core.List.{List}
 use borrow.Author.Tests.{leb-true, ne-eqb}
-use lib.Dec.{leb, eqb}
+use lib.Dec.{leb}
 use Rattle.colours.specs.declared.Palette.{Palette}
 use Rattle.canvas.specs.Picture.{span, rowsOf}
 use Rattle.canvas.specs.Paint.{painted}
 use Rattle.canvas.proofs.Pictures.{picture-opened}
-use Rattle.frame.specs.declared.Command.{Command}
 use Rattle.frame.specs.declared.Frame.{Frame}
 use Rattle.frame.specs.declared.Ground.{Ground}
 use Rattle.frame.specs.declared.Kind.the-variants as kinds
@@ -19,12 +18,12 @@ use Rattle.frame.specs.declared.Outcome.the-variants as outcomes
 use Rattle.frame.specs.declared.Refusal.{Refusal}
 use Rattle.frame.specs.Numbers.{numberOf}
 use Rattle.frame.specs.Step.{Turned, settledStep}
-use Rattle.meaning.specs.Drawing.{Limits, Setting, Drawing, Outcome, backgroundOf, blank, extentOf}
-use Rattle.meaning.specs.Payload.{Parameters, Ratio, ratioOf, Report, reportOf, Finished, finished, turnedDown, reported, finish}
+use Rattle.meaning.specs.Drawing.{Limits, Setting, Drawing, backgroundOf, blank, extentOf}
+use Rattle.meaning.specs.Payload.{Parameters, Ratio, ratioOf, Report, reportOf, Finished, finished, turnedDown, finish}
 use Rattle.meaning.specs.Sessions.{Reading, opened, settled, rested, finishReading}
 use Rattle.meaning.specs.Calls.{ranges, limitsHold, opens, settingFor}
-use Rattle.meaning.proofs.AreaLaws.{both, opens-roomy, blank-opens, never-ten}
-use Rattle.agreement.specs.Same.{groundOf, ratioNumber, Rated, frameOf, blankFrame, canvasOf, Bounded, SameDrawing, SameBegun, Same, ratioFrom, reportFrom}
+use Rattle.meaning.proofs.AreaLaws.{both, blank-opens, never-ten}
+use Rattle.agreement.specs.Same.{groundOf, ratioNumber, Rated, frameOf, blankFrame, canvasOf, Bounded, SameDrawing, Same, ratioFrom, reportFrom}
 use Rattle.agreement.proofs.Settle.{same-fact, Settling, settling, refusing, settle-agrees}
 
 -- ---- opening

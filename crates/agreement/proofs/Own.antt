@@ -1,13 +1,13 @@
 -- In the definition a byte that ends the begun command does what it does once that command has been carried out.
 use Prim.Native.Nat.{ℕ, suc, _-_}
-use mathlib.Core.Path.{_≡_, refl, sym, ap, ap₂, _∙_, subst}
+use mathlib.Core.Path.{_≡_, refl, sym, ap, ap₂, _∙_}
 use mathlib.Core.Bool.{Bool, true, false, cond}
 use mathlib.Core.Option.{Option, none, some}
-use mathlib.Core.List.{List, [], _∷_, _++_, append-nil}
+use mathlib.Core.List.{List, [], _++_, append-nil}
 use lib.Dec.{eqb}
 use Rattle.numbers.specs.Bytes.{skipped, sixel, ends, bang, quote, hash, dollar, dash}
 use Rattle.meaning.specs.Commands.{repeat, colour, raster, return, line, draw, Placed, Begun, taken, longer, Scanned, closed, begins, does, own, scanByte}
-use Rattle.meaning.specs.Drawing.{Setting, Drawing, Outcome, drawAll, inkOfAll}
+use Rattle.meaning.specs.Drawing.{Setting, Outcome, drawAll, inkOfAll}
 use Rattle.meaning.specs.Reader.{Step, next, halt, refuse}
 use Rattle.meaning.specs.Sessions.{Reading, settled, rested, endedAt, wentOn, readByte, payloadStep}
 use Rattle.meaning.proofs.AreaLaws.{drawOn, drawOn-none, drawOn-some, drawAll-append}

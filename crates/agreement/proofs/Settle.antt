@@ -2,7 +2,7 @@
 use Prim.Native.Nat.{ℕ}
 use mathlib.Core.Path.{_≡_, refl, sym, ap, ap₂, _∙_, subst}
 use mathlib.Core.Option.{Option, none, some}
-use mathlib.Core.List.{List, [], _∷_}
+use mathlib.Core.List.{List, []}
 use Rattle.colours.specs.declared.Palette.{Palette}
 use Rattle.canvas.specs.Picture.{Stroke, areaOf, picture}
 use Rattle.canvas.specs.Paint.{grown}
@@ -10,15 +10,14 @@ use Rattle.canvas.proofs.Pictures.{picture-grown, grown-none}
 use Rattle.frame.specs.declared.Command.{Command}
 use Rattle.frame.specs.declared.Frame.{Frame}
 use Rattle.frame.specs.declared.Ground.{Ground}
-use Rattle.frame.specs.declared.Kind.the-variants as kinds
 use Rattle.frame.specs.declared.Outcome.the-variants as outcomes
 use Rattle.frame.specs.declared.Refusal.{Refusal}
 use Rattle.frame.specs.Numbers.{numberOf}
-use Rattle.frame.specs.Commands.{settledAs, refusedAs, Ended, endedIn, ended}
+use Rattle.frame.specs.Commands.{refusedAs, Ended, endedIn, ended}
 use Rattle.frame.specs.Step.{Turned, settledStep}
 use Rattle.meaning.specs.Commands as meaningCommands
 use Rattle.meaning.specs.Commands.{Begun, argued, closed}
-use Rattle.meaning.specs.Drawing.{Setting, Drawing, Drawn, drawn, refused, drawCommand, Outcome, andThen, drawAll}
+use Rattle.meaning.specs.Drawing.{Setting, Drawing, Drawn, drawCommand, Outcome, andThen, drawAll}
 use Rattle.meaning.specs.Sessions.{Reading, settled, rested}
 use Rattle.meaning.proofs.AreaLaws.{Sound, Follows, follows-refl, command-drawn, quiet-drawn}
 use Rattle.agreement.specs.Same.{groundOf, frameOf, canvasOf, Rated, Bounded, SameDrawing, SameBegun, Same}

@@ -1,14 +1,13 @@
 -- A sixel draws in the code what it draws in the definition.
-use Prim.Native.Nat.{ℕ, suc, _+_, _-_, _*_, _≤_, _<_, min, max}
+use Prim.Native.Nat.{ℕ, _+_, min, max}
 use native.Mathlib.Omega.{arith}
-use mathlib.Core.Path.{_≡_, refl, sym, ap, ap₂, _∙_, subst}
+use mathlib.Core.Path.{_≡_, refl, sym, ap, ap₂, _∙_}
 use mathlib.Core.Bool.{Bool, true, false, cond}
-use mathlib.Core.Option.{Option, none, some}
+use mathlib.Core.Option.{Option}
 use mathlib.Core.List.{List, [], _∷_, _++_}
 use lib.Dec.{eqb}
-use Rattle.colours.specs.declared.Palette.{Palette}
 use Rattle.colours.specs.Palette.{registerOf}
-use Rattle.canvas.specs.Picture.{Stroke, Area, areaOf, grownTo, reach, picture}
+use Rattle.canvas.specs.Picture.{Stroke, Area, areaOf, reach, picture}
 use Rattle.canvas.specs.Paint as paint
 use Rattle.canvas.proofs.Strokes.{reach-within, reach-inside}
 use Rattle.canvas.proofs.Pictures.{picture-grown, picture-stroke}
@@ -18,8 +17,8 @@ use Rattle.frame.specs.declared.Frame.{Frame}
 use Rattle.frame.specs.declared.Sheet as codeSheet
 use Rattle.frame.specs.Step.{penAfter, inked, sheetAfter, canvasAfter, rowCeiling}
 use Rattle.meaning.specs.Commands.{draw}
-use Rattle.meaning.specs.Drawing.{Setting, Drawing, Drawn, drawn, unless, strokeOf, stroked, drawCommand, columnsReached, rowsReached, extentOf}
-use Rattle.meaning.proofs.AreaLaws.{cond-case, Allowed, Sound, Follows, command-drawn}
+use Rattle.meaning.specs.Drawing.{Setting, Drawing, unless, strokeOf, stroked, drawCommand, columnsReached, rowsReached, extentOf}
+use Rattle.meaning.proofs.AreaLaws.{Allowed, Sound, Follows, command-drawn}
 use Rattle.agreement.specs.Same.{groundOf, penOf, sheetOf, rasterOf, frameOf, canvasOf, Rated, Bounded, SameDrawing}
 use Rattle.agreement.proofs.Sizes.{allowed-none}
 

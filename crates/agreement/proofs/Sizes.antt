@@ -1,7 +1,7 @@
 -- The sizes that the code allows and refuses are those of the definition.
-use Prim.Native.Nat.{ℕ, _+_, _*_, _≤_, _<_, min, max}
+use Prim.Native.Nat.{ℕ, _+_, _≤_, _<_, min, max}
 use native.Mathlib.Omega.{arith}
-use mathlib.Core.Path.{_≡_, refl, sym, ap, ap₂, _∙_, subst}
+use mathlib.Core.Path.{_≡_, refl, sym, ap, ap₂, subst}
 use mathlib.Core.Bool.{Bool, true, false, cond, _&&_, _||_, or-true}
 use mathlib.Core.Option.{Option, none, some}
 use mathlib.Core.List.{List}
@@ -10,15 +10,13 @@ use lib.Dec.{leb, ltb}
 use Rattle.canvas.specs.Picture.{Area, areaOf, grownTo}
 use Rattle.frame.specs.declared.Refusal.{Refusal}
 use Rattle.frame.specs.declared.Refusal.the-variants as refusals
-use Rattle.frame.specs.declared.Pen as codePen
-use Rattle.frame.specs.declared.Sheet as codeSheet
 use Rattle.frame.specs.declared.sizes.Needed.{Needed}
 use Rattle.frame.specs.declared.sizes.Needed.the-variants as needed
 use Rattle.frame.specs.Numbers.{numberOf}
 use Rattle.frame.specs.Sizes.{roomFor, grownArea, rasterArea, sixelArea}
 use Rattle.frame.specs.Step.{rowCeiling}
 use Rattle.meaning.specs.Drawing.{Setting, Pen, Drawing, pixelsOf, sizeRefusal}
-use Rattle.meaning.proofs.AreaLaws.{both, cond-case, neither, Allowed, Fits, Sound}
+use Rattle.meaning.proofs.AreaLaws.{both, cond-case, Allowed, Fits, Sound}
 use Rattle.agreement.specs.Same.{groundOf, penOf, sheetOf, Bounded}
 
 -- what a size comes to in the code and in the definition: the area grown to it, where it is allowed, or one refusal
@@ -33,11 +31,6 @@ max-test m a w h = go (ltb m w) refl
     go : (t : Bool) → ltb m w ≡ t → ltb m (max a w) ≡ t
     go true e = lt-ltb m (max a w) (omega (arith, ltb-true m w e))
     go false e = le-ltb m (max a w) (omega (arith, ltb-false m w e))
-
--- of two tests one after the other the first that holds decides
-either-test : {A : Type 0} (t u : Bool) (x y : A) → cond t x (cond u x y) ≡ cond (t || u) x y
-either-test true u x y = refl
-either-test false u x y = refl
 
 module _ {s : Setting} {a : Area} (fits : Fits s a) (w h : ℕ) where
   -- the tests of the definition, one by one

@@ -1,17 +1,17 @@
 -- Read byte by byte, a payload comes to what its commands come to as a whole.
-use Prim.Native.Nat.{ℕ, suc, _+_, _-_}
+use Prim.Native.Nat.{ℕ, suc, _+_}
 use native.Mathlib.Omega.{arith}
-use mathlib.Core.Path.{_≡_, refl, sym, ap, ap₂, _∙_, subst}
-use mathlib.Core.Bool.{Bool, true, false, cond}
+use mathlib.Core.Path.{_≡_, refl, sym, ap, _∙_, subst}
+use mathlib.Core.Bool.{Bool, true, false}
 use mathlib.Core.Option.{Option, none, some}
 use mathlib.Core.List.{List, [], _∷_, _++_, append-assoc}
 use lib.ListN.{length}
 use Rattle.numbers.specs.Bytes.{ends}
 use Rattle.colours.specs.declared.Palette.{Palette}
 use Rattle.meaning.specs.Commands.{Placed, Begun, Scanned, closed, scanByte, scan, body, endOf, commands}
-use Rattle.meaning.specs.Drawing.{Setting, Drawing, Outcome, blank, drawAll, inkOfAll}
+use Rattle.meaning.specs.Drawing.{Setting, Drawing, Outcome, blank, drawAll}
 use Rattle.meaning.specs.Payload.{Parameters, payload}
-use Rattle.meaning.specs.Reader.{Step, next, halt, refuse, How, readAll, halted, refusedBy, Run, still, after, follow, readFrom}
+use Rattle.meaning.specs.Reader.{How, readAll, halted, refusedBy, Run, after, follow, readFrom}
 use Rattle.meaning.specs.Sessions.{Reading, opened, settled, endedAt, wentOn, readByte, payloadStep}
 use Rattle.meaning.proofs.AreaLaws.{drawOn, drawOn-none, drawOn-some, drawAll-append}
 use Rattle.meaning.proofs.ReaderLaws.{read-as}

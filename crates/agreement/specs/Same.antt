@@ -18,7 +18,7 @@ use Rattle.frame.specs.declared.Raster as codeRaster
 use Rattle.frame.specs.declared.Sheet as codeSheet
 use Rattle.frame.specs.Step.{rowCeiling}
 use Rattle.meaning.specs.Commands.{repeat, colour, raster, Begun}
-use Rattle.meaning.specs.Drawing.{Limits, Setting, Pen, Raster, Drawing, transparent, extentOf}
+use Rattle.meaning.specs.Drawing.{Setting, Pen, Raster, Drawing, transparent, extentOf}
 use Rattle.meaning.specs.Payload.{Parameters, Ratio, byRaster, leftToP1, Report}
 use Rattle.meaning.specs.Sessions.{Reading}
 use Rattle.meaning.proofs.AreaLaws.{Sound}
@@ -61,15 +61,12 @@ unfoldable pub ratioNumber : Option ℕ → ℕ
 ratioNumber none = 0
 ratioNumber (some n) = n
 
--- a ratio that a raster can have: none, or so many to 1
-abbrev pub Rated : Option ℕ → Type 0
-Rated none = Unit {0}
-Rated (some n) = 1 ≤ n
-
+-- the ratio and the sizes kept
 unfoldable pub rasterOf : Raster → codeRaster.Raster
 unfolding ratioNumber
 rasterOf d = record { ratio = ratioNumber (d .ratio); width = d .width; height = d .height }
 
+-- the whole frame, with a command that has begun or not
 unfoldable pub frameOf : Drawing → Command → Frame
 unfolding penOf sheetOf rasterOf
 frameOf d c = record { pen = penOf (d .palette) (d .pen); sheet = sheetOf d; raster = rasterOf (d .raster); command = c }
@@ -98,6 +95,11 @@ pub record Bounded (s : Setting) : Type 0 where
   pub pixels : s .limits .pixels ≤ 10 ^ 12
   pub stride : s .stride ≤ 1000000
 
+-- a ratio that a raster can have: none, or so many to 1
+abbrev pub Rated : Option ℕ → Type 0
+Rated none = Unit {0}
+Rated (some n) = 1 ≤ n
+
 -- ground, frame, palette and canvas are those of a drawing that is sound; the begun command may be any
 pub record SameDrawing (s : Setting) (opening : List ℕ) (d : Drawing) (g : Ground) (f : Frame) (p : Palette) (l : List ℕ) : Type 0 where
   pub bounded : Bounded s
@@ -118,7 +120,7 @@ SameBegun (some b) c =
       | raster ↦ (c .kind ≡ kinds.Raster) × Read 4 (b .argument) (c .parameters)
     ]
 
--- and the begun command is the reading's
+-- they are those of a reading where the begun command is the reading's too
 pub record Same (s : Setting) (opening : List ℕ) (r : Reading) (g : Ground) (f : Frame) (p : Palette) (l : List ℕ) : Type 0 where
   pub drawing : SameDrawing s opening (r .drawing) g f p l
   pub begun : SameBegun (r .begun) (f .command)
