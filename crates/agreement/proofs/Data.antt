@@ -88,13 +88,13 @@ module _ {s : Setting} (bounded : Bounded s) (opening : List ℕ) (o : Parameter
   ground = groundOf s (d .background)
 
   abbrev step : ℕ → ℕ → Turned
-  step b left = dataStep (frameOf d c) (groundOf s (d .background)) b left (d .palette) (canvasOf s d opening)
+  step b left = dataStep (frameOf d c) ground b left (d .palette) (canvasOf s d opening)
 
   abbrev AgreesAt : ℕ → ℕ → Type 0
-  AgreesAt b left = Agrees s opening (plain o n d) (groundOf s (d .background)) b left (payloadStep s (plain o n d) b) (step b left)
+  AgreesAt b left = Agrees s opening (plain o n d) ground b left (payloadStep s (plain o n d) b) (step b left)
 
   -- the drawing as it was
-  kept : (k : Command) → SameDrawing s opening d (groundOf s (d .background)) (frameOf d k) (d .palette) (canvasOf s d opening)
+  kept : (k : Command) → SameDrawing s opening d ground (frameOf d k) (d .palette) (canvasOf s d opening)
   unfolding frameOf
   kept k = record { bounded = bounded; sound = sound; rated = rated; ground = refl; frame = refl; palette = refl; canvas = refl }
 

@@ -78,7 +78,7 @@ ratio-same p1 none h = refl
 ratio-same p1 (some n) h = rw (ne-eqb n 0 (λ e. omega arith))
 
 -- and so is its report
-report-same : {s : Setting} {opening : List ℕ} {d : Drawing} {g : Ground} {f : Frame} {p : Palette} {l : List ℕ} (o : Parameters)
+pub report-same : {s : Setting} {opening : List ℕ} {d : Drawing} {g : Ground} {f : Frame} {p : Palette} {l : List ℕ} (o : Parameters)
     → SameDrawing s opening d g f p l → reportOf o d ≡ reportFrom o f p
 unfolding reportOf reportFrom frameOf
 report-same {d = d} {f = f} o same = same-fact (λ g f p l. reportOf o d ≡ reportFrom o f p) same (ap rated (ratio-same (o .p1) (d .raster .ratio) (same .rated)))

@@ -32,7 +32,7 @@ max-test m a w h = go (ltb m w) refl
     go true e = lt-ltb m (max a w) (omega (arith, ltb-true m w e))
     go false e = le-ltb m (max a w) (omega (arith, ltb-false m w e))
 
-module _ {s : Setting} {a : Area} (fits : Fits s a) (w h : ℕ) where
+module _ (s : Setting) (a : Area) (w h : ℕ) where
   -- the tests of the definition, one by one
   sized-by : (wide high many far low : Bool) → ltb (s .limits .width) w ≡ wide → ltb (s .limits .height) h ≡ high
       → ltb (s .limits .pixels) (pixelsOf (grownTo a w h)) ≡ many → ltb (s .stride) w ≡ far → ltb (s .rows) h ≡ low
@@ -102,7 +102,7 @@ module _ {s : Setting} {d : Drawing} (sound : Sound s d) (background : List ℕ)
   unfolding rasterArea grownArea roomFor sizeRefusal groundOf sheetOf pixelsOf grownTo
   raster-sized w h =
       rw (max-test (s .stride) (d .area .width) w (sound .fits .stride), max-test (s .rows) (d .area .height) h (sound .fits .rows))
-      (sized-by (sound .fits) w h _ _ _ _ _ refl refl refl refl refl)
+      (sized-by s (d .area) w h _ _ _ _ _ refl refl refl refl refl)
 
   -- a size that is visible
   seen-sized : (w h : ℕ) → w ≤ d .area .width → h ≤ d .area .height
