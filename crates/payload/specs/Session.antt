@@ -1,6 +1,6 @@
 -- The whole outcome of each function over a payload session: its answer, the session, the palette and every byte of the canvas.
 use Prim.Native.Nat.{ℕ}
-use mathlib.Core.Bool.{Bool, true, false, cond}
+use mathlib.Core.Bool.{Bool, false, cond}
 use mathlib.Core.List.{List, [], _∷_}
 use lib.Dec.{eqb}
 use lib.ListN.{length}
