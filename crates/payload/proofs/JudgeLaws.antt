@@ -182,9 +182,10 @@ module _ (a : Sheet) (g : Ground) where
 
 pub ruleset finals = (final-wide, final-high, final-pixels, final-stride, final-rows, final-fine)
 
--- ---- what is not refused has
+-- ---- what is not refused
 
-passes : (n : Refusal) (t : Bool) (y : Judged) → cond t (Refused n) y ≡ Fine → (t ≡ false) × (y ≡ Fine)
+-- where a test refuses, what is fine has not met it
+pub passes : (n : Refusal) (t : Bool) (y : Judged) → cond t (Refused n) y ≡ Fine → (t ≡ false) × (y ≡ Fine)
 passes n true y h = (cc, cc)
 passes n false y h = (refl, h)
 
