@@ -1,13 +1,13 @@
 -- What a payload means, whole: the drawing of its commands, and what finishing it answers (document 01).
-use Prim.Native.Nat.{ℕ, _*_}
-use mathlib.Core.Bool.{Bool, true, false, cond, _||_}
+use Prim.Native.Nat.{ℕ}
+use mathlib.Core.Bool.{Bool, cond, _||_}
 use mathlib.Core.Option.{Option, none, some}
-use mathlib.Core.List.{List, [], _∷_}
-use lib.Dec.{leb, ltb, eqb}
+use mathlib.Core.List.{List}
+use lib.Dec.{ltb}
 use Rattle.colours.specs.declared.Palette.{Palette}
-use Rattle.canvas.specs.Picture.{Stroke, Area}
+use Rattle.canvas.specs.Picture.{Area}
 use Rattle.meaning.specs.Commands.{commands}
-use Rattle.meaning.specs.Drawing.{Setting, Drawing, Outcome, transparent, blank, drawAll, extentOf, pixelsOf}
+use Rattle.meaning.specs.Drawing.{Setting, Drawing, Outcome, transparent, blank, drawAll, inkOfAll, extentOf, pixelsOf}
 
 -- P1 and P2, each a 16-bit number or none
 pub record Parameters : Type 0 where
@@ -17,6 +17,10 @@ pub record Parameters : Type 0 where
 -- the drawing of a payload from its first byte to its end, or to its first refusal
 unfoldable pub payload : Setting → Parameters → Palette → List ℕ → Outcome
 payload s o p bs = drawAll s (commands bs) (blank p (o .p2))
+
+-- the ink of all that it draws, before a refusal too
+unfoldable pub payloadInk : Setting → Parameters → Palette → List ℕ → ℕ
+payloadInk s o p bs = inkOfAll (payload s o p bs .drawing .strokes)
 
 -- the raster's ratio, as so many to 1, or else it is left to P1
 pub data Ratio : Type 0 where

@@ -1,6 +1,7 @@
 -- Any reader that goes byte by byte, and what a call of it with an ink allowance does (document 01, 'Ink').
 -- Nothing of SIXEL stands here: a reader is a step for each byte, and what a stop leaves.
-use Prim.Native.Nat.{ℕ, zero, suc, _+_, _-_}
+use Prim.Native.Nat.{ℕ, suc, _+_, _-_, _≤_, _<_}
+use mathlib.Core.Path.{_≡_}
 use mathlib.Core.Bool.{Bool, true, false, cond, _&&_}
 use mathlib.Core.List.{List, [], _∷_, _++_}
 use lib.Dec.{leb}
@@ -17,6 +18,27 @@ pub data How : Type 0 where
   readAll stopped halted : How
   refusedBy : ℕ → How
 
+-- all bytes were read
+unfoldable pub isAll : How → Bool
+isAll readAll = true
+isAll stopped = false
+isAll halted = false
+isAll (refusedBy n) = false
+
+-- a byte was refused
+unfoldable pub isRefused : How → Bool
+isRefused readAll = false
+isRefused stopped = false
+isRefused halted = false
+isRefused (refusedBy n) = true
+
+-- neither an end nor a refusal has come
+unfoldable pub isOngoing : How → Bool
+isOngoing readAll = true
+isOngoing stopped = true
+isOngoing halted = false
+isOngoing (refusedBy n) = false
+
 -- what reading some bytes came to
 pub record Run (S : Type 0) : Type 0 where
   pub state : S
@@ -32,6 +54,11 @@ still s how = record { state = s; consumed = 0; ink = 0; how = how }
 unfoldable pub after : {S : Type 0} → ℕ → ℕ → Run S → Run S
 after n i r = record { state = r .state; consumed = n + r .consumed; ink = i + r .ink; how = r .how }
 
+-- a run that read all its bytes, and what follows from its state; any other run stays as it is
+unfoldable pub continued : {S : Type 0} → Run S → (S → Run S) → Run S
+unfolding after isAll
+continued r later = cond (isAll (r .how)) (after (r .consumed) (r .ink) (later (r .state))) r
+
 -- a byte that was read is followed by what comes next
 unfoldable pub follow : {S : Type 0} → Step S → (S → ℕ → Run S) → Run S
 unfolding still
@@ -45,6 +72,11 @@ module _ {S : Type 0} (step : S → ℕ → Step S) where
   unfolding still after follow
   readFrom s [] = still s readAll
   readFrom s (b ∷ bs) = follow (step s b) (λ t i. after 1 i (readFrom t bs))
+
+  -- reading goes on after a run that read all its bytes
+  unfoldable pub thenRead : Run S → List ℕ → Run S
+  unfolding continued readFrom
+  thenRead r ys = continued r (λ t. readFrom t ys)
 
   -- a call with an allowance: it stops before the first byte whose ink exceeds what is left
   module _ (rest : S → S) where
@@ -88,6 +120,10 @@ pub record Caller (S : Type 0) : Type 0 where
   pub ink : ℕ
   pub how : How
 
+-- what a caller's calls came to so far
+unfoldable pub ranBy : {S : Type 0} → Caller S → Run S
+ranBy c = record { state = c .state; consumed = c .consumed; ink = c .ink; how = c .how }
+
 -- a caller that has made no call
 unfoldable pub ready : {S : Type 0} → S → Caller S
 ready s = record { state = s; unread = []; consumed = 0; ink = 0; how = readAll }
@@ -129,3 +165,17 @@ module _ {S : Type 0} (step : S → ℕ → Step S) (rest : S → S) where
   unfolding turn mayCall
   proper A c [] = true
   proper A c (t ∷ ts) = leb A (allowanceOf t) && (mayCall t (c .how) && proper A (turn c t) ts)
+
+-- ---- what the laws of calls ask of a reader
+
+-- a stop leaves a byte that has ink as it was
+abbrev pub RestLaw : {S : Type 0} → (S → ℕ → Step S) → (S → S) → Type 0
+RestLaw {S} step rest = (s t : S) (b i : ℕ) → step s b ≡ next t i → 0 < i → step (rest s) b ≡ next t i
+
+-- where the end has come it stays
+abbrev pub HaltLaw : {S : Type 0} → (S → ℕ → Step S) → Type 0
+HaltLaw {S} step = (s t : S) (b : ℕ) → step s b ≡ halt t → step t b ≡ halt t
+
+-- no byte has more ink than the cap
+abbrev pub CapLaw : {S : Type 0} → (S → ℕ → Step S) → ℕ → Type 0
+CapLaw {S} step cap = (s t : S) (b i : ℕ) → step s b ≡ next t i → i ≤ cap

@@ -1,18 +1,17 @@
 -- A payload read byte by byte, and a DCS sequence around it (document 01, 'Reading the payload', 'DCS framing and one-shot').
-use Prim.Native.Nat.{ℕ, suc, _+_, _-_, _*_}
-use mathlib.Core.Bool.{Bool, true, false, cond, not, _||_}
+use Prim.Native.Nat.{ℕ, suc, _-_}
+use mathlib.Core.Bool.{cond, _||_}
 use mathlib.Core.Option.{Option, none, some, Option·map}
 use mathlib.Core.List.{List, [], _∷_, _++_}
-use lib.Dec.{leb, ltb, eqb}
-use lib.ListN.{length, getD, getElem?}
-use Rattle.numbers.specs.Bytes.{skipped, digit, ends, semicolon}
+use lib.Dec.{eqb}
+use lib.ListN.{getElem?}
+use Rattle.numbers.specs.Bytes.{skipped, ends}
 use Rattle.numbers.specs.Values.{values, held16}
 use Rattle.colours.specs.declared.Palette.{Palette}
-use Rattle.canvas.specs.Picture.{Stroke, Area}
 use Rattle.meaning.specs.Commands.{Begun, Scanned, ofValues, closed, scanByte}
-use Rattle.meaning.specs.Drawing.{Limits, Setting, Drawing, Outcome, blank, drawAll, inkOfAll}
-use Rattle.meaning.specs.Payload.{Parameters, Finished, finished, turnedDown, finish}
-use Rattle.meaning.specs.Reader.{Step, next, halt, refuse}
+use Rattle.meaning.specs.Drawing.{Setting, Drawing, Outcome, blank, drawAll, inkOfAll}
+use Rattle.meaning.specs.Payload.{Parameters, Finished, turnedDown, finish}
+use Rattle.meaning.specs.Reader.{Step, next, halt, refuse, readAll, stopped, halted, refusedBy, Run}
 
 -- ---- a payload
 
@@ -69,6 +68,17 @@ payloadStep s r b = elim (r .over) [ none ↦ readByte s r b | some e ↦ halt r
 -- finishing carries the pending command out
 unfoldable pub finishReading : Setting → Reading → Finished
 finishReading s r = finish s (r .parameters) (settled s r)
+
+-- what reading some of a payload comes to: the drawing that a refusal left, or else the one with the begun command carried out
+unfoldable pub outcomeOf : Setting → Run Reading → Outcome
+unfolding settled
+outcomeOf s q =
+    elim (q .how) [
+      | readAll ↦ settled s (q .state)
+      | stopped ↦ settled s (q .state)
+      | halted ↦ settled s (q .state)
+      | refusedBy n ↦ record { drawing = q .state .drawing; refusal = some n }
+    ]
 
 -- ---- a DCS sequence
 
