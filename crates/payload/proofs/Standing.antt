@@ -1,32 +1,30 @@
 -- A session of the code and its canvas stand for a session of the definition: from the opening on, after every feed, and at the finish.
-use Prim.Native.Nat.{ℕ, _+_, _-_, _*_, _≤_, zero-le}
+use Prim.Native.Nat.{ℕ, _-_, _*_, zero-le}
 use native.Mathlib.Nat.{zero-add, sub-zero}
-use native.Mathlib.Omega.{arith}
 use mathlib.Core.Bool.{Bool, true, false, cond, not, _&&_, _||_, true≢false}
 use mathlib.Core.Option.{Option, none, some}
-use mathlib.Core.List.{List, [], _∷_, _++_}
+use mathlib.Core.List.{List, [], _∷_}
 use mathlib.Core.Path.{_≡_, refl, sym, ap, ap₂, _∙_, subst}
-use borrow.Author.Tests.{eqb-true, eq-eqb}
+use borrow.Author.Tests.{eqb-true, eq-eqb, le-leb}
 use lib.Dec.{leb, ltb, eqb}
 use lib.ListN.{length}
-use Rattle.numbers.proofs.Laws.{cond-yes, cond-no}
 use Rattle.colours.specs.declared.Palette.{Palette}
 use Rattle.colours.specs.Palette.{registerOf}
-use Rattle.canvas.specs.Picture.{areaOf, rowsOf, fits, span, picture}
-use Rattle.canvas.specs.Paint.{painted, grown}
+use Rattle.canvas.specs.Picture.{areaOf, rowsOf, fits, span}
+use Rattle.canvas.specs.Paint.{painted}
 use Rattle.canvas.proofs.Covers.{by-test}
+use Rattle.canvas.proofs.Pictures.{length-picture}
 use Rattle.frame.specs.declared.Frame.{Frame}
 use Rattle.frame.specs.declared.Ground.{Ground}
 use Rattle.frame.specs.declared.Limits.{Limits}
 use Rattle.frame.specs.declared.Outcome.{Outcome}
 use Rattle.frame.specs.declared.Outcome.the-variants as outcomes
-use Rattle.frame.specs.declared.Progress.{Progress}
 use Rattle.frame.specs.declared.Raster.{Raster}
 use Rattle.frame.specs.declared.Refusal.{Refusal}
 use Rattle.frame.specs.declared.Refusal.the-variants as refusals
 use Rattle.frame.specs.Commands.{Ended, ended}
 use Rattle.frame.specs.Numbers.{numberOf}
-use Rattle.frame.specs.Step.{Turned, settledStep}
+use Rattle.frame.specs.Step.{settledStep}
 use Rattle.frame.specs.Feed.{Reached, feedFrom}
 use Rattle.meaning.specs.Calls as calls
 use Rattle.meaning.specs.Drawing as drawing
@@ -77,7 +75,8 @@ unfolding openable limitsFit inRange calls.opens calls.limitsHold calls.ranges l
 opens-meant l stride size = refl
 
 module _ (l : Limits) (stride : ℕ) (o : Settings) (p : Palette) (opening : List ℕ) where
-  ready-stands : openable l stride (length opening) ≡ true
+  -- a session that is ready
+  pub ready-stands : openable l stride (length opening) ≡ true
       → Stands opening (sessionFor l stride (length opening) o p lives.Live) (painted (span 0 1) (backgroundFor p (o .p2)) opening)
       (record { setting = settingMeant l stride (length opening); length = length opening; state = opened (parametersMeant o) p; failed = false })
   unfolding sessionFor groundFor settingMeant limitsMeant calls.settingFor opened parametersMeant blankFrame same.blankFrame same.groundOf
@@ -190,7 +189,8 @@ step-parameters s r b = go (payloadStep s r b) (reading-parameters s r (b ∷ []
     go (halt t) e = e
     go (refuse t n) e = e
 
-call-parameters : (s : drawing.Setting) (a : ℕ) (r : Reading) (bs : List ℕ) → call (payloadStep s) (rested s) a r bs .state .parameters ≡ r .parameters
+-- so a call leaves them
+pub call-parameters : (s : drawing.Setting) (a : ℕ) (r : Reading) (bs : List ℕ) → call (payloadStep s) (rested s) a r bs .state .parameters ≡ r .parameters
 unfolding rested
 call-parameters s a r bs =
     call-keeps (λ (t : Reading). t .parameters ≡ r .parameters) (payloadStep s) (rested s)
@@ -202,7 +202,7 @@ unfolding payloadStep
 over-halts s r x e = ap (λ (o : Option ℕ). elim o as (λ _. Step Reading) [ none ↦ readByte s r x | some n ↦ halt r ]) e
 
 -- a feed by its refusal: refused, or read
-fed-meant : (m : calls.Session Reading) (size a : ℕ) (bs : List ℕ) {o : Option ℕ} → calls.feedRefusal (λ (r : Reading). r .drawing .area) m size a ≡ o
+pub fed-meant : (m : calls.Session Reading) (size a : ℕ) (bs : List ℕ) {o : Option ℕ} → calls.feedRefusal (λ (r : Reading). r .drawing .area) m size a ≡ o
     → calls.feedPayload m size a bs
     ≡ elim o as (λ _. calls.Fed Reading ℕ) [
       | none ↦ calls.answered (λ (r : Reading). r .over) m (call (payloadStep (m .setting)) (rested (m .setting)) a (m .state) bs)
@@ -257,15 +257,24 @@ module _ {opening : List ℕ} {s : Session} {l : List ℕ} {m : calls.Session Re
         (record { answer = ap calls.refused e; session = after-stands lives.Failed (q .state) true kept refl d (λ h. absurd (true≢false h)) })
 
   -- bytes read by a live session
+  pub live-agrees : (a : ℕ) (bs : List ℕ) → m .failed ≡ false → m .state .over ≡ none
+      → FeedAgrees (m .setting) opening (s .ground) 0 0 (call (payloadStep (m .setting)) (rested (m .setting)) a (m .state) bs)
+      (feedFrom (s .ground) a bs 0 0 (s .frame) (s .palette) l)
+  live-agrees a bs h over =
+      subst
+      (λ (n : ℕ).
+      FeedAgrees (m .setting) opening (s .ground) 0 0 (call (payloadStep (m .setting)) (rested (m .setting)) n (m .state) bs)
+      (feedFrom (s .ground) a bs 0 0 (s .frame) (s .palette) l))
+      (sub-zero a)
+      (feed-agrees {r = m .state} a bs 0 0 zero-le (record { drawing = k .drawing; begun = k .begun h }) over)
+
   live-feeds : (a : ℕ) (bs : List ℕ) → m .failed ≡ false → m .state .over ≡ none
       → Feeds opening (fedLive s l bs a) (calls.answered (λ (r : Reading). r .over) m (call (payloadStep (m .setting)) (rested (m .setting)) a (m .state) bs))
   unfolding fedLive answeredBy coded defined calls.answered
   live-feeds a bs h over =
       let q : Run Reading = call (payloadStep (m .setting)) (rested (m .setting)) a (m .state) bs in
       let t : Reached = feedFrom (s .ground) a bs 0 0 (s .frame) (s .palette) l in
-      let g : FeedAgrees (m .setting) opening (s .ground) 0 0 q t =
-      subst (λ (n : ℕ). FeedAgrees (m .setting) opening (s .ground) 0 0 (call (payloadStep (m .setting)) (rested (m .setting)) n (m .state) bs) t) (sub-zero a)
-      (feed-agrees {r = m .state} a bs 0 0 zero-le (record { drawing = k .drawing; begun = k .begun h }) over) in
+      let g : FeedAgrees (m .setting) opening (s .ground) 0 0 q t = live-agrees a bs h over in
       ends-feed q t (call-parameters (m .setting) a (m .state) bs) (g .consumed ∙ zero-add _) (g .ink ∙ zero-add _) (q .how) (g .ends)
 
   -- an ended session repeats its end
@@ -370,13 +379,13 @@ module _ {opening : List ℕ} {s : Session} {l : List ℕ} {m : calls.Session Re
       (d .canvas)
 
   live-finishes : {x : meant.Finished} → Finishing (m .setting) opening (m .state) (s .ground) x (settledStep (s .frame) (s .ground) (s .palette) l)
-      → Finishes opening owner l m (finishedLive s owner l) x
+      → Finishes (calls.payloadShownAtFinish m opening) owner l (finishedLive s owner l) x
   unfolding last settledStep finishedLive finishedIn turnedAway
   live-finishes (reporting {answer} e rep d) =
-      subst (λ (y : Finished × List ℕ). Finishes opening owner l m y (meant.finished answer)) (sym (live-pictures e d))
+      subst (λ (y : Finished × List ℕ). Finishes (calls.payloadShownAtFinish m opening) owner l y (meant.finished answer)) (sym (live-pictures e d))
       (subst
       (λ (r : meant.Report).
-      Finishes opening owner l m
+      Finishes (calls.payloadShownAtFinish m opening) owner l
       (record { answer = finishes.Picture (reportedAs (last .stepped .frame) (s .settings)); palette = last .palette }, calls.payloadShownAtFinish m opening)
       (meant.finished r))
       (report-meant (last .stepped .frame) (s .settings) (last .palette)
@@ -384,12 +393,12 @@ module _ {opening : List ℕ} {s : Session} {l : List ℕ} {m : calls.Session Re
       ∙ sym rep)
       pictures)
   live-finishes (declining {n = n} why number e kept d) =
-      subst (λ (y : Finished × List ℕ). Finishes opening owner l m y (meant.turnedDown n))
+      subst (λ (y : Finished × List ℕ). Finishes (calls.payloadShownAtFinish m opening) owner l y (meant.turnedDown n))
       (ap (λ (o : Outcome). finishedIn o s owner (last .stepped .frame) (last .palette) l) (sym e))
-      (subst (λ (i : ℕ). Finishes opening owner l m (record { answer = finishes.Refused why; palette = owner }, l) (meant.turnedDown i)) number (declines why))
+      (subst (λ (i : ℕ). Finishes (calls.payloadShownAtFinish m opening) owner l (record { answer = finishes.Refused why; palette = owner }, l) (meant.turnedDown i)) number (declines why))
 
 -- a finish by its refusal
-finished-meant : (m : calls.Session Reading) (size : ℕ) {o : Option ℕ}
+pub finished-meant : (m : calls.Session Reading) (size : ℕ) {o : Option ℕ}
     → calls.firstOf (record { holds = m .failed; number = 9 } ∷ record { holds = calls.misfits (λ (r : Reading). r .drawing .area) m size; number = 12 } ∷ []) ≡ o
     → calls.finishPayload m size
     ≡ elim o as (λ _. meant.Finished) [ none ↦ finishReading (m .setting) (m .state) | some n ↦ meant.turnedDown n ]
@@ -399,15 +408,41 @@ finished-meant m size e =
 
 -- a finish of the code is the definition's
 pub finish-stands : {opening : List ℕ} {s : Session} {l : List ℕ} {m : calls.Session Reading} → Stands opening s l m → (owner : Palette)
-    → Finishes opening owner l m (finishedBy s owner l) (calls.finishPayload m (length l))
+    → Finishes (calls.payloadShownAtFinish m opening) owner l (finishedBy s owner l) (calls.finishPayload m (length l))
 unfolding finishedBy finishedAs turnedAway judgedMeant misfit finishJudged
 finish-stands {opening} {s} {l} {m} k owner = go (finishJudged s (length l)) refl
   where
-    go : (j : Judged) → finishJudged s (length l) ≡ j → Finishes opening owner l m (finishedAs j s owner l) (calls.finishPayload m (length l))
+    go : (j : Judged) → finishJudged s (length l) ≡ j → Finishes (calls.payloadShownAtFinish m opening) owner l (finishedAs j s owner l) (calls.finishPayload m (length l))
     go judged.Fine e =
         let live : m .failed ≡ false = sym (failed-test k (length l)) ∙ passes refusals.Failed (isFailed (s .life)) _ e .0 in
-        subst (Finishes opening owner l m (finishedLive s owner l)) (sym (finished-meant m (length l) (sym (finish-judged k (length l)) ∙ ap judgedMeant e)))
+        subst (Finishes (calls.payloadShownAtFinish m opening) owner l (finishedLive s owner l)) (sym (finished-meant m (length l) (sym (finish-judged k (length l)) ∙ ap judgedMeant e)))
         (live-finishes k owner (finish-agrees (record { drawing = k .drawing; begun = k .begun live })))
     go (judged.Refused n) e =
-        subst (Finishes opening owner l m (record { answer = finishes.Refused n; palette = owner }, l))
+        subst (Finishes (calls.payloadShownAtFinish m opening) owner l (record { answer = finishes.Refused n; palette = owner }, l))
         (sym (finished-meant m (length l) (sym (finish-judged k (length l)) ∙ ap judgedMeant e))) (declines n)
+
+-- ---- what a session that stands has
+
+module _ {opening : List ℕ} {s : Session} {l : List ℕ} {m : calls.Session Reading} (k : Stands opening s l m) where
+  -- the canvas shows the drawing of its state on the bytes of the opening
+  pub stands-shows : l ≡ calls.payloadShown m opening
+  unfolding calls.payloadShown calls.shown same.canvasOf
+  stands-shows = k .drawing .canvas
+
+  -- it is as long as at the opening
+  pub stands-long : length l ≡ length opening
+  unfolding same.canvasOf
+  stands-long =
+      ap length (k .drawing .canvas)
+      ∙ length-picture (m .setting .stride) (m .state .drawing .area) (m .state .drawing .background) (m .state .drawing .strokes) opening
+
+  -- and the picture fits it
+  pub stands-fit : calls.misfits (λ (r : Reading). r .drawing .area) m (m .length) ≡ false
+  unfolding calls.misfits fits settingMeant calls.settingFor
+  stands-fit =
+      let rows : m .setting .rows ≡ rowsOf (m .length) (m .setting .stride) =
+      ap (λ (x : drawing.Setting). x .rows) (k .setting)
+      ∙ ap₂ rowsOf (sym (k .long)) (sym (ap (λ (x : drawing.Setting). x .stride) (k .setting))) in
+      let room = k .drawing .sound .fits in
+      rw (eq-eqb (m .length) (m .length) refl, le-leb (m .state .drawing .area .width) (m .setting .stride) (room .stride), ← rows, le-leb (m .state .drawing .area .height) (m .setting .rows) (room .rows))
+      refl

@@ -15,14 +15,13 @@ use Rattle.meaning.specs.Calls as calls
 use Rattle.meaning.specs.Drawing as drawing
 use Rattle.meaning.specs.Histories.{Ask}
 use Rattle.meaning.specs.Payload as meant
-use Rattle.meaning.specs.Reader.{How, readAll, stopped, halted, refusedBy, Run, Turn, pieceOf, allowanceOf, Caller, ready, mayCall}
+use Rattle.meaning.specs.Reader.{How, readAll, stopped, halted, refusedBy, Turn, pieceOf, allowanceOf, Caller, mayCall}
 use Rattle.meaning.specs.Sessions.{Reading}
 use Rattle.agreement.specs.Same.{SameDrawing, SameBegun}
 use Rattle.payload.specs.declared.Answer.{Answer}
 use Rattle.payload.specs.declared.Answer.the-variants as answers
 use Rattle.payload.specs.declared.Fed.{Fed}
 use Rattle.payload.specs.declared.Finished.{Finished}
-use Rattle.payload.specs.declared.Finishing.{Finishing}
 use Rattle.payload.specs.declared.Finishing.the-variants as finishes
 use Rattle.payload.specs.declared.Given.{Given}
 use Rattle.payload.specs.declared.Given.the-variants as givens
@@ -80,12 +79,6 @@ reportMeant r p =
       palette = p;
     }
 
--- a finish's answer
-unfoldable pub finishMeant : Finishing → Palette → meant.Finished
-unfolding reportMeant
-finishMeant (finishes.Picture r) p = meant.finished (reportMeant r p)
-finishMeant (finishes.Refused n) p = meant.turnedDown (numberOf n)
-
 -- ---- a session and its canvas stand for a session of the definition
 
 -- a live session has come to no end, an ended one to its byte; a failed one has failed
@@ -116,13 +109,13 @@ pub record Feeds (opening : List ℕ) (x : Fed × List ℕ) (y : calls.Fed Readi
   pub answer : answerMeant (x .0 .answer) ≡ y .answer
   pub session : Stands opening (x .0 .session) (x .1) (y .session)
 
--- a finish: the definition's report, its palette committed and its drawing on the canvas; or the definition's refusal, the palette the owner's
+-- a finish: the definition's report, its palette committed and its picture on the canvas; or the definition's refusal, the palette the owner's
 -- and the canvas as it was
-pub data Finishes (opening : List ℕ) (owner : Palette) (l : List ℕ) (m : calls.Session Reading) : Finished × List ℕ → meant.Finished → Type 0 where
+pub data Finishes (picture : List ℕ) (owner : Palette) (l : List ℕ) : Finished × List ℕ → meant.Finished → Type 0 where
   pictures : {r : Report} {p : Palette}
-      → Finishes opening owner l m (record { answer = finishes.Picture r; palette = p }, calls.payloadShownAtFinish m opening) (meant.finished (reportMeant r p))
+      → Finishes picture owner l (record { answer = finishes.Picture r; palette = p }, picture) (meant.finished (reportMeant r p))
   declines : (n : Refusal)
-      → Finishes opening owner l m (record { answer = finishes.Refused n; palette = owner }, l) (meant.turnedDown (numberOf n))
+      → Finishes picture owner l (record { answer = finishes.Refused n; palette = owner }, l) (meant.turnedDown (numberOf n))
 
 -- ---- any calls, the canvas given back each time as it was left
 
@@ -153,47 +146,44 @@ fedAllMeant m size (c ∷ cs) =
 
 -- ---- a caller that presents what was left unread (document 01, 'Ink')
 
--- how a call came to its end, by its answer
-unfoldable pub howMeant : Answer → How
-howMeant (answers.More consumed ink) = readAll
-howMeant (answers.Stopped consumed ink) = stopped
-howMeant (answers.Ended consumed ink b) = halted
-howMeant (answers.Refused n) = refusedBy (numberOf n)
+-- how a call came to its end, as its answer tells
+unfoldable pub howTold : calls.Answer ℕ → How
+howTold (calls.told consumed ink calls.needsMore) = readAll
+howTold (calls.told consumed ink calls.stoppedForInk) = stopped
+howTold (calls.told consumed ink (calls.ended b)) = halted
+howTold (calls.refused n) = refusedBy n
 
 -- the counts that it tells; a refusal tells none
-unfoldable pub consumedBy : Answer → ℕ
-consumedBy (answers.More consumed ink) = consumed
-consumedBy (answers.Stopped consumed ink) = consumed
-consumedBy (answers.Ended consumed ink b) = consumed
-consumedBy (answers.Refused n) = 0
+unfoldable pub consumedTold : calls.Answer ℕ → ℕ
+consumedTold (calls.told consumed ink status) = consumed
+consumedTold (calls.refused n) = 0
 
-unfoldable pub inkBy : Answer → ℕ
-inkBy (answers.More consumed ink) = ink
-inkBy (answers.Stopped consumed ink) = ink
-inkBy (answers.Ended consumed ink b) = ink
-inkBy (answers.Refused n) = 0
+unfoldable pub inkTold : calls.Answer ℕ → ℕ
+inkTold (calls.told consumed ink status) = ink
+inkTold (calls.refused n) = 0
 
 -- what a caller holds: a session and its canvas
 abbrev pub Held : Type 0
 Held = Session × List ℕ
 
--- where a caller stands after a feed of what it presented
-unfoldable pub afterFeed : Caller Held → List ℕ → Fed × List ℕ → Caller Held
-unfolding consumedBy inkBy howMeant
-afterFeed c presented x =
+-- where a caller stands after a feed of what it presented, with the answer's meaning
+unfoldable pub afterFeed : Caller Held → List ℕ → Held → calls.Answer ℕ → Caller Held
+unfolding howTold consumedTold inkTold
+afterFeed c presented held x =
     record {
-      state = (x .0 .session, x .1);
-      unread = drop (consumedBy (x .0 .answer)) presented;
-      consumed = c .consumed + consumedBy (x .0 .answer);
-      ink = c .ink + inkBy (x .0 .answer);
-      how = howMeant (x .0 .answer);
+      state = held;
+      unread = drop (consumedTold x) presented;
+      consumed = c .consumed + consumedTold x;
+      ink = c .ink + inkTold x;
+      how = howTold x;
     }
 
 unfoldable pub called : Caller Held → Turn → Caller Held
 unfolding afterFeed
 called c t =
     let presented : List ℕ = c .unread ++ pieceOf t in
-    afterFeed c presented (fedBy (c .state .0) (c .state .1) presented (allowanceOf t))
+    let x : Fed × List ℕ = fedBy (c .state .0) (c .state .1) presented (allowanceOf t) in
+    afterFeed c presented (x .0 .session, x .1) (answerMeant (x .0 .answer))
 
 unfoldable pub callsOf : Caller Held → List Turn → Caller Held
 unfolding called
