@@ -2,6 +2,7 @@
 // them. Inner: nothing here is for a caller of the reader.
 pub mod commands;
 pub mod process;
+mod renew;
 pub mod sizes;
 pub mod step;
 

@@ -2,13 +2,36 @@
 ghost use mathlib.Core.Path.{_≡_};
 ghost use lib.ListN.{length};
 ghost use Rattle.colours.specs.Palette.{ofTable};
-ghost use Rattle.frame.specs.Step.{Fits};
+ghost use Rattle.frame.specs.Step.{Fits, Turned, stepOf};
 ghost use Rattle.frame.specs.Feed.{Reached, feedFrom};
 use crate::Frame;
 use crate::Ground;
 use crate::Outcome;
 use crate::Progress;
+use crate::Stepped;
+use crate::renew::renewed;
 use crate::step::step;
+
+// One byte, and the frame made anew after it.
+fn turn(
+    frame: Frame,
+    ground: Ground,
+    colors: &mut [u32; 256],
+    canvas: &mut [u8],
+    byte: u8,
+    left: usize,
+) -> Stepped
+    requires { ⌜ Fits frame ground (length (now canvas)) ⌝ }
+    ensures { λ r. ⌜ record { stepped = r; palette = ofTable (now (colors .exit)); canvas = now (canvas .exit) } ≡ stepOf frame ground byte left (ofTable (now (colors .entry))) (now (canvas .entry)) ⌝ }
+{
+    let stepped = step(frame, ground, colors, canvas, byte, left);
+    let outcome = stepped.outcome;
+    Stepped {
+        frame: renewed(stepped.frame),
+        ink: stepped.ink,
+        outcome,
+    }
+}
 
 // Reads bytes until all are read, or one stays unread.
 pub fn process(
@@ -27,7 +50,7 @@ pub fn process(
     let mut ink = 0;
     while consumed < bytes.len() {
         let byte = bytes[consumed];
-        let stepped = step(now, ground, colors, canvas, byte, allowance - ink);
+        let stepped = turn(now, ground, colors, canvas, byte, allowance - ink);
         let outcome = stepped.outcome;
         now = stepped.frame;
         match outcome {

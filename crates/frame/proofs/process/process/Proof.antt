@@ -21,11 +21,11 @@ loop-holds c = search (needs, turns)
 shared-slice-read-byte : tie.Need-shared-slice-read-byte Inv-loop μ-loop
 shared-slice-read-byte c = search (needs, turns)
 
-sub-step : tie.Need-sub-step Inv-loop μ-loop
-sub-step c = search (needs, turns)
+sub-turn : tie.Need-sub-turn Inv-loop μ-loop
+sub-turn c = search (needs, turns)
 
-step-requires : tie.Need-step-requires Inv-loop μ-loop
-step-requires c κs = search (needs, turns)
+turn-requires : tie.Need-turn-requires Inv-loop μ-loop
+turn-requires c κs = search (needs, turns)
 
 enum-told : tie.Need-enum-told Inv-loop μ-loop
 enum-told c = search (needs, turns)
@@ -38,7 +38,7 @@ add-consumed c =
 add-ink : tie.Need-add-ink Inv-loop μ-loop
 add-ink c =
     let head = c .before .before .before .before .before .before .before .before .before .before .before in
-    omega (arith, turn-ink (head .loop .inv) (c .before .before .before .before .before .before .step .ensures), head .before .before .before .fits .allowance)
+    omega (arith, turn-ink (head .loop .inv) (c .before .before .before .before .before .before .turn .ensures), head .before .before .before .fits .allowance)
 
 loop-less : tie.Need-loop-less Inv-loop μ-loop
 loop-less c = search (needs, turns)
@@ -75,8 +75,8 @@ process-spec =
     μ-loop
     loop-holds
     shared-slice-read-byte
-    sub-step
-    step-requires
+    sub-turn
+    turn-requires
     enum-told
     add-consumed
     add-ink
