@@ -264,6 +264,7 @@ fn argument_step(
 }
 
 // One byte.
+// Inner: asks that the visible area has room on the canvas.
 pub fn step(
     frame: Frame,
     ground: Ground,
