@@ -21,6 +21,7 @@ use Rattle.frame.specs.declared.Kind.{Kind}
 use Rattle.frame.specs.declared.Kind.the-variants as kinds
 use Rattle.frame.specs.declared.Outcome.{Outcome}
 use Rattle.frame.specs.declared.Outcome.the-variants as outcomes
+use Rattle.frame.specs.declared.Progress.{Progress}
 use Rattle.frame.specs.declared.Stepped.{Stepped}
 use Rattle.frame.specs.declared.sizes.Needed.{Needed}
 use Rattle.frame.specs.declared.sizes.Needed.the-variants.{Area, Refused}
@@ -231,10 +232,11 @@ module _ {g : Ground} {allowance : ℕ} {bytes : List ℕ} {whole : Reached} {ro
     once h =
         step ∙ sym (byte-once f g (getD bytes consumed 0) (allowance - ink) p l (λ o. h (ap (λ (x : Turned). x .stepped .outcome) step ∙ o)))
 
-    pub turn-stops : OneOf (2 ∷ 3 ∷ 4 ∷ []) (tagOf OutcomeType.the-type (s .outcome))
-        → _≡_ {A = Reached} (record { progress = record { frame = s .frame; consumed = consumed; ink = ink; outcome = s .outcome }; palette = q; canvas = l₁ }) whole
+    pub turn-stops : {r : Progress} → OneOf (2 ∷ 3 ∷ 4 ∷ []) (tagOf OutcomeType.the-type (s .outcome)) → r ≡ record { frame = s .frame; consumed = consumed; ink = ink; outcome = s .outcome }
+        → _≡_ {A = Reached} (record { progress = r; palette = q; canvas = l₁ }) whole
     unfolding reachedAs
-    turn-stops o =
+    turn-stops o e =
+        ap (λ (x : Progress). record { progress = x; palette = q; canvas = l₁ }) e ∙
         go-other (s .outcome) (record { stepped = s; palette = q; canvas = l₁ }) consumed ink (λ n i f′ p′ l′. feedFrom g allowance (drop (consumed + 1) bytes) n i f′ p′ l′) o
         ∙ here _ (once (other-unsettled (s .outcome) o))
 
@@ -265,11 +267,12 @@ module _ {g : Ground} {allowance : ℕ} {bytes : List ℕ} {whole : Reached} {ro
           }
 
 -- all bytes are read
-pub going-done : {g : Ground} {allowance : ℕ} {bytes : List ℕ} {whole : Reached} {room : ℕ} {p : Palette} {l : List ℕ} {f : Frame} {consumed ink : ℕ} → Going g allowance bytes whole room p l f consumed ink → length bytes ≤ consumed
-    → _≡_ {A = Reached} (record { progress = record { frame = f; consumed = consumed; ink = ink; outcome = outcomes.Read }; palette = p; canvas = l }) whole
+pub going-done : {g : Ground} {allowance : ℕ} {bytes : List ℕ} {whole : Reached} {room : ℕ} {p : Palette} {l : List ℕ} {f : Frame} {consumed ink : ℕ} {r : Progress} → Going g allowance bytes whole room p l f consumed ink → length bytes ≤ consumed
+    → r ≡ record { frame = f; consumed = consumed; ink = ink; outcome = outcomes.Read } → _≡_ {A = Reached} (record { progress = r; palette = p; canvas = l }) whole
 unfolding feedFrom reachedAs
-going-done {g} {allowance} {bytes} {p = p} {l = l} {f = f} {consumed = consumed} {ink = ink} going h =
+going-done {g} {allowance} {bytes} {p = p} {l = l} {f = f} {consumed = consumed} {ink = ink} going h k =
     let e : consumed ≡ length bytes = omega (arith, going .within) in
-    ap (λ (bs : List ℕ). feedFrom g allowance bs consumed ink f p l) (sym (ap (λ (n : ℕ). drop n bytes) e ∙ drop-length bytes)) ∙ going .same
+    ap (λ (x : Progress). record { progress = x; palette = p; canvas = l }) k
+    ∙ ap (λ (bs : List ℕ). feedFrom g allowance bs consumed ink f p l) (sym (ap (λ (n : ℕ). drop n bytes) e ∙ drop-length bytes)) ∙ going .same
 
 pub ruleset turns = (going-start, turn-ink, turn-settles, turn-reads, turn-stops, going-read, going-settled, going-done)

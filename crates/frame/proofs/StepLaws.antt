@@ -80,25 +80,29 @@ pub sixel-room : (f : Frame) (g : Ground) (w h n m : ℕ) → m ≡ n → Fits f
 sixel-room f g w h n m e fits holds =
     (omega (arith, holds .columns, holds .width), rw e (omega (arith, fits .rows, holds .sixRows, holds .height)))
 
+pub put-as : {l₁ l₂ : List ℕ} (f : Frame) (g : Ground) (bits w h : ℕ) (l : List ℕ)
+    → l₁ ≡ grown (g .stride) (areaOf (f .sheet .width) (f .sheet .height)) (areaOf w h) (g .background) l
+    → l₂ ≡ sixelPainted (g .stride) (f .pen .column) (f .pen .row) (f .pen .repeat) bits (f .pen .color) l₁
+    → l₂ ≡ canvasAfter f g bits w h l
+unfolding canvasAfter
+put-as f g bits w h l e k = k ∙ ap (sixelPainted (g .stride) (f .pen .column) (f .pen .row) (f .pen .repeat) bits (f .pen .color)) e
+
 module _ (f : Frame) (g : Ground) (bits left w h : ℕ) (p : Palette) (l : List ℕ) where
   pub painted-stopped : left < ones bits * f .pen .repeat
       → _≡_ {A = Turned} (record { stepped = record { frame = f; ink = 0; outcome = outcomes.Stopped }; palette = p; canvas = l }) (paintedOn f g bits left w h p l)
   unfolding paintedOn
   painted-stopped k = sym (cond-yes _ _ (lt-ltb _ _ k))
 
-  pub painted-read : {next : Frame} {l₁ l₂ : List ℕ} → ones bits * f .pen .repeat ≤ left
-      → l₁ ≡ grown (g .stride) (areaOf (f .sheet .width) (f .sheet .height)) (areaOf w h) (g .background) l
-      → l₂ ≡ sixelPainted (g .stride) (f .pen .column) (f .pen .row) (f .pen .repeat) bits (f .pen .color) l₁
-      → next ≡ inked f bits w h
-      → _≡_ {A = Turned} (record { stepped = record { frame = next; ink = ones bits * f .pen .repeat; outcome = outcomes.Read }; palette = p; canvas = l₂ })
+  pub painted-read : {next : Frame} {l₁ : List ℕ} → ones bits * f .pen .repeat ≤ left → l₁ ≡ canvasAfter f g bits w h l → next ≡ inked f bits w h
+      → _≡_ {A = Turned} (record { stepped = record { frame = next; ink = ones bits * f .pen .repeat; outcome = outcomes.Read }; palette = p; canvas = l₁ })
       (paintedOn f g bits left w h p l)
-  unfolding paintedOn readAs canvasAfter
-  painted-read {next} {l₁} {l₂} k e₁ e₂ e =
+  unfolding paintedOn readAs
+  painted-read k e n =
       ap₂
       (λ (x : Frame) (y : List ℕ).
       record { stepped = record { frame = x; ink = ones bits * f .pen .repeat; outcome = outcomes.Read }; palette = p; canvas = y })
+      n
       e
-      (e₂ ∙ ap (sixelPainted (g .stride) (f .pen .column) (f .pen .row) (f .pen .repeat) bits (f .pen .color)) e₁)
       ∙ sym (cond-no _ _ (le-ltb _ _ k))
 
 -- the area that a sixel needs holds it
@@ -340,7 +344,7 @@ pub step-argument : {t : Turned} (f : Frame) (g : Ground) (b left : ℕ) (p : Pa
 unfolding stepOf
 step-argument f g b left p l k e = e ∙ pending-step (f .command .kind) f g b left p l k
 
-pub ruleset drawing = (bottom-blank, bottom-inked, inked-as, painted-stopped, painted-read, drawn-area, drawn-refused)
+pub ruleset drawing = (bottom-blank, bottom-inked, inked-as, put-as, painted-stopped, painted-read, drawn-area, drawn-refused)
 
 pub ruleset effects = (own-hash, own-bang, own-dollar, own-dash, own-quote, own-other, sixel-least, data-sixel, data-ended, data-own)
 

@@ -33,7 +33,19 @@ fn turn(
     }
 }
 
+fn reached(frame: Frame, consumed: usize, ink: usize, outcome: Outcome) -> Progress
+    ensures { λ r. ⌜ r ≡ record { frame = frame; consumed = consumed; ink = ink; outcome = outcome } ⌝ }
+{
+    Progress {
+        frame,
+        consumed,
+        ink,
+        outcome,
+    }
+}
+
 // Reads bytes until all are read, or one stays unread.
+// Inner: asks that the visible area has room on the canvas.
 pub fn process(
     frame: Frame,
     ground: Ground,
@@ -59,20 +71,8 @@ pub fn process(
                 ink = ink + stepped.ink;
             }
             Outcome::Settled => {}
-            _ => {
-                return Progress {
-                    frame: now,
-                    consumed,
-                    ink,
-                    outcome,
-                };
-            }
+            _ => return reached(now, consumed, ink, outcome),
         }
     }
-    Progress {
-        frame: now,
-        consumed,
-        ink,
-        outcome: Outcome::Read,
-    }
+    reached(now, consumed, ink, Outcome::Read)
 }

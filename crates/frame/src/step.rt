@@ -7,7 +7,7 @@ ghost use lib.ListN.{length};
 ghost use Rattle.numbers.specs.Bytes.{semicolon};
 ghost use Rattle.colours.specs.declared.Palette.{Palette};
 ghost use Rattle.colours.specs.Palette.{ofTable};
-ghost use Rattle.frame.specs.Step.{Fits, Holds, Turned, inked, paintedOn, drawnBy, rowCeiling, movedTo, ownOf, dataStep, takesSemicolon, settledStep, argumentStep, stepOf};
+ghost use Rattle.frame.specs.Step.{Fits, Holds, Turned, inked, canvasAfter, paintedOn, drawnBy, rowCeiling, movedTo, ownOf, dataStep, takesSemicolon, settledStep, argumentStep, stepOf};
 use crate::Frame;
 use crate::Ground;
 use crate::Kind;
@@ -61,6 +61,33 @@ fn after_sixel(frame: Frame, bits: u8, width: usize, height: usize) -> Frame
     next
 }
 
+// Paints the area that a sixel grows, and the sixel.
+fn put(frame: Frame, ground: Ground, canvas: &mut [u8], bits: u8, width: usize, height: usize)
+    requires { ⌜ Fits frame ground (length (now canvas)) × Holds frame ground width height ⌝ }
+    ensures { λ _. ⌜ now (canvas .exit) ≡ canvasAfter frame ground bits width height (now (canvas .entry)) ⌝ }
+{
+    let background = ground.background;
+    let color = frame.pen.color;
+    canvas::grow(
+        canvas,
+        ground.stride,
+        frame.sheet.width,
+        frame.sheet.height,
+        width,
+        height,
+        background,
+    );
+    canvas::paint_sixel(
+        canvas,
+        ground.stride,
+        frame.pen.column,
+        frame.pen.row,
+        frame.pen.repeat,
+        bits,
+        color,
+    );
+}
+
 // Paints a sixel that has passed its limits, unless its ink exceeds what is left.
 fn paint(
     frame: Frame,
@@ -83,26 +110,7 @@ fn paint(
             outcome: Outcome::Stopped,
         };
     }
-    let background = ground.background;
-    let color = frame.pen.color;
-    canvas::grow(
-        canvas,
-        ground.stride,
-        frame.sheet.width,
-        frame.sheet.height,
-        width,
-        height,
-        background,
-    );
-    canvas::paint_sixel(
-        canvas,
-        ground.stride,
-        frame.pen.column,
-        frame.pen.row,
-        frame.pen.repeat,
-        bits,
-        color,
-    );
+    put(frame, ground, canvas, bits, width, height);
     Stepped {
         frame: after_sixel(frame, bits, width, height),
         ink,
@@ -256,6 +264,7 @@ fn argument_step(
 }
 
 // One byte.
+// Inner: asks that the visible area has room on the canvas.
 pub fn step(
     frame: Frame,
     ground: Ground,

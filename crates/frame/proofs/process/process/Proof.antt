@@ -55,11 +55,17 @@ loop-less-2 c = search (needs, turns)
 loop-again-2 : tie.Need-loop-again-2 Inv-loop μ-loop
 loop-again-2 c = search (needs, turns)
 
+reached-requires : tie.Need-reached-requires Inv-loop μ-loop
+reached-requires c κs = search (needs, turns)
+
 same-length : tie.Need-same-length Inv-loop μ-loop
 same-length c = search (needs, turns)
 
 returns : tie.Need-returns Inv-loop μ-loop
 returns c = search (needs, turns)
+
+reached-requires-2 : tie.Need-reached-requires-2 Inv-loop μ-loop
+reached-requires-2 c κs = search (needs, turns)
 
 same-length-2 : tie.Need-same-length-2 Inv-loop μ-loop
 same-length-2 c = search (needs, turns)
@@ -85,7 +91,9 @@ process-spec =
     enum-told-2
     loop-less-2
     loop-again-2
+    reached-requires
     same-length
     returns
+    reached-requires-2
     same-length-2
     returns-2)

@@ -3,7 +3,7 @@ use borrow.Author.Needs.{needs}
 use denote.Ref.{now}
 use lib.Count.{ones-le}
 use lib.ListN.{length}
-use Rattle.frame.proofs.StepLaws.{drawing, ink-room, sixel-room}
+use Rattle.frame.proofs.StepLaws.{drawing, ink-room}
 use Rattle.frame.proofs.step.paint.Statement.{statement}
 use Rattle.frame.proofs.step.paint.Tie as tie
 
@@ -18,13 +18,8 @@ mul-ink c =
 returns : tie.Need-returns
 returns c = search (needs, drawing)
 
-grow-requires : tie.Need-grow-requires
-grow-requires c κs = search needs
-
-paint-sixel-requires : tie.Need-paint-sixel-requires
-paint-sixel-requires c κs =
-    let s = c .before .before .before .before .before .before .before .before .before .before in
-    sixel-room (s .args .frame) (s .args .ground) _ _ _ _ (c .before .before .before .grow .kept .0) (s .pre .0) (s .pre .1)
+put-requires : tie.Need-put-requires
+put-requires c κs = search needs
 
 after-sixel-requires : tie.Need-after-sixel-requires
 after-sixel-requires c κs = search needs
@@ -38,12 +33,4 @@ returns-2 c = search (needs, drawing)
 pub paint-spec : {M : Type 1} → statement M
 paint-spec =
     tie.close
-    (tie.spec
-    cast-ones
-    mul-ink
-    returns
-    grow-requires
-    paint-sixel-requires
-    after-sixel-requires
-    same-length
-    returns-2)
+    (tie.spec cast-ones mul-ink returns put-requires after-sixel-requires same-length returns-2)
