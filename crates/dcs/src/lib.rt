@@ -1,0 +1,2 @@
+// A DCS session.
+pub mod lead;
