@@ -1,1 +1,2 @@
 pub mod Lead
+pub mod Session
