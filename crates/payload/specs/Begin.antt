@@ -43,7 +43,7 @@ begunSession s o =
       settings = o;
       life = s .life;
       frame = blankFrame (s .palette);
-      palette = s .palette
+      palette = s .palette;
     }
 
 unfoldable pub begunBy : Session → Settings → List ℕ → Session × List ℕ
