@@ -1,3 +1,4 @@
 pub mod LeadLaws
 pub mod Bounds
 pub mod SessionLaws
+pub mod Runs

@@ -58,7 +58,7 @@ pub opened-as : {o : payloadOpened.Opened} {h : Parameters} (l : Limits) (stride
     → _≡_ {A = Opened}
     (record { answer = o .answer; session = record { payload = o .session; header = h; phase = phases.Before places.Start } })
     (openedBy l stride p size)
-unfolding openedBy sessionOf
+unfolding openedBy
 opened-as l stride p size e k =
     ap₂ (λ (x : payloadOpened.Opened) (h : Parameters). record { answer = x .answer; session = sessionOf (x .session) h (phases.Before places.Start) }) e k
 
@@ -80,7 +80,7 @@ pub ruleset openings-laws = (opened-as, given-none, given-some, settings-as)
 -- ---- the end
 
 pub moved-as : (s : Session) (t : Phase) → _≡_ {A = Session} (record { payload = s .payload; header = s .header; phase = t }) (movedTo s t)
-unfolding movedTo sessionOf
+unfolding movedTo
 moved-as s t = refl
 
 pub over-as : {k : Session} (s : Session) (n i : ℕ) (e : Ending) → k ≡ movedTo s (phases.Over e)
@@ -178,23 +178,23 @@ module _ (s : Session) (canvas bytes : List ℕ) (from allowance : ℕ) {f : pay
   module _ {c i : ℕ} where
     pub passed-more : f .answer ≡ payloadAnswers.More c i
         → _≡_ {A = Fed × List ℕ} (record { answer = answers.More (from + c) i; session = record { payload = f .session; header = s .header; phase = phases.Within } }, after) (fedPayload s canvas (drop from bytes) from allowance)
-    unfolding passedOn sessionOf
+    unfolding passedOn
     passed-more e = passed e refl
 
     pub passed-stopped : f .answer ≡ payloadAnswers.Stopped c i
         → _≡_ {A = Fed × List ℕ} (record { answer = answers.Stopped (from + c) i; session = record { payload = f .session; header = s .header; phase = phases.Within } }, after) (fedPayload s canvas (drop from bytes) from allowance)
-    unfolding passedOn sessionOf
+    unfolding passedOn
     passed-stopped e = passed e refl
 
     pub passed-ended : {b : ℕ} {r : Fed} → f .answer ≡ payloadAnswers.Ended c i b
         → r ≡ closedBy (record { payload = f .session; header = s .header; phase = phases.Within }) (drop (from + c) bytes) (from + c) i
         → (r, after) ≡ fedPayload s canvas (drop from bytes) from allowance
-    unfolding passedOn sessionOf
+    unfolding passedOn
     passed-ended e h = passed e (h ∙ ap (λ (bs : List ℕ). closedBy (record { payload = f .session; header = s .header; phase = phases.Within }) bs (from + c) i) (sym (drop-drop c from bytes)))
 
   pub passed-refused : {n : Refusal} → f .answer ≡ payloadAnswers.Refused n
       → _≡_ {A = Fed × List ℕ} (record { answer = answers.Refused n; session = record { payload = f .session; header = s .header; phase = phases.Within } }, after) (fedPayload s canvas (drop from bytes) from allowance)
-  unfolding passedOn sessionOf
+  unfolding passedOn
   passed-refused e = passed e refl
 
 pub ruleset payloads = (passed-more, passed-stopped, passed-ended, passed-refused)
@@ -214,12 +214,12 @@ module _ (s : Session) (t : Place) (canvas bytes : List ℕ) (allowance : ℕ) {
 
   pub led-on : l .led ≡ leds.On
       → _≡_ {A = Fed × List ℕ} (record { answer = answers.More (l .consumed) 0; session = record { payload = s .payload; header = l .header; phase = phases.Before (l .place) } }, canvas) (fedLead s t canvas bytes allowance)
-  unfolding ledTo sessionOf
+  unfolding ledTo
   led-on e = led e refl
 
   pub led-refused : {n : Refusal} {k : payloadSession.Session} → l .led ≡ leds.Refused n → k ≡ failedOf (s .payload)
       → _≡_ {A = Fed × List ℕ} (record { answer = answers.Refused n; session = record { payload = k; header = l .header; phase = phases.Before (l .place) } }, canvas) (fedLead s t canvas bytes allowance)
-  unfolding ledTo sessionOf
+  unfolding ledTo
   led-refused {n} e k =
       led e
       (ap (λ (x : payloadSession.Session). (record { answer = answers.Refused n; session = record { payload = x; header = l .header; phase = phases.Before (l .place) } }, canvas)) k)
@@ -228,7 +228,7 @@ module _ (s : Session) (t : Place) (canvas bytes : List ℕ) (allowance : ℕ) {
       → (b, l₁) ≡ begunBy (s .payload) o canvas
       → (r, l₂) ≡ fedPayload (record { payload = b; header = l .header; phase = phases.Within }) l₁ (drop (l .consumed) bytes) (l .consumed) allowance
       → (r, l₂) ≡ fedLead s t canvas bytes allowance
-  unfolding ledTo sessionOf
+  unfolding ledTo
   led-begins e o b h =
       led e
       (h

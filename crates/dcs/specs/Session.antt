@@ -41,12 +41,11 @@ use Rattle.dcs.specs.Lead.{leadFrom}
 
 -- ---- opening
 
-unfoldable pub sessionOf : payloadSession.Session → Parameters → Phase → Session
+abbrev pub sessionOf : payloadSession.Session → Parameters → Phase → Session
 sessionOf s h t = record { payload = s; header = h; phase = t }
 
 -- a payload session that has not begun; nothing is written
 unfoldable pub openedBy : Limits → ℕ → Palette → ℕ → Opened
-unfolding sessionOf
 openedBy l stride p size =
     let o : payloadOpened.Opened = reservedBy l stride p size in
     record { answer = o .answer; session = sessionOf (o .session) (numbers.opened 3) (phases.Before places.Start) }
@@ -65,7 +64,6 @@ settingsFrom h = record { p1 = givenAt (numbers.finished h) 0; p2 = givenAt (num
 -- ---- the end
 
 unfoldable pub movedTo : Session → Phase → Session
-unfolding sessionOf
 movedTo s t = sessionOf (s .payload) (s .header) t
 
 unfoldable pub overAs : Session → ℕ → ℕ → Ending → Fed
@@ -101,14 +99,14 @@ passedOn (payloadAnswers.Refused r) s bs n = record { answer = answers.Refused r
 
 -- the payload's bytes, after `n` before them
 unfoldable pub fedPayload : Session → List ℕ → List ℕ → ℕ → ℕ → Fed × List ℕ
-unfolding passedOn sessionOf
+unfolding passedOn
 fedPayload s canvas bs n allowance =
     let r : payloadFed.Fed × List ℕ = payload.fedBy (s .payload) canvas bs allowance in
     (passedOn (r .0 .answer) (sessionOf (r .0 .session) (s .header) phases.Within) bs n, r .1)
 
 -- where introducer and header led to: on, to the payload, or to a refusal, which fails the session
 unfoldable pub ledTo : Led → Lead → Session → List ℕ → List ℕ → ℕ → Fed × List ℕ
-unfolding sessionOf fedPayload settingsFrom
+unfolding fedPayload settingsFrom
 ledTo leds.On l s canvas bs allowance =
     (record { answer = answers.More (l .consumed) 0; session = sessionOf (s .payload) (l .header) (phases.Before (l .place)) }, canvas)
 ledTo leds.Begins l s canvas bs allowance =
