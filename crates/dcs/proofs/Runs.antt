@@ -13,7 +13,7 @@ use Rattle.colours.specs.declared.Palette.{Palette}
 use Rattle.meaning.specs.Drawing.{Setting}
 use Rattle.meaning.specs.Reader.{Step, next, halt, refuse, How, readAll, stopped, halted, refusedBy, Run, still, after, follow, call}
 use Rattle.meaning.specs.Sequence.{inPayload}
-use Rattle.meaning.specs.Sessions.{Reading, Phase, within, afterEscape, over, payloadStep, rested, endStep, withinStep, dcsStep, dcsRested, complete, cancelled, interrupted}
+use Rattle.meaning.specs.Sessions.{Reading, Phase, within, afterEscape, over, payloadStep, rested, endStep, withinStep, escapeStep, dcsStep, dcsRested, complete, cancelled, interrupted}
 use Rattle.meaning.proofs.RunLaws.{after-zero, after-after}
 use Rattle.meaning.proofs.CallLaws.{Called, nothing, goes, stops, halts, refuses, called, drop-one-more}
 
@@ -164,3 +164,15 @@ module _ (s : Setting) (p : Palette) where
   pub within-call : (a : ℕ) (r : Reading) (bs : List ℕ)
       → call (dcsStep s p) (dcsRested s) a (within r) bs ≡ framedCall a (call (payloadStep s) (rested s) a r bs) bs
   within-call a r bs = within-called (called (payloadStep s) (rested s) a r bs)
+
+  -- after the 1B that ended a payload
+  pub escape-call : (a : ℕ) (r : Reading) (b : ℕ) (bs : List ℕ)
+      → call (dcsStep s p) (dcsRested s) a (afterEscape r) (b ∷ bs) ≡ follow (escapeStep r b) (λ u i. after 1 i (call (dcsStep s p) (dcsRested s) a u bs))
+  unfolding dcsStep escapeStep
+  escape-call a r b bs =
+      call-as (dcsStep s p) (dcsRested s) a (afterEscape r) b bs {x = escapeStep r b} refl
+      ∙ dry-follow a (still (dcsRested s (afterEscape r)) stopped) bs (escapeStep r b) (go (eqb b 0x5C))
+    where
+      go : (x : Bool) → Dry (cond x (next (over complete r) 0) (halt (over (interrupted 0x1B) r)))
+      go true = refl
+      go false = tt
