@@ -134,15 +134,16 @@ module _ (s : Session) (bytes : List ℕ) (at ink : ℕ) where
         unfolding closedBy
         tail e = closed-here (e ∙ sym (cond-no _ _ (ne-eqb _ _ n1B) ∙ cond-no _ _ (ne-eqb _ _ n9C)))
 
-        pub closed-can : getD bytes at 0 ≡ 0x18 → r ≡ overAs s (at + 1) ink (endings.Cancelled (getD bytes at 0)) → r ≡ closedBy s (drop at bytes) at ink
-        closed-can b e =
-            let t : (eqb (getD bytes at 0) 0x18 || eqb (getD bytes at 0) 0x1A) ≡ true = rw (eq-eqb (getD bytes at 0) 0x18 b) refl in
-            tail (e ∙ sym (cond-yes _ _ t))
+        -- 18 and 1A
+        cancelled : {k : ℕ} → (eqb (getD bytes at 0) 0x18 || eqb (getD bytes at 0) 0x1A) ≡ true → getD bytes at 0 ≡ k → r ≡ overAs s (at + 1) ink (endings.Cancelled k)
+            → r ≡ closedBy s (drop at bytes) at ink
+        cancelled t b e = tail (e ∙ ap (λ (k : ℕ). overAs s (at + 1) ink (endings.Cancelled k)) (sym b) ∙ sym (cond-yes _ _ t))
 
-        pub closed-sub : (getD bytes at 0 ≡ 0x18 → ⊥) → getD bytes at 0 ≡ 0x1A → r ≡ overAs s (at + 1) ink (endings.Cancelled (getD bytes at 0)) → r ≡ closedBy s (drop at bytes) at ink
-        closed-sub n b e =
-            let t : (eqb (getD bytes at 0) 0x18 || eqb (getD bytes at 0) 0x1A) ≡ true = rw (ne-eqb (getD bytes at 0) 0x18 n, eq-eqb (getD bytes at 0) 0x1A b) refl in
-            tail (e ∙ sym (cond-yes _ _ t))
+        pub closed-can : getD bytes at 0 ≡ 0x18 → r ≡ overAs s (at + 1) ink (endings.Cancelled 0x18) → r ≡ closedBy s (drop at bytes) at ink
+        closed-can b e = cancelled (rw (eq-eqb (getD bytes at 0) 0x18 b) refl) b e
+
+        pub closed-sub : (getD bytes at 0 ≡ 0x18 → ⊥) → getD bytes at 0 ≡ 0x1A → r ≡ overAs s (at + 1) ink (endings.Cancelled 0x1A) → r ≡ closedBy s (drop at bytes) at ink
+        closed-sub n b e = cancelled (rw (ne-eqb (getD bytes at 0) 0x18 n, eq-eqb (getD bytes at 0) 0x1A b) refl) b e
 
         pub closed-other : (getD bytes at 0 ≡ 0x18 → ⊥) → (getD bytes at 0 ≡ 0x1A → ⊥) → r ≡ overAs s at ink (endings.Interrupted (getD bytes at 0)) → r ≡ closedBy s (drop at bytes) at ink
         closed-other n m e =

@@ -162,17 +162,18 @@ fn close(session: Session, bytes: &[u8], at: usize, ink: usize) -> Fed
         };
     }
     let byte = bytes[at];
+    let next = at + 1;
     if byte == 0x1B {
-        return feed_escaped(session, bytes, at + 1, ink);
+        return feed_escaped(session, bytes, next, ink);
     }
     if byte == 0x9C {
-        return end(session, at + 1, ink, Ending::Complete);
+        return end(session, next, ink, Ending::Complete);
     }
     if byte == 0x18 {
-        return end(session, at + 1, ink, Ending::Cancelled(byte));
+        return end(session, next, ink, Ending::Cancelled(0x18));
     }
     if byte == 0x1A {
-        return end(session, at + 1, ink, Ending::Cancelled(byte));
+        return end(session, next, ink, Ending::Cancelled(0x1A));
     }
     end(session, at, ink, Ending::Interrupted(byte))
 }

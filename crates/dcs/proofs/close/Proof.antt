@@ -15,55 +15,43 @@ returns c = search (needs, endings-laws)
 shared-slice-read-byte : tie.Need-shared-slice-read-byte
 shared-slice-read-byte c = search needs
 
--- src/lib.rt:166:45
-add-feed-escaped : tie.Need-add-feed-escaped
-add-feed-escaped c = search needs
+-- src/lib.rt:165:16
+add-next : tie.Need-add-next
+add-next c = search needs
 
--- src/lib.rt:166:9
+-- src/lib.rt:167:9
 feed-escaped-requires : tie.Need-feed-escaped-requires
 feed-escaped-requires c κs = search needs
 
--- src/lib.rt:166:9
+-- src/lib.rt:167:9
 returns-2 : tie.Need-returns-2
 returns-2 c = search (needs, endings-laws)
 
--- src/lib.rt:169:29
-add-end : tie.Need-add-end
-add-end c = search needs
-
--- src/lib.rt:169:9
+-- src/lib.rt:170:9
 end-requires : tie.Need-end-requires
 end-requires c κs = search needs
 
--- src/lib.rt:169:9
+-- src/lib.rt:170:9
 returns-3 : tie.Need-returns-3
 returns-3 c = search (needs, endings-laws)
 
--- src/lib.rt:172:29
-add-end-2 : tie.Need-add-end-2
-add-end-2 c = search needs
-
--- src/lib.rt:172:9
+-- src/lib.rt:173:9
 end-requires-2 : tie.Need-end-requires-2
 end-requires-2 c κs = search needs
 
--- src/lib.rt:172:9
+-- src/lib.rt:173:9
 returns-4 : tie.Need-returns-4
 returns-4 c = search (needs, endings-laws)
 
--- src/lib.rt:175:29
-add-end-3 : tie.Need-add-end-3
-add-end-3 c = search needs
-
--- src/lib.rt:175:9
+-- src/lib.rt:176:9
 end-requires-3 : tie.Need-end-requires-3
 end-requires-3 c κs = search needs
 
--- src/lib.rt:175:9
+-- src/lib.rt:176:9
 returns-5 : tie.Need-returns-5
 returns-5 c = search (needs, endings-laws)
 
--- src/lib.rt:177:5
+-- src/lib.rt:178:5
 end-requires-4 : tie.Need-end-requires-4
 end-requires-4 c κs = search needs
 
@@ -77,16 +65,13 @@ close-spec =
     (tie.spec
     returns
     shared-slice-read-byte
-    add-feed-escaped
+    add-next
     feed-escaped-requires
     returns-2
-    add-end
     end-requires
     returns-3
-    add-end-2
     end-requires-2
     returns-4
-    add-end-3
     end-requires-3
     returns-5
     end-requires-4
