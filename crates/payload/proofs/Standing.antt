@@ -141,11 +141,11 @@ module _ {opening : List ℕ} {s : Session} {l : List ℕ} {m : calls.Session Re
       ∙ rw (same-stride, same-width, same-height, ← k .long) refl
 
 -- a refusal as the definition has it
-unfoldable judgedMeant : Judged → Option ℕ
+unfoldable pub judgedMeant : Judged → Option ℕ
 judgedMeant judged.Fine = none
 judgedMeant (judged.Refused n) = some (numberOf n)
 
-judged-by : (t u : Bool) (n : Refusal) (j : Judged) (o : Option ℕ) → t ≡ u → judgedMeant j ≡ o → judgedMeant (cond t (judged.Refused n) j) ≡ cond u (some (numberOf n)) o
+pub judged-by : (t u : Bool) (n : Refusal) (j : Judged) (o : Option ℕ) → t ≡ u → judgedMeant j ≡ o → judgedMeant (cond t (judged.Refused n) j) ≡ cond u (some (numberOf n)) o
 unfolding judgedMeant
 judged-by true u n j o e k = subst (λ (v : Bool). some (numberOf n) ≡ cond v (some (numberOf n)) o) e refl
 judged-by false u n j o e k = subst (λ (v : Bool). judgedMeant j ≡ cond v (some (numberOf n)) o) e k
@@ -155,18 +155,18 @@ module _ {opening : List ℕ} {s : Session} {l : List ℕ} {m : calls.Session Re
   failed-test : isFailed (s .life) ≡ m .failed
   failed-test = failed-meant (s .life) (m .failed) (m .state .over) (k .life)
 
-  misfit : Bool
+  abbrev pub misfit : Bool
   misfit = calls.misfits (λ (r : Reading). r .drawing .area) m size
 
-  finish-judged : judgedMeant (finishJudged s size) ≡ calls.firstOf (record { holds = m .failed; number = 9 } ∷ record { holds = misfit; number = 12 } ∷ [])
-  unfolding finishJudged calls.firstOf numberOf judgedMeant misfit
+  pub finish-judged : judgedMeant (finishJudged s size) ≡ calls.firstOf (record { holds = m .failed; number = 9 } ∷ record { holds = misfit; number = 12 } ∷ [])
+  unfolding finishJudged calls.firstOf numberOf judgedMeant
   finish-judged =
       judged-by (isFailed (s .life)) (m .failed) refusals.Failed (cond (misfitting s size) (judged.Refused refusals.Canvas) judged.Fine)
       (cond misfit (some 12) none) failed-test
       (judged-by (misfitting s size) misfit refusals.Canvas judged.Fine none (misfit-meant k size) refl)
 
-  feed-judged : (allowance : ℕ) → judgedMeant (feedJudged s size allowance) ≡ calls.feedRefusal (λ (r : Reading). r .drawing .area) m size allowance
-  unfolding feedJudged calls.feedRefusal calls.firstOf numberOf judgedMeant misfit
+  pub feed-judged : (allowance : ℕ) → judgedMeant (feedJudged s size allowance) ≡ calls.feedRefusal (λ (r : Reading). r .drawing .area) m size allowance
+  unfolding feedJudged calls.feedRefusal calls.firstOf numberOf judgedMeant
   feed-judged a =
       let low : Judged = cond (ltb a (6 * s .ground .limits .width)) (judged.Refused refusals.Allowance) judged.Fine in
       let few : Option ℕ = cond (ltb a (6 * m .setting .limits .width)) (some 13) none in
@@ -409,7 +409,7 @@ finished-meant m size e =
 -- a finish of the code is the definition's
 pub finish-stands : {opening : List ℕ} {s : Session} {l : List ℕ} {m : calls.Session Reading} → Stands opening s l m → (owner : Palette)
     → Finishes (calls.payloadShownAtFinish m opening) owner l (finishedBy s owner l) (calls.finishPayload m (length l))
-unfolding finishedBy finishedAs turnedAway judgedMeant misfit finishJudged
+unfolding finishedBy finishedAs turnedAway judgedMeant finishJudged
 finish-stands {opening} {s} {l} {m} k owner = go (finishJudged s (length l)) refl
   where
     go : (j : Judged) → finishJudged s (length l) ≡ j → Finishes (calls.payloadShownAtFinish m opening) owner l (finishedAs j s owner l) (calls.finishPayload m (length l))

@@ -1,3 +1,4 @@
 pub mod Judge
 pub mod Session
 pub mod History
+pub mod Begin

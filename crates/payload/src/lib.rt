@@ -1,7 +1,8 @@
 // A payload session: the Rust's SixelStreamDecoder. It goes in by value and comes back by value, its palette inside, over a lent
 // canvas. A palette has an owner, who hands a copy to each session and gets one back at finish: the session's where the finish
 // succeeds, else the owner's own.
-mod judge;
+pub mod begin;
+pub mod judge;
 
 ghost use mathlib.Core.Path.{_≡_};
 ghost use lib.ListN.{length};

@@ -1,0 +1,6 @@
+pub mod LeadLaws
+pub mod Bounds
+pub mod SessionLaws
+pub mod Runs
+pub mod Leading
+pub mod Standing

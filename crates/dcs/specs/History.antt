@@ -1,0 +1,90 @@
+-- What the code's values mean, and when a DCS session and its canvas stand for a session of the definition.
+use Prim.Native.Nat.{ℕ}
+use mathlib.Core.Bool.{Bool, true, false}
+use mathlib.Core.Option.{none}
+use mathlib.Core.List.{List, []}
+use mathlib.Core.Path.{_≡_}
+use lib.ListN.{length}
+use Rattle.numbers.specs.declared.Parameters.{Parameters}
+use Rattle.numbers.specs.Read.{Read}
+use Rattle.colours.specs.declared.Palette.{Palette}
+use Rattle.frame.specs.declared.Limits.{Limits}
+use Rattle.frame.specs.declared.Refusal.{Refusal}
+use Rattle.frame.specs.Numbers.{numberOf}
+use Rattle.meaning.specs.Calls as calls
+use Rattle.meaning.specs.Sessions as sessions
+use Rattle.payload.specs.declared.Life.the-variants as lives
+use Rattle.payload.specs.declared.Opening.the-variants as openings
+use Rattle.payload.specs.declared.Session as payloadSession
+use Rattle.payload.specs.Begin.{noSettings}
+use Rattle.payload.specs.Judge.{openable}
+use Rattle.payload.specs.Session.{sessionFor}
+use Rattle.payload.specs.History as payload
+use Rattle.dcs.specs.declared.Answer.{Answer}
+use Rattle.dcs.specs.declared.Answer.the-variants as answers
+use Rattle.dcs.specs.declared.Ending.{Ending}
+use Rattle.dcs.specs.declared.Ending.the-variants as endings
+use Rattle.dcs.specs.declared.Fed.{Fed}
+use Rattle.dcs.specs.declared.Opened.{Opened}
+use Rattle.dcs.specs.declared.Phase.the-variants as phases
+use Rattle.dcs.specs.declared.Session.{Session}
+use Rattle.dcs.specs.declared.lead.Place.{Place}
+use Rattle.dcs.specs.declared.lead.Place.the-variants as places
+use Rattle.dcs.specs.Session.{sessionOf}
+
+-- ---- what the code's values mean
+
+unfoldable pub endMeant : Ending → sessions.End
+endMeant endings.Complete = sessions.complete
+endMeant (endings.Cancelled b) = sessions.cancelled b
+endMeant (endings.Interrupted b) = sessions.interrupted b
+
+-- a feed's answer: counts and a status, or a refusal's number
+unfoldable pub answerMeant : Answer → calls.Answer sessions.End
+unfolding endMeant
+answerMeant (answers.More consumed ink) = calls.told consumed ink calls.needsMore
+answerMeant (answers.Stopped consumed ink) = calls.told consumed ink calls.stoppedForInk
+answerMeant (answers.Ended consumed ink e) = calls.told consumed ink (calls.ended (endMeant e))
+answerMeant (answers.Refused n) = calls.refused (numberOf n)
+
+-- ---- a session and its canvas stand for a session of the definition
+
+-- the same place before the payload: the header's digits and `;` so far have been read into its values
+pub data SamePlace : Place → Parameters → sessions.Phase → Type 0 where
+  atStart : {h : Parameters} → Read 3 [] h → SamePlace places.Start h sessions.start
+  atIntroduced : {h : Parameters} → Read 3 [] h → SamePlace places.Introduced h sessions.introduced
+  inHeader : {h : Parameters} {bs : List ℕ} → Read 3 bs h → SamePlace places.Header h (sessions.header bs)
+
+-- what was opened, in a state, failed or not
+abbrev pub heldAt : {S : Type 0} → Limits → ℕ → ℕ → S → Bool → calls.Session S
+heldAt l stride size x failed = record { setting = payload.settingMeant l stride size; length = size; state = x; failed = failed }
+
+-- of a session opened with these limits, stride and palette on a canvas with these bytes: before `q` not a byte is written, and from then on
+-- its payload session and the canvas stand for the definition's payload
+pub data Stands (l : Limits) (stride : ℕ) (p : Palette) (opening : List ℕ) : Session → List ℕ → calls.Session sessions.Phase → Type 0 where
+  before : {t : Place} {h : Parameters} {x : sessions.Phase} → openable l stride (length opening) ≡ true → SamePlace t h x
+      → Stands l stride p opening (sessionOf (sessionFor l stride (length opening) noSettings p lives.Live) h (phases.Before t)) opening
+      (heldAt l stride (length opening) x false)
+  refused : {t : Place} {h : Parameters} {x : sessions.Phase} → SamePlace t h x
+      → Stands l stride p opening (sessionOf (sessionFor l stride (length opening) noSettings p lives.Failed) h (phases.Before t)) opening
+      (heldAt l stride (length opening) x true)
+  inside : {s : payloadSession.Session} {h : Parameters} {c : List ℕ} {r : sessions.Reading} {failed : Bool}
+      → payload.Stands opening s c (heldAt l stride (length opening) r failed) → (failed ≡ false → r .over ≡ none)
+      → Stands l stride p opening (sessionOf s h phases.Within) c (heldAt l stride (length opening) (sessions.within r) failed)
+  escaped : {s : payloadSession.Session} {h : Parameters} {c : List ℕ} {r : sessions.Reading}
+      → payload.Stands opening s c (heldAt l stride (length opening) r false)
+      → Stands l stride p opening (sessionOf s h phases.Escaped) c (heldAt l stride (length opening) (sessions.afterEscape r) false)
+  ended : {s : payloadSession.Session} {h : Parameters} {c : List ℕ} {r : sessions.Reading} {e : Ending}
+      → payload.Stands opening s c (heldAt l stride (length opening) r false)
+      → Stands l stride p opening (sessionOf s h (phases.Over e)) c (heldAt l stride (length opening) (sessions.over (endMeant e) r) false)
+
+-- an opening: a session that stands for the definition's, or the definition's refusal
+pub data Opens (l : Limits) (stride : ℕ) (p : Palette) (opening : List ℕ) : Opened → calls.Opened sessions.Phase → Type 0 where
+  isReady : {s : Session} {m : calls.Session sessions.Phase} → Stands l stride p opening s opening m
+      → Opens l stride p opening (record { answer = openings.Ready; session = s }) (calls.isOpen m)
+  isRefused : (n : Refusal) {s : Session} → Opens l stride p opening (record { answer = openings.Refused n; session = s }) (calls.notOpened (numberOf n))
+
+-- a feed: the definition's answer, and a session and a canvas that stand for its session
+pub record Feeds (l : Limits) (stride : ℕ) (p : Palette) (opening : List ℕ) (x : Fed × List ℕ) (y : calls.Fed sessions.Phase sessions.End) : Type 0 where
+  pub answer : answerMeant (x .0 .answer) ≡ y .answer
+  pub session : Stands l stride p opening (x .0 .session) (x .1) (y .session)

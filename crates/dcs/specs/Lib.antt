@@ -1,0 +1,3 @@
+pub mod Lead
+pub mod Session
+pub mod History

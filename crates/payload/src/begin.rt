@@ -1,0 +1,110 @@
+// What a DCS session needs of a payload session: one that has not begun, its beginning at `q`, and its failing.
+// Inner: for the crate dcs alone.
+ghost use mathlib.Core.Path.{_≡_};
+ghost use Rattle.payload.specs.Begin.{reservedBy, begunBy, failedOf};
+use crate::Given;
+use crate::Life;
+use crate::Opened;
+use crate::Opening;
+use crate::Session;
+use crate::Settings;
+use crate::background_for;
+use crate::blank_frame;
+use crate::judge::may_open;
+use colours::Palette;
+use frame::Ground;
+use frame::Limits;
+use frame::Refusal;
+
+// A session that has not begun: nothing is written.
+pub fn reserve(limits: Limits, stride: usize, palette: Palette, length: usize) -> Opened
+    ensures { λ r. ⌜ r ≡ reservedBy limits stride palette length ⌝ }
+{
+    let settings = Settings {
+        p1: Given::Nothing,
+        p2: Given::Nothing,
+    };
+    let background = palette.register(0);
+    let ground = Ground {
+        limits,
+        stride,
+        rows: canvas::rows(length, stride),
+        background,
+    };
+    let frame = blank_frame(palette);
+    if may_open(limits, stride, length) {
+        let session = Session {
+            ground,
+            length,
+            settings,
+            life: Life::Live,
+            frame,
+            palette,
+        };
+        return Opened {
+            answer: Opening::Ready,
+            session,
+        };
+    }
+    let session = Session {
+        ground,
+        length,
+        settings,
+        life: Life::Failed,
+        frame,
+        palette,
+    };
+    Opened {
+        answer: Opening::Refused(Refusal::Opening),
+        session,
+    }
+}
+
+// The payload begins with these settings: pixel (0, 0) gets the background, where there is one.
+pub fn begin(session: Session, settings: Settings, canvas: &mut [u8]) -> Session
+    ensures { λ r. ⌜ (r, now (canvas .exit)) ≡ begunBy session settings (now (canvas .entry)) ⌝ }
+{
+    let palette = session.palette;
+    let life = session.life;
+    let old = session.ground;
+    let limits = old.limits;
+    let p2 = settings.p2;
+    let background = background_for(palette, p2);
+    let ground = Ground {
+        limits,
+        stride: old.stride,
+        rows: old.rows,
+        background,
+    };
+    let frame = blank_frame(palette);
+    let begun = Session {
+        ground,
+        length: session.length,
+        settings,
+        life,
+        frame,
+        palette,
+    };
+    if 4 <= canvas.len() {
+        canvas::first_pixel(canvas, background);
+    }
+    begun
+}
+
+// The session fails: it answers 9 from now on.
+pub fn fail(session: Session) -> Session
+    ensures { λ r. ⌜ r ≡ failedOf session ⌝ }
+{
+    let ground = session.ground;
+    let settings = session.settings;
+    let frame = session.frame;
+    let palette = session.palette;
+    Session {
+        ground,
+        length: session.length,
+        settings,
+        life: Life::Failed,
+        frame,
+        palette,
+    }
+}
