@@ -1,0 +1,321 @@
+-- Reading a DCS sequence part by part: what comes before the payload, the payload, and the end.
+use Prim.Native.Nat.{ℕ, suc, _+_, _≤_}
+use native.Mathlib.Nat.{zero-add, add-zero}
+use native.Mathlib.Omega.{arith}
+use mathlib.Core.Path.{_≡_, refl, sym, ap, ap₂, _∙_, subst}
+use mathlib.Core.Bool.{Bool, true, false, cond, _||_, true≢false}
+use mathlib.Core.Option.{Option, none, some}
+use mathlib.Core.List.{List, [], _∷_, _++_}
+use lib.Dec.{eqb, lit≤}
+use lib.ListN.{length, drop}
+use borrow.Author.Tests.{eqb-true, eqb-false, ne-eqb}
+use Rattle.numbers.specs.Bytes.{skipped, ends}
+use Rattle.meaning.specs.Commands.{ofValues}
+use Rattle.colours.specs.declared.Palette.{Palette}
+use Rattle.meaning.specs.Drawing.{Setting, Drawing, Outcome}
+use Rattle.meaning.specs.Payload.{Parameters, payload, payloadInk, Finished, turnedDown, finish}
+use Rattle.meaning.specs.Reader.{Step, next, halt, refuse, How, readAll, stopped, halted, refusedBy, isRefused, Run, still, after, follow, readFrom}
+use Rattle.meaning.specs.Sessions.{Reading, opened, payloadStep, finishReading, End, Phase, start, introduced, header, within, afterEscape, over, HeaderByte, goesOn, settles, wrong, headerByte, startStep, introducedStep, headerStep, endStep, withinStep, escapeStep, dcsStep, finishDcs}
+use Rattle.meaning.specs.OneShot.{afterIntroducer, Found, found, missing, headerFrom, findPayload, answerOf, oneShot}
+use Rattle.meaning.specs.Sequence.{Introducer, c1, escaped, afterFirstEscape, sequencePayload, inPayload, readEnd, framed, howWithout}
+use Rattle.meaning.specs.Calls.{drawingOf, dcsEnd}
+use Rattle.meaning.proofs.RunLaws.{after-zero, after-after, read-as}
+use Rattle.meaning.proofs.CallLaws.{drop-one-more}
+use Rattle.meaning.proofs.AreaLaws.{cond-case, Before}
+use Rattle.meaning.proofs.PayloadLaws.{readPayload, reading-finish, reading-refused, reading-numbers, reading-ink}
+
+-- ---- within the payload
+
+module _ (s : Setting) (p : Palette) where
+  after-framed : (b i : ℕ) (q : Run Reading) (bs : List ℕ) → after 1 i (framed s p q bs) ≡ framed s p (after 1 i q) (b ∷ bs)
+  unfolding framed inPayload after
+  after-framed b i q bs = go (q .how)
+    where
+      run : How → Run Reading
+      run h = record { state = q .state; consumed = q .consumed; ink = q .ink; how = h }
+
+      go : (h : How) → after 1 i (framed s p (run h) bs) ≡ framed s p (after 1 i (run h)) (b ∷ bs)
+      go readAll = refl
+      go stopped = refl
+      go halted =
+          sym (after-after 1 i (q .consumed) (q .ink) (readEnd s p (q .state) (drop (q .consumed) bs)))
+          ∙ ap (λ (us : List ℕ). after (1 + q .consumed) (i + q .ink) (readEnd s p (q .state) us)) (sym (drop-one-more (q .consumed) b bs))
+      go (refusedBy n) = refl
+
+  -- what a sequence makes of its payload's step
+  stepped : ℕ → Step Reading → Step Phase
+  unfolding endStep
+  stepped b x = elim x [ next t i ↦ next (within t) i | halt t ↦ endStep t b | refuse t n ↦ refuse (within t) n ]
+
+  within-as : (r : Reading) (b : ℕ) {x : Step Reading} → payloadStep s r b ≡ x → dcsStep s p (within r) b ≡ stepped b x
+  unfolding dcsStep withinStep stepped
+  within-as r b e = ap (stepped b) e
+
+  -- within its payload a sequence reads as a payload session does, and where that has come to its end it reads the end
+  pub within-reads : (r : Reading) (bs : List ℕ) → readFrom (dcsStep s p) (within r) bs ≡ framed s p (readFrom (payloadStep s) r bs) bs
+  unfolding readFrom framed inPayload still stepped
+  within-reads r [] = refl
+  within-reads r (b ∷ bs) = go (payloadStep s r b) refl (λ t. within-reads t bs)
+    where
+      inner : Reading → ℕ → Run Reading
+      inner t i = after 1 i (readFrom (payloadStep s) t bs)
+
+      go : (x : Step Reading) → payloadStep s r b ≡ x
+          → ((t : Reading) → readFrom (dcsStep s p) (within t) bs ≡ framed s p (readFrom (payloadStep s) t bs) bs)
+          → readFrom (dcsStep s p) (within r) (b ∷ bs) ≡ framed s p (follow x inner) (b ∷ bs)
+      go (next t i) e later =
+          read-as (dcsStep s p) (within r) b bs (within-as r b e) ∙ ap (after 1 i) (later t)
+          ∙ after-framed b i (readFrom (payloadStep s) t bs) bs
+      go (halt t) e later = read-as (dcsStep s p) (within r) b bs (within-as r b e) ∙ sym (after-zero _)
+      go (refuse t n) e later = read-as (dcsStep s p) (within r) b bs (within-as r b e)
+
+-- ---- before the payload
+
+-- a refusal before the payload has that number, and it is not 8
+pub without-refused : (m n : ℕ) → howWithout m ≡ refusedBy n → (m ≡ n) × (m ≡ 8 → ⊥)
+unfolding howWithout isRefused
+without-refused m n =
+    cond-case (λ (h : How). h ≡ refusedBy n → (m ≡ n) × (m ≡ 8 → ⊥)) (eqb m 8)
+    (λ _ r. absurd (true≢false (sym (ap isRefused r))))
+    (λ e r. (cc, eqb-false m 8 e))
+
+module _ (s : Setting) (p : Palette) where
+  -- where reading from a phase on leads: through some bytes, with no ink, into the payload; or it comes to its end before the payload
+  abbrev pub Leads : Phase → List ℕ → Found → Type 0
+  Leads t bs (found o part) =
+      (n : ℕ) × (readFrom (dcsStep s p) t bs ≡ after n 0 (readFrom (dcsStep s p) (within (opened o p)) part)) × (drop n bs ≡ part)
+  Leads t bs (missing n) = Before (readFrom (dcsStep s p) t bs .state) × (readFrom (dcsStep s p) t bs .how ≡ howWithout n)
+
+  -- a byte of no ink before it
+  leads-on : (t u : Phase) (b : ℕ) (bs : List ℕ) (f : Found) → dcsStep s p t b ≡ next u 0 → Leads u bs f → Leads t (b ∷ bs) f
+  unfolding after follow
+  leads-on t u b bs (found o part) e h = (
+    1 + h .0,
+    read-as (dcsStep s p) t b bs e ∙ ap (after 1 0) (h .1) ∙ sym (after-after 1 0 (h .0) 0 _),
+    drop-one-more (h .0) b bs ∙ h .2,
+  )
+  leads-on t u b bs (missing n) e h = (rw (read-as (dcsStep s p) t b bs e) (h .0), rw (read-as (dcsStep s p) t b bs e) (h .1))
+
+  -- a byte that is refused
+  leads-wrong : (t : Phase) (b : ℕ) (bs : List ℕ) (n : ℕ) → Before t → n ≤ 3 → dcsStep s p t b ≡ refuse t n → Leads t (b ∷ bs) (missing n)
+  unfolding follow still howWithout
+  leads-wrong t b bs n h small e = (
+    rw (read-as (dcsStep s p) t b bs e) h,
+    rw (read-as (dcsStep s p) t b bs e, ne-eqb n 8 (λ q. omega arith)) refl,
+  )
+
+  -- a header's byte is refused with 2 or 3
+  abbrev Small : HeaderByte → Type 0
+  Small (goesOn more) = Unit {0}
+  Small (settles o) = Unit {0}
+  Small (wrong n) = n ≤ 3
+
+  header-small : (got : List ℕ) (b : ℕ) → Small (headerByte got b)
+  unfolding headerByte
+  header-small got b =
+      cond-case Small (skipped b) (λ _. tt)
+      λ _. cond-case Small (ofValues b) (λ _. tt)
+      λ _. cond-case Small (eqb b 0x71) (λ _. tt)
+      λ _. cond-case Small (ends b) (λ _. lit≤ tt) (λ _. lit≤ tt)
+
+  header-as : (got : List ℕ) (b : ℕ) {x : HeaderByte} → headerByte got b ≡ x
+      → dcsStep s p (header got) b
+      ≡ elim x as (λ _. Step Phase) [ goesOn more ↦ next (header more) 0 | settles o ↦ next (within (opened o p)) 0 | wrong n ↦ refuse (header got) n ]
+  unfolding dcsStep headerStep
+  header-as got b e =
+      ap
+      (λ (x : HeaderByte).
+      elim x as (λ _. Step Phase) [ goesOn more ↦ next (header more) 0 | settles o ↦ next (within (opened o p)) 0 | wrong n ↦ refuse (header got) n ])
+      e
+
+  -- a header leads where a one-shot goes from it
+  header-leads : (got bs : List ℕ) → Leads (header got) bs (headerFrom got bs)
+  unfolding headerFrom readFrom still howWithout
+  header-leads got [] = (tt, refl)
+  header-leads got (b ∷ bs) = go (headerByte got b) refl (header-small got b) (λ more. header-leads more bs)
+    where
+      go : (x : HeaderByte) → headerByte got b ≡ x → Small x → ((more : List ℕ) → Leads (header more) bs (headerFrom more bs))
+          → Leads (header got) (b ∷ bs) (elim x [ goesOn more ↦ headerFrom more bs | settles o ↦ found o bs | wrong n ↦ missing n ])
+      go (goesOn more) e small later = leads-on (header got) (header more) b bs (headerFrom more bs) (header-as got b e) (later more)
+      go (settles o) e small later = (1, read-as (dcsStep s p) (header got) b bs (header-as got b e), refl)
+      go (wrong n) e small later = leads-wrong (header got) b bs n tt small (header-as got b e)
+
+  introduced-leads : (bs : List ℕ) → Leads introduced bs (afterFirstEscape bs)
+  unfolding afterFirstEscape readFrom still howWithout dcsStep introducedStep
+  introduced-leads [] = (tt, refl)
+  introduced-leads (b ∷ bs) =
+      cond-case (Leads introduced (b ∷ bs)) (eqb b 0x50)
+      (λ e. leads-on introduced (header []) b bs (headerFrom [] bs) (rw e) (header-leads [] bs))
+      (λ e. leads-wrong introduced b bs 1 tt (lit≤ tt) (rw e))
+
+  -- a sequence leads where its introducer and header say
+  pub sequence-leads : (bs : List ℕ) → Leads start bs (sequencePayload bs)
+  unfolding sequencePayload readFrom still howWithout dcsStep startStep
+  sequence-leads [] = (tt, refl)
+  sequence-leads (b ∷ bs) =
+      cond-case (Leads start (b ∷ bs)) (eqb b 0x1B)
+      (λ e. leads-on start introduced b bs (afterFirstEscape bs) (rw e) (introduced-leads bs))
+      λ e. cond-case (Leads start (b ∷ bs)) (eqb b 0x90)
+      (λ f. leads-on start (header []) b bs (headerFrom [] bs) (rw (e, f)) (header-leads [] bs))
+      (λ f. leads-wrong start b bs 1 tt (lit≤ tt) (rw (e, f)))
+
+-- ---- the end
+
+-- the reading of a payload that has ended is kept
+abbrev Kept : Reading → Phase → Type 0
+Kept t start = ⊥
+Kept t introduced = ⊥
+Kept t (header bs) = ⊥
+Kept t (within r) = r ≡ t
+Kept t (afterEscape r) = r ≡ t
+Kept t (over e r) = r ≡ t
+
+-- it is kept by a run that is not refused and has no ink
+record Closes (t : Reading) (x : Run Phase) : Type 0 where
+  kept : Kept t (x .state)
+  fine : isRefused (x .how) ≡ false
+  dry : x .ink ≡ 0
+
+module _ (s : Setting) (p : Palette) (t : Reading) where
+  over-closes : (e : End) (bs : List ℕ) → Closes t (readFrom (dcsStep s p) (over e t) bs)
+  unfolding readFrom dcsStep still follow isRefused
+  over-closes e [] = record { kept = refl; fine = refl; dry = refl }
+  over-closes e (b ∷ bs) = record { kept = refl; fine = refl; dry = refl }
+
+  -- a byte of no ink before it
+  closes-on : (x : Run Phase) → Closes t x → Closes t (after 1 0 x)
+  unfolding after
+  closes-on x h = record { kept = h .kept; fine = h .fine; dry = omega (arith, h .dry) }
+
+  escape-closes : (bs : List ℕ) → Closes t (readFrom (dcsStep s p) (afterEscape t) bs)
+  unfolding readFrom dcsStep escapeStep still follow isRefused
+  escape-closes [] = record { kept = refl; fine = refl; dry = refl }
+  escape-closes (b ∷ bs) =
+      cond-case (λ (x : Step Phase). Closes t (follow x (λ u i. after 1 i (readFrom (dcsStep s p) u bs)))) (eqb b 0x5C)
+      (λ _. closes-on _ (over-closes _ bs))
+      (λ _. record { kept = refl; fine = refl; dry = refl })
+
+  end-closes : (bs : List ℕ) → Closes t (readEnd s p t bs)
+  unfolding readEnd endStep still follow isRefused
+  end-closes [] = record { kept = refl; fine = refl; dry = refl }
+  end-closes (b ∷ bs) =
+      cond-case Good (eqb b 0x1B) (λ _. closes-on _ (escape-closes bs))
+      λ _. cond-case Good (eqb b 0x9C) (λ _. closes-on _ (over-closes _ bs))
+      λ _. cond-case Good (eqb b 0x18 || eqb b 0x1A) (λ _. closes-on _ (over-closes _ bs)) (λ _. record { kept = refl; fine = refl; dry = refl })
+    where
+      Good : Step Phase → Type 0
+      Good x = Closes t (follow x (λ u i. after 1 i (readFrom (dcsStep s p) u bs)))
+
+-- at an end the phase is the end's, with that reading
+kept-over : (t : Reading) (u : Phase) {e : End} → Kept t u → dcsEnd u ≡ some e → u ≡ over e t
+unfolding dcsEnd
+kept-over t start h q = absurd h
+kept-over t introduced h q = absurd h
+kept-over t (header bs) h q = absurd h
+kept-over t (within r) h q = cc
+kept-over t (afterEscape r) h q = cc
+kept-over t (over f r) h q = cc
+
+-- an end is not none
+pub no-end : {e : End} → none ≡ some e → ⊥
+no-end z = let never : _≡_ {A = ℕ} 0 1 = cc in omega arith
+
+-- before the payload there is no end
+pub before-open : (t : Phase) → Before t → dcsEnd t ≡ none
+unfolding dcsEnd
+before-open start h = refl
+before-open introduced h = refl
+before-open (header bs) h = refl
+before-open (within r) h = absurd h
+before-open (afterEscape r) h = absurd h
+before-open (over e r) h = absurd h
+
+module _ (s : Setting) (p : Palette) (q : Run Reading) (bs : List ℕ) where
+  -- the payload's run, had it come to its end so
+  ranTo : How → Run Reading
+  ranTo h = record { state = q .state; consumed = q .consumed; ink = q .ink; how = h }
+
+  -- a refusal within the payload is the payload's
+  pub framed-refused : {n : ℕ} → framed s p q bs .how ≡ refusedBy n → q .how ≡ refusedBy n
+  unfolding framed inPayload ranTo after isRefused
+  framed-refused {n} = go (q .how)
+    where
+      go : (h : How) → framed s p (ranTo h) bs .how ≡ refusedBy n → h ≡ refusedBy n
+      go readAll e = e
+      go stopped e = e
+      go halted e = absurd (true≢false (sym (ap isRefused e) ∙ end-closes s p (q .state) (drop (q .consumed) bs) .fine))
+      go (refusedBy m) e = e
+
+  -- and such a run is the payload's
+  pub framed-in : {n : ℕ} → q .how ≡ refusedBy n → framed s p q bs ≡ inPayload q
+  unfolding framed inPayload ranTo
+  framed-in = go (q .how)
+    where
+      go : (h : How) {n : ℕ} → h ≡ refusedBy n → framed s p (ranTo h) bs ≡ inPayload (ranTo h)
+      go readAll e = refl
+      go stopped e = refl
+      go halted e = cc
+      go (refusedBy m) e = refl
+
+  -- at an end the payload has come to its end, and its reading is the one there
+  pub framed-over : {e : End} → dcsEnd (framed s p q bs .state) ≡ some e → (q .how ≡ halted) × (framed s p q bs .state ≡ over e (q .state))
+  unfolding framed inPayload ranTo after dcsEnd
+  framed-over {e} = go (q .how)
+    where
+      go : (h : How) → dcsEnd (framed s p (ranTo h) bs .state) ≡ some e → (h ≡ halted) × (framed s p (ranTo h) bs .state ≡ over e (q .state))
+      go readAll z = absurd (no-end z)
+      go stopped z = absurd (no-end z)
+      go halted z = (refl, kept-over (q .state) _ (end-closes s p (q .state) (drop (q .consumed) bs) .kept) z)
+      go (refusedBy m) z = absurd (no-end z)
+
+  -- the ink is the payload's
+  pub framed-ink : framed s p q bs .ink ≡ q .ink
+  unfolding framed inPayload ranTo after
+  framed-ink = go (q .how)
+    where
+      go : (h : How) → framed s p (ranTo h) bs .ink ≡ q .ink
+      go readAll = refl
+      go stopped = refl
+      go halted = omega (arith, end-closes s p (q .state) (drop (q .consumed) bs) .dry)
+      go (refusedBy m) = refl
+
+-- ---- the one-shot's payload is the sequence's
+
+-- where the sequence has a payload, or its header is refused, a one-shot finds the same
+abbrev pub Agrees : List ℕ → Found → Type 0
+Agrees bs (found o part) = findPayload bs ≡ found o part
+Agrees bs (missing n) = 2 ≤ n → (n ≡ 8 → ⊥) → findPayload bs ≡ missing n
+
+agrees-found : (bs : List ℕ) (f : Found) → findPayload bs ≡ f → Agrees bs f
+agrees-found bs (found o part) e = e
+agrees-found bs (missing n) e = λ _ _. e
+
+-- after the introducer a one-shot reads the header
+pub introducer-found : {i : List ℕ} → Introducer i → (later : List ℕ) → findPayload (i ++ later) ≡ headerFrom [] later
+unfolding findPayload
+introducer-found c1 later = refl
+introducer-found escaped later = refl
+
+-- and so does a sequence
+pub introducer-sequence : {i : List ℕ} → Introducer i → (later : List ℕ) → sequencePayload (i ++ later) ≡ headerFrom [] later
+unfolding sequencePayload
+introducer-sequence c1 later = refl
+introducer-sequence escaped later = refl
+
+escaped-agrees : (b : ℕ) (bs : List ℕ) → eqb b 0x1B ≡ true → Agrees (b ∷ bs) (afterFirstEscape bs)
+unfolding afterFirstEscape
+escaped-agrees b [] e = λ low known. absurd (known refl)
+escaped-agrees b (c ∷ bs) e =
+    cond-case (Agrees (b ∷ c ∷ bs)) (eqb c 0x50)
+    (λ f. agrees-found (b ∷ c ∷ bs) (headerFrom [] bs) (rw (eqb-true b 0x1B e, eqb-true c 0x50 f) (introducer-found escaped bs)))
+    (λ _ low known. absurd (omega arith))
+
+-- so it is for every sequence
+pub sequence-agrees : (bs : List ℕ) → Agrees bs (sequencePayload bs)
+unfolding sequencePayload
+sequence-agrees [] = λ low known. absurd (known refl)
+sequence-agrees (b ∷ bs) =
+    cond-case (Agrees (b ∷ bs)) (eqb b 0x1B) (escaped-agrees b bs)
+    λ _. cond-case (Agrees (b ∷ bs)) (eqb b 0x90)
+    (λ f. agrees-found (b ∷ bs) (headerFrom [] bs) (rw (eqb-true b 0x90 f) (introducer-found c1 bs)))
+    (λ _ low known. absurd (omega arith))

@@ -1,0 +1,189 @@
+-- Worked examples: document 01's bench examples, its five slips, and what else a wrong reading would get wrong.
+-- Each row has an input and what is said of its outcome; one test computes a whole table. `\u{90}` is the byte 90.
+use mathlib.Core.Path.{_≡_, refl}
+use mathlib.Core.Bool.{true}
+use mathlib.Core.Option.{none, some}
+use mathlib.Core.List.{List, [], _∷_, _++_, map}
+use Rattle.meaning.specs.Payload.{byRaster, leftToP1}
+use Rattle.meaning.specs.Sessions.{complete, cancelled, interrupted}
+use Rattle.meaning.specs.Calls.{needsMore, stoppedForInk, ended, told, refused}
+use Rattle.meaning.proofs.Trials.{Row, limited, onCanvas, row, under, dcs, once, size, extent, ink, shows, ratio, transparent, opaque, refusal, ends, goesOn, leaves, rowsHold, Calls, houseCalls, calls, feeding, finishing, fed, sized, declined, heard, computed}
+
+-- document 01's bench examples, and the program's
+bench : List Row
+bench =
+    row "" (size 1 1 ∷ [])
+    ∷ row "~-?" (size 1 12 ∷ ink 6 ∷ [])
+    ∷ row "!5#1~" (size 5 6 ∷ shows 0 0 0x3333CCFF ∷ shows 4 5 0x3333CCFF ∷ ink 30 ∷ [])
+    ∷ row "!0~" (size 1 6 ∷ [])
+    ∷ row "!1\n2~" (size 12 6 ∷ [])
+    ∷ row "#1;2;100;0~" (shows 0 0 0x3333CCFF ∷ [])
+    ∷ row "#1;2;100;0;~" (shows 0 0 0xFF0000FF ∷ [])
+    ∷ row "#300~" (shows 0 0 0xFFFFFFFF ∷ [])
+    ∷ row "~#0;2;100;100;100-~" (shows 0 0 0x000000FF ∷ shows 0 6 0xFFFFFFFF ∷ [])
+    ∷ row "\"2;1\"1;2" (ratio (leftToP1 none) ∷ [])
+    ∷ under (limited 8 768 8 786432) "!8~" (size 8 6 ∷ [])
+    ∷ under (limited 8 768 8 786432) "!9~" (refusal 4 ∷ [])
+    ∷ under (limited 8 768 1024 786432) "!9~" (refusal 5 ∷ [])
+    ∷ under (limited 1024 12 1024 786432) "--~" (refusal 5 ∷ [])
+    ∷ under (limited 1024 12 1024 786432) "--" (size 1 1 ∷ [])
+    ∷ under (limited 8 12 1024 48) "!8~" (size 8 6 ∷ [])
+    ∷ under (limited 8 12 1024 48) "!8~-?" (refusal 6 ∷ [])
+    ∷ under (onCanvas 786432 4 6) "!5~" (refusal 7 ∷ [])
+    ∷ row "#1;1;120;50;100~" (shows 0 0 0xFF0000FF ∷ [])
+    ∷ row "#1;1;0;50;100~" (shows 0 0 0x0000FFFF ∷ [])
+    ∷ dcs "\u{1b}Pq#1;2;100;0;0!2B\u{1b}\\"
+    (ends complete
+    ∷ leaves ""
+    ∷ size 2 6
+    ∷ extent 2 6
+    ∷ ratio (leftToP1 none)
+    ∷ opaque
+    ∷ ink 4
+    ∷ shows 1 0 0xFF0000FF
+    ∷ shows 1 1 0xFF0000FF
+    ∷ shows 1 2 0x000000FF
+    ∷ shows 1 5 0x000000FF
+    ∷ [])
+    ∷ []
+
+-- the slips to rule out: the repeat spent at `$`, height from inked bands, the byte after a lone 1B consumed, the background recoloured with
+-- register 0, `-` refused below H
+slips : List Row
+slips =
+    row "!5$~" (size 5 6 ∷ ink 30 ∷ [])
+    ∷ row "~-?" (size 1 12 ∷ extent 1 6 ∷ [])
+    ∷ dcs "\u{1b}Pq~\u{1b}[m" (ends (interrupted 0x1B) ∷ leaves "[m" ∷ size 1 6 ∷ [])
+    ∷ row "#0;2;100;0;0@" (shows 0 0 0xFF0000FF ∷ shows 0 1 0x000000FF ∷ [])
+    ∷ under (limited 1024 12 1024 786432) "~---" (size 1 6 ∷ [])
+    ∷ []
+
+-- commands, and what ends, fills and outlives them
+commands : List Row
+commands =
+    row "!5~~" (size 6 6 ∷ ink 36 ∷ [])
+    ∷ row "!5!2~" (size 2 6 ∷ [])
+    ∷ row "!5-~" (size 5 12 ∷ [])
+    ∷ row "!5\"1;1~" (size 5 6 ∷ [])
+    ∷ row "~!0~" (size 2 6 ∷ ink 12 ∷ [])
+    ∷ row "!3;4~" (size 3 6 ∷ [])
+    ∷ row "!1\u{a0}2~" (size 1 6 ∷ [])
+    ∷ row "!1\u{7f}\u{19}2~" (size 12 6 ∷ [])
+    ∷ row "~~$~" (size 2 6 ∷ ink 18 ∷ [])
+    ∷ row "~~-~" (size 2 12 ∷ extent 2 12 ∷ [])
+    ∷ row "!7?" (size 7 6 ∷ extent 7 1 ∷ ink 0 ∷ [])
+    ∷ row "#1`" (shows 0 0 0x3333CCFF ∷ shows 0 1 0x000000FF ∷ shows 0 5 0x3333CCFF ∷ ink 2 ∷ [])
+    ∷ row "~\u{18}~" (size 1 6 ∷ leaves "\u{18}~" ∷ [])
+    ∷ row "!3\u{9f}~" (size 1 1 ∷ leaves "\u{9f}~" ∷ [])
+    ∷ []
+
+-- registers, and numbers that are held
+colours : List Row
+colours =
+    row "#256~" (shows 0 0 0xFFFFFFFF ∷ [])
+    ∷ row "#1~#~" (shows 0 0 0x3333CCFF ∷ shows 1 0 0x000000FF ∷ [])
+    ∷ row "#1;2;100;0;0;7~" (shows 0 0 0xFF0000FF ∷ [])
+    ∷ row "#1;3;100;0;0~" (shows 0 0 0x3333CCFF ∷ [])
+    ∷ row "#1;2;0;200;0~" (shows 0 0 0x00FF00FF ∷ [])
+    ∷ row "#1~#1;2;100;0;0~" (shows 0 0 0x3333CCFF ∷ shows 1 0 0xFF0000FF ∷ [])
+    ∷ row "#1;1;2147483647;50;100~" (shows 0 0 0xFF1E00FF ∷ [])
+    ∷ row "#1;1;9999999999;50;100~" (shows 0 0 0xFF1E00FF ∷ [])
+    ∷ []
+
+-- ratios and raster sizes
+rasters : List Row
+rasters =
+    row "\"4;2" (ratio (byRaster 2) ∷ size 1 1 ∷ [])
+    ∷ row "\"0;0" (ratio (byRaster 1) ∷ [])
+    ∷ row "\"10;2" (ratio (byRaster 5) ∷ [])
+    ∷ row "\"4;1" (ratio (leftToP1 none) ∷ [])
+    ∷ row "\"3;2" (ratio (leftToP1 none) ∷ [])
+    ∷ row "\"3;1\"7" (ratio (byRaster 3) ∷ [])
+    ∷ row "\"4294967294;2147483647" (ratio (byRaster 1) ∷ [])
+    ∷ row "\"1;1;3;4" (size 3 4 ∷ extent 1 1 ∷ shows 2 3 0x000000FF ∷ [])
+    ∷ row "\"1;1;3\"1;1;0;4" (size 3 4 ∷ [])
+    ∷ row "\"1;1;3;4~" (size 3 6 ∷ [])
+    ∷ under (limited 8 12 1024 48) "\"1;1;8;12" (refusal 6 ∷ [])
+    ∷ under (limited 8 12 1024 48) "\"1;1;9;12" (refusal 5 ∷ [])
+    ∷ under (onCanvas 24 4 6) "!5~" (refusal 6 ∷ [])
+    ∷ []
+
+-- introducer, header and ends of a DCS sequence
+sequences : List Row
+sequences =
+    dcs "\u{90}q~\u{9c}X" (ends complete ∷ leaves "X" ∷ size 1 6 ∷ ratio (leftToP1 none) ∷ opaque ∷ [])
+    ∷ dcs "\u{90}q~\u{18}X" (ends (cancelled 0x18) ∷ leaves "X" ∷ size 1 6 ∷ [])
+    ∷ dcs "\u{90}q~\u{1a}X" (ends (cancelled 0x1A) ∷ leaves "X" ∷ [])
+    ∷ dcs "\u{90}q~\u{85}X" (ends (interrupted 0x85) ∷ leaves "\u{85}X" ∷ size 1 6 ∷ [])
+    ∷ dcs "\u{90}q~\u{1b}\0\\" (ends (interrupted 0x1B) ∷ leaves "\0\\" ∷ [])
+    ∷ dcs "\u{90}q~\u{1b}" (goesOn ∷ leaves "" ∷ refusal 8 ∷ [])
+    ∷ dcs "\u{90}q!5\u{9c}~" (ends complete ∷ leaves "~" ∷ size 1 1 ∷ [])
+    ∷ dcs "\u{90}q!1025\u{9c}" (refusal 4 ∷ [])
+    ∷ dcs "\u{90}7;1;5q@\u{9c}" (ratio (leftToP1 (some 7)) ∷ transparent ∷ shows 0 0 0x000000FF ∷ shows 0 1 0 ∷ [])
+    ∷ dcs "\u{90}7;2q@\u{9c}" (opaque ∷ shows 0 1 0x000000FF ∷ [])
+    ∷ dcs "\u{90};q\u{9c}" (ratio (leftToP1 (some 0)) ∷ opaque ∷ [])
+    ∷ dcs "\u{90}1\u{7}2;65537q\"2;1\u{9c}" (ratio (byRaster 2) ∷ opaque ∷ [])
+    ∷ dcs "\u{90}1\u{7}2;1;3;4q\u{9c}" (ratio (leftToP1 (some 12)) ∷ transparent ∷ [])
+    ∷ dcs "\u{90}99999q\u{9c}" (ratio (leftToP1 (some 65535)) ∷ [])
+    ∷ dcs "~" (refusal 1 ∷ [])
+    ∷ dcs "\u{7}\u{90}q" (refusal 1 ∷ [])
+    ∷ dcs "\u{1b}\0P" (refusal 1 ∷ [])
+    ∷ dcs "\u{90}1\u{18}" (refusal 2 ∷ [])
+    ∷ dcs "\u{90}1x" (refusal 3 ∷ [])
+    ∷ []
+
+-- inputs read at once, with the part handed back
+shots : List Row
+shots =
+    once "!2~" (size 2 6 ∷ leaves "!2~" ∷ [])
+    ∷ once "text\u{1b}[m\u{1b}P9;1q~\u{1b}\\" (size 1 6 ∷ ratio (leftToP1 (some 9)) ∷ transparent ∷ leaves "~\u{1b}\\" ∷ [])
+    ∷ once "\u{90}q~\u{1b}Pq~~" (size 1 6 ∷ leaves "~\u{1b}Pq~~" ∷ [])
+    ∷ once "~\u{90}1;" (refusal 8 ∷ leaves "" ∷ [])
+    ∷ once "\u{90}\u{1b}q" (refusal 2 ∷ leaves "" ∷ [])
+    ∷ once "\u{90}1 q" (refusal 3 ∷ leaves "" ∷ [])
+    ∷ once "\u{90}q!1025~" (refusal 4 ∷ leaves "!1025~" ∷ [])
+    ∷ []
+
+-- all of them
+pub table : List Row
+unfolding bench slips commands colours rasters sequences shots
+table = bench ++ (slips ++ (commands ++ (colours ++ (rasters ++ (sequences ++ shots)))))
+
+-- document 01's examples and all the others are read as their rows say
+pub table-holds : rowsHold table ≡ true
+unfolding computed rowsHold table
+table-holds = refl
+
+-- ---- calls
+
+pub callTable : List Calls
+callTable =
+    -- document 01's: a stop for ink and the sixel that it left unread; an allowance below 6W
+    houseCalls (feeding 3145728 48 "!8~$!8~" ∷ feeding 3145728 48 "~" ∷ finishing 3145728 ∷ [])
+    (fed (told 6 48 stoppedForInk) ∷ fed (told 1 48 needsMore) ∷ sized 8 6 ∷ [])
+    ∷ houseCalls (feeding 3145728 47 "!8~$!8~" ∷ []) (fed (refused 13) ∷ [])
+    -- with nothing left of the allowance a blank sixel is read, and a sixel beyond W is refused
+    ∷ calls 8 (feeding 384 48 "!8~$?~" ∷ []) (fed (told 5 48 stoppedForInk) ∷ [])
+    ∷ calls 8 (feeding 384 48 "!8~~" ∷ []) (fed (refused 5) ∷ [])
+    -- the command pending before a stop has ended
+    ∷ calls 8 (feeding 384 48 "!8~$!4~" ∷ feeding 384 48 "3~" ∷ []) (fed (told 6 48 stoppedForInk) ∷ fed (told 2 24 needsMore) ∷ [])
+    -- 13, and 12 before it, leave the session as it was
+    ∷ calls 8 (feeding 384 47 "~" ∷ feeding 380 47 "~" ∷ feeding 384 48 "~" ∷ finishing 380 ∷ finishing 384 ∷ [])
+    (fed (refused 13) ∷ fed (refused 12) ∷ fed (told 1 6 needsMore) ∷ declined 12 ∷ sized 1 6 ∷ [])
+    -- a failed session is 9 before all else
+    ∷ calls 8 (feeding 384 48 "!9~" ∷ feeding 380 47 "" ∷ finishing 380 ∷ []) (fed (refused 4) ∷ fed (refused 9) ∷ declined 9 ∷ [])
+    -- an ended one repeats its status, after 13
+    ∷ calls 8 (feeding 384 48 "~\u{1b}~" ∷ feeding 384 47 "~" ∷ feeding 384 48 "~" ∷ feeding 384 48 "" ∷ finishing 384 ∷ [])
+    (fed (told 1 6 (ended 0x1B)) ∷ fed (refused 13) ∷ fed (told 0 0 (ended 0x1B)) ∷ fed (told 0 0 (ended 0x1B)) ∷ sized 1 6 ∷ [])
+    -- a number in pieces; finish carries the pending command out
+    ∷ calls 8 (feeding 384 48 "!" ∷ feeding 384 48 "" ∷ feeding 384 48 "5" ∷ feeding 384 48 "~!9" ∷ finishing 384 ∷ [])
+    (fed (told 1 0 needsMore) ∷ fed (told 0 0 needsMore) ∷ fed (told 1 0 needsMore) ∷ fed (told 3 30 needsMore) ∷ declined 4 ∷ [])
+    ∷ calls 8 (feeding 384 48 "\"1;1;8;12" ∷ finishing 384 ∷ []) (fed (told 9 0 needsMore) ∷ sized 8 12 ∷ [])
+    -- W 0 opens no session
+    ∷ calls 0 [] (declined 11 ∷ [])
+    ∷ []
+
+-- every caller hears what its row says
+pub call-table-holds : map heard callTable ≡ map (λ (c : Calls). c .hears) callTable
+unfolding computed heard callTable
+call-table-holds = refl

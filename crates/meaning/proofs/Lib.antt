@@ -1,0 +1,13 @@
+pub mod RunLaws
+pub mod CallLaws
+pub mod CallerLaws
+pub mod HistoryLaws
+pub mod ReaderLaws
+pub mod AreaLaws
+pub mod InkLaws
+pub mod PayloadLaws
+pub mod DcsParts
+pub mod DcsLaws
+pub mod Demand3
+pub mod Trials
+pub mod Examples

@@ -1,0 +1,268 @@
+-- From commands to strokes (document 01, 'Reading the payload'): what each command does to a drawing, and what it is refused for.
+-- The repeat's number, columns, rows and ink have no bound here.
+use Prim.Native.Nat.{ℕ, suc, _+_, _*_, min, max}
+use mathlib.Core.Bool.{Bool, true, false, cond, _||_}
+use mathlib.Core.Option.{Option, none, some}
+use mathlib.Core.List.{List, [], _∷_, _++_}
+use lib.Dec.{leb, ltb, eqb}
+use lib.Count.{ones}
+use lib.IntN.{pos}
+use lib.ListN.{length, getD}
+use Rattle.numbers.specs.Values.{decimal, values}
+use Rattle.colours.specs.declared.Palette.{Palette}
+use Rattle.colours.specs.Palette.{registerOf, setRgb, setHls}
+use Rattle.canvas.specs.Picture.{Stroke, Area, grownTo, reach}
+use Rattle.meaning.specs.Commands.{Kind, repeat, colour, raster, Command, argued, return, line, draw, Placed}
+
+-- W, H, R and M
+pub record Limits : Type 0 where
+  pub width : ℕ
+  pub height : ℕ
+  pub repeats : ℕ
+  pub pixels : ℕ
+
+-- what a session was opened with: its limits, and the canvas's stride and whole rows
+pub record Setting : Type 0 where
+  pub limits : Limits
+  pub stride : ℕ
+  pub rows : ℕ
+
+-- where the next sixel goes, how often, and in which register's colour
+pub record Pen : Type 0 where
+  pub column : ℕ
+  pub row : ℕ
+  pub repeats : ℕ
+  pub register : ℕ
+
+-- what raster commands have left: the ratio, or none, and the width and height kept, 0 where none was
+pub record Raster : Type 0 where
+  pub ratio : Option ℕ
+  pub width : ℕ
+  pub height : ℕ
+
+-- all that a payload has made so far; a blank sixel is a stroke of no bits
+pub record Drawing : Type 0 where
+  pub pen : Pen
+  pub strokes : List Stroke
+  pub area : Area
+  pub raster : Raster
+  pub palette : Palette
+  pub background : List ℕ
+
+-- the background is transparent exactly when P2 is 1
+unfoldable pub transparent : Option ℕ → Bool
+transparent none = false
+transparent (some n) = eqb n 1
+
+-- 0,0,0,0 where it is transparent, else register 0 at the start
+unfoldable pub backgroundOf : Palette → Option ℕ → List ℕ
+unfolding transparent
+backgroundOf p p2 = cond (transparent p2) (0 ∷ 0 ∷ 0 ∷ 0 ∷ []) (registerOf p 0)
+
+-- the drawing before the first byte
+unfoldable pub blank : Palette → Option ℕ → Drawing
+unfolding backgroundOf
+blank p p2 =
+    record {
+      pen = record { column = 0; row = 0; repeats = 1; register = 0 };
+      strokes = [];
+      area = record { width = 1; height = 1 };
+      raster = record { ratio = none; width = 0; height = 0 };
+      palette = p;
+      background = backgroundOf p p2;
+    }
+
+-- a command's outcome: the drawing after it, or a refusal's number
+pub data Drawn : Type 0 where
+  drawn : Drawing → Drawn
+  refused : ℕ → Drawn
+
+-- ---- one part changed, the others kept
+
+unfoldable pub withPen : Drawing → Pen → Drawing
+withPen d p =
+    record { pen = p; strokes = d .strokes; area = d .area; raster = d .raster; palette = d .palette; background = d .background }
+
+unfoldable pub withRegister : Pen → ℕ → Pen
+withRegister p n = record { column = p .column; row = p .row; repeats = p .repeats; register = n }
+
+unfoldable pub withRepeats : Pen → ℕ → Pen
+withRepeats p n = record { column = p .column; row = p .row; repeats = n; register = p .register }
+
+unfoldable pub moved : Pen → ℕ → ℕ → Pen
+moved p column row = record { column = column; row = row; repeats = p .repeats; register = p .register }
+
+-- ---- repeat: above R it is 4, and 0 means 1; it waits for the next sixel, and a later one replaces it
+
+unfoldable pub repeated : Setting → ℕ → Drawing → Drawn
+unfolding withPen withRepeats
+repeated s n d = cond (ltb (s .limits .repeats) n) (refused 4) (drawn (withPen d (withRepeats (d .pen) (max 1 n))))
+
+-- ---- colour
+
+-- no value selects register 0, and a number above 255 selects 255
+unfoldable pub selected : List ℕ → ℕ
+selected vs = min (getD vs 0 0) 255
+
+-- with five values, space 1 (HLS) or 2 (RGB) redefines the register
+unfoldable pub redefined : Palette → ℕ → List ℕ → Palette
+redefined p n vs =
+    cond (eqb (length vs) 5)
+    (cond (eqb (getD vs 1 0) 1) (setHls p n (pos (getD vs 2 0)) (pos (getD vs 3 0)) (pos (getD vs 4 0)))
+    (cond (eqb (getD vs 1 0) 2) (setRgb p n (pos (getD vs 2 0)) (pos (getD vs 3 0)) (pos (getD vs 4 0)))
+    p))
+    p
+
+unfoldable pub coloured : List ℕ → Drawing → Drawing
+unfolding withRegister selected redefined
+coloured vs d =
+    record {
+      pen = withRegister (d .pen) (selected vs);
+      strokes = d .strokes;
+      area = d .area;
+      raster = d .raster;
+      palette = redefined (d .palette) (selected vs) vs;
+      background = d .background;
+    }
+
+-- ---- sizes: 5 above W or H, then 6 where the visible area would exceed M pixels, then 7 above the stride or the rows
+
+unfoldable pub pixelsOf : Area → ℕ
+pixelsOf a = a .width * a .height
+
+unfoldable pub sizeRefusal : Setting → Area → ℕ → ℕ → Option ℕ
+unfolding pixelsOf grownTo
+sizeRefusal s a w h =
+    cond (ltb (s .limits .width) w || ltb (s .limits .height) h) (some 5)
+    (cond (ltb (s .limits .pixels) (pixelsOf (grownTo a w h))) (some 6)
+    (cond (ltb (s .stride) w || ltb (s .rows) h) (some 7) none))
+
+-- a drawing unless its size is refused
+unfoldable pub unless : Option ℕ → Drawing → Drawn
+unless none d = drawn d
+unless (some n) d = refused n
+
+-- ---- raster
+
+-- a quotient of exactly 1, 2, 3 or 5 is the ratio; another clears it
+unfoldable pub quotient : ℕ → ℕ → Option ℕ
+quotient v h =
+    cond (eqb v h) (some 1)
+    (cond (eqb v (2 * h)) (some 2)
+    (cond (eqb v (3 * h)) (some 3)
+    (cond (eqb v (5 * h)) (some 5) none)))
+
+-- the first two values, a 0 raised to 1, are vertical:horizontal; one value alone changes no ratio
+unfoldable pub ratioAfter : Option ℕ → List ℕ → Option ℕ
+unfolding quotient
+ratioAfter old vs = cond (leb 2 (length vs)) (quotient (max 1 (getD vs 0 0)) (max 1 (getD vs 1 0))) old
+
+-- a width or height above 0 is kept
+unfoldable pub kept : ℕ → ℕ → ℕ
+kept old n = cond (ltb 0 n) n old
+
+unfoldable pub rasterAfter : Raster → List ℕ → Raster
+unfolding ratioAfter kept
+rasterAfter r vs =
+    record { ratio = ratioAfter (r .ratio) vs; width = kept (r .width) (getD vs 2 0); height = kept (r .height) (getD vs 3 0) }
+
+-- the drawing with a raster and an area
+unfoldable pub withRaster : Drawing → Raster → Area → Drawing
+withRaster d r a =
+    record { pen = d .pen; strokes = d .strokes; area = a; raster = r; palette = d .palette; background = d .background }
+
+-- the visible area grows to a raster's size, a missing width or height counting 1
+unfoldable pub stretched : Setting → Raster → Drawing → Drawn
+unfolding withRaster sizeRefusal unless
+stretched s r d =
+    unless (sizeRefusal s (d .area) (max 1 (r .width)) (max 1 (r .height)))
+    (withRaster d r (grownTo (d .area) (max 1 (r .width)) (max 1 (r .height))))
+
+-- it does so if a width or a height is kept
+unfoldable pub rastered : Setting → Raster → Drawing → Drawn
+unfolding stretched
+rastered s r d = cond (eqb (r .width + r .height) 0) (drawn (withRaster d r (d .area))) (stretched s r d)
+
+-- ---- sixel
+
+-- the stroke that a sixel's bits make at the pen
+unfoldable pub strokeOf : ℕ → Drawing → Stroke
+strokeOf bits d =
+    record {
+      column = d .pen .column;
+      row = d .pen .row;
+      repeat = d .pen .repeats;
+      bits = bits;
+      colour = registerOf (d .palette) (d .pen .register);
+      register = d .pen .register;
+    }
+
+-- the drawing with a stroke more: the area grows to it, the column advances, the repeat is spent
+unfoldable pub stroked : Drawing → Stroke → Drawing
+unfolding moved withRepeats
+stroked d k =
+    record {
+      pen = withRepeats (moved (d .pen) (k .column + k .repeat) (d .pen .row)) 1;
+      strokes = d .strokes ++ (k ∷ []);
+      area = reach (d .area) k;
+      raster = d .raster;
+      palette = d .palette;
+      background = d .background;
+    }
+
+-- it needs columns up to position + repeat and rows up to position + 6
+unfoldable pub sixelled : Setting → ℕ → Drawing → Drawn
+unfolding strokeOf stroked sizeRefusal unless
+sixelled s bits d =
+    unless (sizeRefusal s (d .area) (d .pen .column + d .pen .repeats) (d .pen .row + 6)) (stroked d (strokeOf bits d))
+
+-- ---- commands
+
+unfoldable pub drawCommand : Setting → Command → Drawing → Drawn
+unfolding repeated coloured rastered sixelled rasterAfter withPen moved
+drawCommand s (argued repeat bs) d = repeated s (decimal bs) d
+drawCommand s (argued colour bs) d = drawn (coloured (values 5 bs) d)
+drawCommand s (argued raster bs) d = rastered s (rasterAfter (d .raster) (values 4 bs)) d
+drawCommand s return d = drawn (withPen d (moved (d .pen) 0 (d .pen .row)))
+drawCommand s line d = drawn (withPen d (moved (d .pen) 0 (d .pen .row + 6)))
+drawCommand s (draw bits) d = sixelled s bits d
+
+-- what commands in their order come to: the drawing, up to the first that is refused, and that refusal
+pub record Outcome : Type 0 where
+  pub drawing : Drawing
+  pub refusal : Option ℕ
+
+-- a command's outcome, and what follows it
+unfoldable pub andThen : Drawing → Drawn → (Drawing → Outcome) → Outcome
+andThen before (drawn d) later = later d
+andThen before (refused n) later = record { drawing = before; refusal = some n }
+
+unfoldable pub drawAll : Setting → List Placed → Drawing → Outcome
+unfolding drawCommand andThen
+drawAll s [] d = record { drawing = d; refusal = none }
+drawAll s (c ∷ cs) d = andThen d (drawCommand s (c .command) d) (drawAll s cs)
+
+-- ---- ink and extent
+
+-- a sixel's ink: the repeat times the ones among its six bits
+unfoldable pub inkOf : Stroke → ℕ
+inkOf k = k .repeat * ones (k .bits)
+
+unfoldable pub inkOfAll : List Stroke → ℕ
+unfolding inkOf
+inkOfAll [] = 0
+inkOfAll (k ∷ ks) = inkOf k + inkOfAll ks
+
+-- the rightmost column that any sixel reached, blank or not, plus 1
+unfoldable pub columnsReached : List Stroke → ℕ
+columnsReached [] = 1
+columnsReached (k ∷ ks) = max (k .column + k .repeat) (columnsReached ks)
+
+-- the lowest row of any band with ink, plus 1
+unfoldable pub rowsReached : List Stroke → ℕ
+rowsReached [] = 1
+rowsReached (k ∷ ks) = max (cond (eqb (k .bits) 0) 1 (k .row + 6)) (rowsReached ks)
+
+unfoldable pub extentOf : List Stroke → Area
+unfolding columnsReached rowsReached
+extentOf ks = record { width = columnsReached ks; height = rowsReached ks }

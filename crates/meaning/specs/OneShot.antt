@@ -1,0 +1,48 @@
+-- Reading all at once (document 01, 'DCS framing and one-shot').
+use Prim.Native.Nat.{ℕ}
+use mathlib.Core.Bool.{cond, _&&_}
+use mathlib.Core.Option.{Option, none, some}
+use mathlib.Core.List.{List, [], _∷_}
+use lib.Dec.{eqb}
+use lib.ListN.{drop, getD}
+use Rattle.colours.specs.declared.Palette.{Palette}
+use Rattle.meaning.specs.Drawing.{Setting}
+use Rattle.meaning.specs.Payload.{Parameters, Finished, turnedDown, finish, payload}
+use Rattle.meaning.specs.Sessions.{escape, HeaderByte, goesOn, settles, wrong, headerByte}
+
+-- what comes after the first 90 or 1B `P`, wherever it stands; none where there is neither
+unfoldable pub afterIntroducer : List ℕ → Option (List ℕ)
+afterIntroducer [] = none
+afterIntroducer (b ∷ bs) =
+    cond (eqb b 0x90) (some bs) (cond (eqb b escape && eqb (getD bs 0 0) 0x50) (some (drop 1 bs)) (afterIntroducer bs))
+
+-- what an input has: parameters and the part that is its payload, or a refusal's number
+pub data Found : Type 0 where
+  found : Parameters → List ℕ → Found
+  missing : ℕ → Found
+
+-- a header, with its digits and `;` so far: the part begins after `q`, and without one it is 8
+unfoldable pub headerFrom : List ℕ → List ℕ → Found
+headerFrom got [] = missing 8
+headerFrom got (b ∷ bs) =
+    elim (headerByte got b) [ goesOn more ↦ headerFrom more bs | settles o ↦ found o bs | wrong n ↦ missing n ]
+
+-- without an introducer the whole input is payload, with no parameters
+unfoldable pub findPayload : List ℕ → Found
+unfolding afterIntroducer headerFrom
+findPayload bs =
+    elim (afterIntroducer bs) [ none ↦ found (record { p1 = none; p2 = none }) bs | some later ↦ headerFrom [] later ]
+
+-- the part handed back: on 2, 3 and 8 an empty one
+unfoldable pub partOf : Found → List ℕ
+partOf (found o part) = part
+partOf (missing n) = []
+
+-- the answer: the refusal of the header, or what finishing the payload gives
+unfoldable pub answerOf : Setting → Palette → Found → Finished
+answerOf s p (found o part) = finish s o (payload s o p part)
+answerOf s p (missing n) = turnedDown n
+
+unfoldable pub oneShot : Setting → Palette → List ℕ → Finished
+unfolding findPayload answerOf
+oneShot s p bs = answerOf s p (findPayload bs)

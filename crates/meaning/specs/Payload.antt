@@ -1,0 +1,73 @@
+-- What a payload means, whole: the drawing of its commands, and what finishing it answers (document 01).
+use Prim.Native.Nat.{ℕ, _*_}
+use mathlib.Core.Bool.{Bool, true, false, cond, _||_}
+use mathlib.Core.Option.{Option, none, some}
+use mathlib.Core.List.{List, [], _∷_}
+use lib.Dec.{leb, ltb, eqb}
+use Rattle.colours.specs.declared.Palette.{Palette}
+use Rattle.canvas.specs.Picture.{Stroke, Area}
+use Rattle.meaning.specs.Commands.{commands}
+use Rattle.meaning.specs.Drawing.{Setting, Drawing, Outcome, transparent, blank, drawAll, inkOfAll, extentOf, pixelsOf}
+
+-- P1 and P2, each a 16-bit number or none
+pub record Parameters : Type 0 where
+  pub p1 : Option ℕ
+  pub p2 : Option ℕ
+
+-- the drawing of a payload from its first byte to its end, or to its first refusal
+unfoldable pub payload : Setting → Parameters → Palette → List ℕ → Outcome
+payload s o p bs = drawAll s (commands bs) (blank p (o .p2))
+
+-- the ink of all that it draws, before a refusal too
+unfoldable pub payloadInk : Setting → Parameters → Palette → List ℕ → ℕ
+payloadInk s o p bs = inkOfAll (payload s o p bs .drawing .strokes)
+
+-- the raster's ratio, as so many to 1, or else it is left to P1
+pub data Ratio : Type 0 where
+  byRaster : ℕ → Ratio
+  leftToP1 : Option ℕ → Ratio
+
+unfoldable pub ratioOf : Option ℕ → Option ℕ → Ratio
+ratioOf p1 none = leftToP1 p1
+ratioOf p1 (some n) = byRaster n
+
+-- what finishing reports
+pub record Report : Type 0 where
+  pub size : Area
+  pub ratio : Ratio
+  pub clear : Bool
+  pub extent : Area
+  pub palette : Palette
+
+unfoldable pub reportOf : Parameters → Drawing → Report
+unfolding ratioOf transparent
+reportOf o d =
+    record {
+      size = d .area;
+      ratio = ratioOf (o .p1) (d .raster .ratio);
+      clear = transparent (o .p2);
+      extent = extentOf (d .strokes);
+      palette = d .palette;
+    }
+
+-- the answer of a finish: a report, or a refusal's number
+pub data Finished : Type 0 where
+  finished : Report → Finished
+  turnedDown : ℕ → Finished
+
+-- a size that exceeds W, H, M or the canvas
+unfoldable pub tooLarge : Setting → Area → Bool
+tooLarge s a =
+    ltb (s .limits .width) (a .width)
+    || (ltb (s .limits .height) (a .height)
+    || (ltb (s .limits .pixels) (pixelsOf a) || (ltb (s .stride) (a .width) || ltb (s .rows) (a .height))))
+
+-- a size that is too large is 10, else there is a report
+unfoldable pub reported : Setting → Parameters → Drawing → Finished
+unfolding tooLarge reportOf
+reported s o d = cond (tooLarge s (d .area)) (turnedDown 10) (finished (reportOf o d))
+
+-- the refusal of a command comes before that
+unfoldable pub finish : Setting → Parameters → Outcome → Finished
+unfolding reported
+finish s o out = elim (out .refusal) [ none ↦ reported s o (out .drawing) | some n ↦ turnedDown n ]
