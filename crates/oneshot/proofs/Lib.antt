@@ -1,0 +1,3 @@
+pub mod SearchLaws
+pub mod FoundLaws
+pub mod PartLaws
