@@ -11,7 +11,8 @@ use lib.ListN.{length, take, drop}
 use borrow.Author.Tests.{leb-true, leb-false}
 use Rattle.meaning.specs.Reader.{Step, next, halt, refuse, How, readAll, stopped, halted, refusedBy, isRefused, Run, still, after, follow, readFrom, call, RestLaw, HaltLaw, CapLaw}
 use Rattle.meaning.specs.Histories.{byte}
-use Rattle.meaning.proofs.RunLaws.{cond-map, after-zero, after-after, read-as}
+use Rattle.meaning.proofs.Cases.{cond-map}
+use Rattle.meaning.proofs.RunLaws.{after-zero, after-after, read-as}
 
 -- ---- what a call is, case by case
 

@@ -4,13 +4,14 @@ use Prim.Native.Nat.{ℕ, suc, _+_, _-_, _*_, _/_, _≤_, _<_}
 use native.Mathlib.Nat.{le-div-iff-mul-le}
 use native.Mathlib.Omega.{arith}
 use mathlib.Core.Path.{_≡_, refl, sym, ap, _∙_}
-use mathlib.Core.Bool.{Bool, true, false, cond, _&&_}
+use mathlib.Core.Bool.{Bool, true, false, cond}
 use mathlib.Core.List.{List, [], _∷_, _++_, append-nil, append-assoc}
 use lib.Dec.{leb}
 use lib.ListN.{length, drop}
 use borrow.Author.Tests.{leb-true}
-use Rattle.meaning.specs.Reader.{Step, next, How, readAll, stopped, halted, refusedBy, isRefused, Run, after, readFrom, call, Turn, fresh, again, pieceOf, allowanceOf, stream, pieces, Caller, ranBy, ready, mayCall, having, turn, turns, proper, RestLaw, HaltLaw, CapLaw}
-use Rattle.meaning.proofs.RunLaws.{cond-map, cond-no, after-zero, after-after}
+use Rattle.meaning.specs.Reader.{Step, How, readAll, stopped, halted, refusedBy, isRefused, Run, after, readFrom, call, Turn, fresh, again, pieceOf, allowanceOf, stream, pieces, Caller, ranBy, ready, mayCall, having, turn, turns, proper, RestLaw, HaltLaw, CapLaw}
+use Rattle.meaning.proofs.Cases.{cond-map, cond-no, both}
+use Rattle.meaning.proofs.RunLaws.{after-zero, after-after}
 use Rattle.meaning.proofs.CallLaws.{call-plain, call-stops, onward, call-onward}
 
 -- ---- a caller that presents what was left unread: the outcome is that of reading the whole
@@ -19,10 +20,6 @@ use Rattle.meaning.proofs.CallLaws.{call-plain, call-stops, onward, cal
 unfoldable pub ahead : {S : Type 0} → (S → ℕ → Step S) → Caller S → List ℕ → Run S
 unfolding after readFrom isRefused ranBy
 ahead step c zs = cond (isRefused (c .how)) (ranBy c) (after (c .consumed) (c .ink) (readFrom step (c .state) (c .unread ++ zs)))
-
-both : (x y : Bool) → (x && y) ≡ true → (x ≡ true) × (y ≡ true)
-both true y h = (refl, h)
-both false y h = (h, cc)
 
 -- a call that may be made comes after no refusal
 pub not-refused : (t : Turn) (h : How) → mayCall t h ≡ true → isRefused h ≡ false

@@ -1,22 +1,20 @@
 -- Reading a DCS sequence: through the header as a one-shot goes, then through the payload as a payload session does, and at an end finishing
 -- answers what a one-shot does.
-use Prim.Native.Nat.{ℕ, _+_, _≤_}
+use Prim.Native.Nat.{ℕ, _≤_}
 use native.Mathlib.Nat.{zero-add}
 use native.Mathlib.Omega.{arith}
 use mathlib.Core.Path.{_≡_, refl, sym, ap, _∙_, subst}
 use mathlib.Core.Logic.{_↔_}
-use mathlib.Core.Bool.{true, false, cond}
-use mathlib.Core.Option.{Option, none, some}
-use mathlib.Core.List.{List, [], _∷_, _++_}
+use mathlib.Core.Option.{some}
+use mathlib.Core.List.{List, _++_}
 use borrow.Author.Tests.{ne-eqb}
-use lib.Dec.{eqb}
 use lib.ListN.{drop}
 use Rattle.colours.specs.declared.Palette.{Palette}
-use Rattle.meaning.specs.Drawing.{Setting, Drawing, Outcome}
+use Rattle.meaning.specs.Drawing.{Setting, Outcome}
 use Rattle.meaning.specs.Payload.{Parameters, payload, payloadInk, turnedDown, finish}
-use Rattle.meaning.specs.Reader.{How, readAll, halted, refusedBy, isRefused, Run, after, readFrom}
-use Rattle.meaning.specs.Sessions.{Reading, settled, finishReading, End, Phase, start, within, over, dcsStep, finishDcs}
-use Rattle.meaning.specs.OneShot.{Found, found, missing, headerFrom, findPayload, answerOf, oneShot}
+use Rattle.meaning.specs.Reader.{halted, refusedBy, isRefused, Run, after, readFrom}
+use Rattle.meaning.specs.Sessions.{Reading, End, Phase, start, within, over, dcsStep, finishDcs}
+use Rattle.meaning.specs.OneShot.{Found, found, missing, findPayload, answerOf, oneShot}
 use Rattle.meaning.specs.Sequence.{Introducer, sequencePayload, sequenceInk, inPayload, framed, howWithout}
 use Rattle.meaning.specs.Calls.{drawingOf, drawingAtFinish, dcsEnd}
 use Rattle.meaning.proofs.AreaLaws.{Before}

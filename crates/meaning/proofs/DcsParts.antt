@@ -1,28 +1,25 @@
 -- Reading a DCS sequence part by part: what comes before the payload, the payload, and the end.
-use Prim.Native.Nat.{ℕ, suc, _+_, _≤_}
-use native.Mathlib.Nat.{zero-add, add-zero}
+use Prim.Native.Nat.{ℕ, _+_, _≤_}
 use native.Mathlib.Omega.{arith}
-use mathlib.Core.Path.{_≡_, refl, sym, ap, ap₂, _∙_, subst}
-use mathlib.Core.Bool.{Bool, true, false, cond, _||_, true≢false}
-use mathlib.Core.Option.{Option, none, some}
+use mathlib.Core.Path.{_≡_, refl, sym, ap, _∙_}
+use mathlib.Core.Bool.{true, false, _||_, true≢false}
+use mathlib.Core.Option.{none, some}
 use mathlib.Core.List.{List, [], _∷_, _++_}
 use lib.Dec.{eqb, lit≤}
-use lib.ListN.{length, drop}
+use lib.ListN.{drop}
 use borrow.Author.Tests.{eqb-true, eqb-false, ne-eqb}
 use Rattle.numbers.specs.Bytes.{skipped, ends}
 use Rattle.meaning.specs.Commands.{ofValues}
 use Rattle.colours.specs.declared.Palette.{Palette}
-use Rattle.meaning.specs.Drawing.{Setting, Drawing, Outcome}
-use Rattle.meaning.specs.Payload.{Parameters, payload, payloadInk, Finished, turnedDown, finish}
+use Rattle.meaning.specs.Drawing.{Setting}
 use Rattle.meaning.specs.Reader.{Step, next, halt, refuse, How, readAll, stopped, halted, refusedBy, isRefused, Run, still, after, follow, readFrom}
-use Rattle.meaning.specs.Sessions.{Reading, opened, payloadStep, finishReading, End, Phase, start, introduced, header, within, afterEscape, over, HeaderByte, goesOn, settles, wrong, headerByte, startStep, introducedStep, headerStep, endStep, withinStep, escapeStep, dcsStep, finishDcs}
-use Rattle.meaning.specs.OneShot.{afterIntroducer, Found, found, missing, headerFrom, findPayload, answerOf, oneShot}
+use Rattle.meaning.specs.Sessions.{Reading, opened, payloadStep, End, Phase, start, introduced, header, within, afterEscape, over, HeaderByte, goesOn, settles, wrong, headerByte, startStep, introducedStep, headerStep, endStep, withinStep, escapeStep, dcsStep}
+use Rattle.meaning.specs.OneShot.{Found, found, missing, headerFrom, findPayload}
 use Rattle.meaning.specs.Sequence.{Introducer, c1, escaped, afterFirstEscape, sequencePayload, inPayload, readEnd, framed, howWithout}
-use Rattle.meaning.specs.Calls.{drawingOf, dcsEnd}
+use Rattle.meaning.specs.Calls.{dcsEnd}
 use Rattle.meaning.proofs.RunLaws.{after-zero, after-after, read-as}
 use Rattle.meaning.proofs.CallLaws.{drop-one-more}
 use Rattle.meaning.proofs.AreaLaws.{cond-case, Before}
-use Rattle.meaning.proofs.PayloadLaws.{readPayload, reading-finish, reading-refused, reading-numbers, reading-ink}
 
 -- ---- within the payload
 

@@ -30,22 +30,22 @@ refused-going e z = let never : _≡_ {A = ℕ} 0 1 = cc in omega arith
 
 -- ---- what the laws of any reader ask holds of a payload and of a DCS sequence
 
-payload-rests : (s : Setting) → RestLaw (payloadStep s) (rested s)
+pub payload-rests : (s : Setting) → RestLaw (payloadStep s) (rested s)
 payload-rests s r t b i = payload-rest s r b
 
-payload-halts : (s : Setting) → HaltLaw (payloadStep s)
+pub payload-halts : (s : Setting) → HaltLaw (payloadStep s)
 payload-halts s r t b = payload-halt s r b
 
-payload-caps : (s : Setting) → CapLaw (payloadStep s) (6 * s .limits .width)
+pub payload-caps : (s : Setting) → CapLaw (payloadStep s) (6 * s .limits .width)
 payload-caps s r t b i = payload-cap s r b
 
-dcs-rests : (s : Setting) (p : Palette) → RestLaw (dcsStep s p) (dcsRested s)
+pub dcs-rests : (s : Setting) (p : Palette) → RestLaw (dcsStep s p) (dcsRested s)
 dcs-rests s p t u b i = dcs-rest s p t b
 
-dcs-halts : (s : Setting) (p : Palette) → HaltLaw (dcsStep s p)
+pub dcs-halts : (s : Setting) (p : Palette) → HaltLaw (dcsStep s p)
 dcs-halts s p t u b = dcs-halt s p t b
 
-dcs-caps : (s : Setting) (p : Palette) → CapLaw (dcsStep s p) (6 * s .limits .width)
+pub dcs-caps : (s : Setting) (p : Palette) → CapLaw (dcsStep s p) (6 * s .limits .width)
 dcs-caps s p t u b i = dcs-cap s p t b
 
 -- ---- payload sessions
@@ -60,7 +60,7 @@ module _ (s : Setting) (o : Parameters) (p : Palette) where
       (calls-bound (payloadStep s) (rested s) (payload-rests s) (payload-halts s) (6 * s .limits .width) (payload-caps s) A (opened o p) ts fits ok)
 
   -- unless the last call stopped, the calls came to what reading the whole comes to
-  payload-whole : (A : ℕ) (ts : List Turn) → properPayload s o p A ts ≡ true → (payloadTurns s o p ts .how ≡ stopped → ⊥)
+  pub payload-whole : (A : ℕ) (ts : List Turn) → properPayload s o p A ts ≡ true → (payloadTurns s o p ts .how ≡ stopped → ⊥)
       → readFrom (payloadStep s) (opened o p) (stream ts) ≡ ranBy (payloadTurns s o p ts)
   payload-whole A ts = calls-outcome (payloadStep s) (rested s) (payload-rests s) (payload-halts s) A (opened o p) ts
 

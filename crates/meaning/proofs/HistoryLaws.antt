@@ -83,7 +83,7 @@ module _ {S : Type 0} (step : S → ℕ → Step S) (rest : S → S) where
 
 module _ {S : Type 0} (step : S → ℕ → Step S) (rest : S → S) where
   -- an ended caller stays so, whatever piece comes next
-  abbrev StaysHalted : Caller S → Type 0
+  abbrev pub StaysHalted : Caller S → Type 0
   StaysHalted c = c .how ≡ halted → (k : ℕ) (zs : List ℕ) → call step rest k (c .state) (c .unread ++ zs) ≡ still (c .state) halted
 
   nothing-after : (r : Run S) → continued (resumed r) (λ t. still t readAll) ≡ resumed r
@@ -100,7 +100,8 @@ module _ {S : Type 0} (step : S → ℕ → Step S) (rest : S → S) where
       go (refusedBy n) = refl
 
 module _ {S : Type 0} (step : S → ℕ → Step S) (rest : S → S) (halt-law : HaltLaw step) where
-  halts-again : {a : ℕ} {s : S} {xs : List ℕ} {r : Run S} → Called step rest a s xs r → r .how ≡ halted → (k : ℕ) (zs : List ℕ)
+  -- a call that came to the end leaves a state in which every later call does
+  pub halts-again : {a : ℕ} {s : S} {xs : List ℕ} {r : Run S} → Called step rest a s xs r → r .how ≡ halted → (k : ℕ) (zs : List ℕ)
       → call step rest k (r .state) (drop (r .consumed) xs ++ zs) ≡ still (r .state) halted
   unfolding still after call
   halts-again nothing h k zs = cc

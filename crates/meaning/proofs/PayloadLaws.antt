@@ -6,16 +6,16 @@ use mathlib.Core.Path.{_≡_, refl, sym, ap, ap₂, _∙_, subst}
 use mathlib.Core.Bool.{Bool, true, false, cond, true≢false}
 use mathlib.Core.Option.{Option, none, some}
 use mathlib.Core.List.{List, [], _∷_, _++_, append-assoc}
-use lib.ListN.{length}
+use lib.ListN.{length, take}
 use Rattle.numbers.specs.Bytes.{ends}
 use Rattle.colours.specs.declared.Palette.{Palette}
 use Rattle.meaning.specs.Commands.{Placed, Begun, Scanned, closed, scanByte, scan, body, endOf, commands}
-use Rattle.meaning.specs.Drawing.{Setting, Drawing, blank, Outcome, drawAll, inkOfAll}
-use Rattle.meaning.specs.Payload.{Parameters, payload, payloadInk, finish, turnedDown}
-use Rattle.meaning.specs.Reader.{Step, next, halt, refuse, How, readAll, stopped, halted, refusedBy, isRefused, Run, still, after, follow, readFrom}
-use Rattle.meaning.specs.Sessions.{Reading, opened, settled, endedAt, wentOn, readByte, payloadStep, finishReading, outcomeOf}
+use Rattle.meaning.specs.Drawing.{Setting, blank, Outcome, drawAll, inkOfAll}
+use Rattle.meaning.specs.Payload.{Parameters, payload, payloadInk, finish}
+use Rattle.meaning.specs.Reader.{Step, halt, How, readAll, stopped, halted, refusedBy, isRefused, Run, still, after, follow, readFrom}
+use Rattle.meaning.specs.Sessions.{Reading, opened, settled, rested, endedAt, wentOn, readByte, payloadStep, finishReading, outcomeOf}
 use Rattle.meaning.proofs.AreaLaws.{cond-case, option-case, Leaves, leaves-map, payload-case, readFrom-keeps, drawOn, drawOn-none, drawOn-some, drawAll-append, FourToSeven, drawAll-numbers}
-use Rattle.meaning.proofs.InkLaws.{inkDrawn, settled-strokes, payload-ink}
+use Rattle.meaning.proofs.InkLaws.{settled-strokes, payload-ink}
 
 -- ---- scanning
 
@@ -282,3 +282,73 @@ module _ (s : Setting) (o : Parameters) (p : Palette) (bs : List ℕ) where
   reading-ink =
       sym (zero-add _) ∙ sym (payload-ink s (opened o p) bs)
       ∙ ap inkOfAll (sym (outcome-strokes s readPayload) ∙ ap (λ (out : Outcome). out .drawing .strokes) (reading-is-payload s o p bs))
+
+-- ---- what a stop and an end leave
+
+-- with no command begun there is none to carry out
+pub settled-none : (s : Setting) (r : Reading) → r .begun ≡ none → settled s r ≡ record { drawing = r .drawing; refusal = none }
+unfolding settled closed drawAll
+settled-none s r e = ap (λ (c : Option Begun). drawAll s (closed c) (r .drawing)) e
+
+-- a stop has carried the begun command out
+pub rested-settled : (s : Setting) (r : Reading) → settled s r .refusal ≡ none → settled s (rested s r) ≡ settled s r
+unfolding rested
+rested-settled s r e = settled-none s (rested s r) refl ∙ known (settled s r) e
+
+-- and so has an end: an ended payload has no begun command
+abbrev EndSettles : Reading → Type 0
+EndSettles r = (b : ℕ) → r .over ≡ some b → r .begun ≡ none
+
+wentOn-end : (r : Reading) (c : Scanned) (out : Outcome) → Leaves EndSettles (wentOn r c out)
+unfolding wentOn
+wentOn-end r c out = option-case (Leaves EndSettles) (out .refusal) (λ _ b q. cc) (λ _ _ b q. refl)
+
+ended-end : (b : ℕ) (r : Reading) (out : Outcome) → Leaves EndSettles (endedAt b r out)
+unfolding endedAt
+ended-end b r out = option-case (Leaves EndSettles) (out .refusal) (λ _ _ _. refl) (λ _ _ _ _. refl)
+
+step-end : (s : Setting) (r : Reading) (b : ℕ) → EndSettles r → Leaves EndSettles (payloadStep s r b)
+unfolding readByte
+step-end s r b h =
+    payload-case (Leaves EndSettles) s r b
+    (λ _. cond-case (Leaves EndSettles) (ends b) (λ _. ended-end b r (settled s r)) (λ _. wentOn-end r c (drawAll s (c .ended) (r .drawing))))
+    (λ _. h)
+  where
+    c : Scanned
+    c = scanByte (r .passed) (r .begun) b
+
+halted-end : (o : Option ℕ) → howAt o ≡ halted → (b : ℕ) × (o ≡ some b)
+unfolding howAt
+halted-end none e = absurd (let never : _≡_ {A = ℕ} 0 1 = cc in omega arith)
+halted-end (some b) e = (b, refl)
+
+-- a payload that has been read to its end has no begun command
+pub halted-settled : (s : Setting) (o : Parameters) (p : Palette) (bs : List ℕ) → readPayload s o p bs .how ≡ halted
+    → readPayload s o p bs .state .begun ≡ none
+unfolding opened isRefused
+halted-settled s o p bs e =
+    let f : ReadBody bs (readPayload s o p bs) = reading-body s (opened o p) bs refl (ap isRefused e) in
+    let z : (b : ℕ) × (endOf bs ≡ some b) = halted-end (endOf bs) (sym (f .how) ∙ e) in
+    readFrom-keeps EndSettles (payloadStep s) (step-end s) (opened o p) bs (λ b q. refl) (z .0) (f .over ∙ z .1)
+
+-- ---- the bytes before the end are all that a payload means
+
+take-body : (bs : List ℕ) → take (length (body bs)) bs ≡ body bs
+unfolding body
+take-body [] = refl
+take-body (b ∷ bs) = cond-case (λ (us : List ℕ). take (length us) (b ∷ bs) ≡ us) (ends b) (λ _. refl) (λ _. ap (λ (us : List ℕ). b ∷ us) (take-body bs))
+
+body-body : (bs : List ℕ) → body (body bs) ≡ body bs
+unfolding body
+body-body [] = refl
+body-body (b ∷ bs) =
+    cond-case (λ (us : List ℕ). body us ≡ us) (ends b) (λ _. refl) (λ e. rw e (ap (λ (us : List ℕ). b ∷ us) (body-body bs)))
+
+-- a payload cut at its end means the same
+pub payload-body : (s : Setting) (o : Parameters) (p : Palette) (bs : List ℕ)
+    → payload s o p (take (length (body bs)) bs) ≡ payload s o p bs
+unfolding payload commands
+payload-body s o p bs = ap whole (ap body (take-body bs) ∙ body-body bs)
+  where
+    whole : List ℕ → Outcome
+    whole us = let c : Scanned = scan 0 none us in drawAll s (c .ended ++ closed (c .begun)) (blank p (o .p2))

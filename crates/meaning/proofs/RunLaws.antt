@@ -1,24 +1,15 @@
 -- Laws of any reader's runs: reading xs and then ys is reading xs ++ ys, so pieces do not matter.
-use Prim.Native.Nat.{ℕ, _+_}
+use Prim.Native.Nat.{ℕ, suc, _+_}
 use native.Mathlib.Nat.{zero-add, add-assoc}
+use native.Mathlib.Omega.{arith}
 use mathlib.Core.Path.{_≡_, refl, sym, ap, ap₂, _∙_}
-use mathlib.Core.Bool.{Bool, true, false, cond}
+use mathlib.Core.Bool.{false, cond}
 use mathlib.Core.List.{List, [], _∷_, _++_}
-use lib.ListN.{take, drop, take-append-drop}
-use Rattle.meaning.specs.Reader.{Step, next, halt, refuse, How, readAll, stopped, halted, refusedBy, isAll, Run, after, continued, follow, readFrom, thenRead, pieces}
-use Rattle.meaning.specs.Histories.{byte}
+use lib.ListN.{length, take, drop, take-append-drop}
+use Rattle.meaning.specs.Reader.{Step, next, halt, refuse, How, readAll, stopped, halted, refusedBy, isAll, Run, still, after, continued, follow, readFrom, thenRead}
+use Rattle.meaning.proofs.Cases.{cond-map, cond-no}
 
 -- ---- runs
-
--- a function goes into a test
-pub cond-map : {A B : Type 0} (f : A → B) (c : Bool) (x y : A) → f (cond c x y) ≡ cond c (f x) (f y)
-cond-map f true x y = refl
-cond-map f false x y = refl
-
--- a test that fails
-pub cond-no : {A : Type 0} (c : Bool) (x y : A) → c ≡ false → cond c x y ≡ y
-cond-no true x y e = cc
-cond-no false x y e = refl
 
 -- two runs with the same counts
 pub same-counts : {S : Type 0} (s : S) (h : How) {n m i j : ℕ} → n ≡ m → i ≡ j
@@ -92,3 +83,18 @@ module _ {S : Type 0} (step : S → ℕ → Step S) where
   pub read-as : (s : S) (b : ℕ) (bs : List ℕ) {x : Step S} → step s b ≡ x → readFrom step s (b ∷ bs) ≡ follow x (λ t i. after 1 i (readFrom step t bs))
   unfolding readFrom
   read-as s b bs e = ap (λ (x : Step S). follow x (λ t i. after 1 i (readFrom step t bs))) e
+
+  -- a run that says it read all its bytes has consumed them all
+  pub read-all : (s : S) (xs : List ℕ) → readFrom step s xs .how ≡ readAll → readFrom step s xs .consumed ≡ length xs
+  unfolding readFrom still after follow
+  read-all s [] e = refl
+  read-all s (b ∷ bs) e = go (step s b) (λ t. read-all t bs) e
+    where
+      on : S → ℕ → Run S
+      on t i = after 1 i (readFrom step t bs)
+
+      go : (x : Step S) → ((t : S) → readFrom step t bs .how ≡ readAll → readFrom step t bs .consumed ≡ length bs)
+          → follow x on .how ≡ readAll → follow x on .consumed ≡ suc (length bs)
+      go (next t i) later e = omega (arith, later t e)
+      go (halt t) later e = cc
+      go (refuse t n) later e = cc

@@ -8,9 +8,9 @@ use lib.Dec.{leb, ltb, eqb}
 use Rattle.colours.specs.declared.Palette.{Palette}
 use Rattle.canvas.specs.Picture.{Area, rowsOf, fits, picture}
 use Rattle.meaning.specs.Drawing.{Limits, Setting, Drawing}
-use Rattle.meaning.specs.Payload.{Parameters, Finished, turnedDown}
+use Rattle.meaning.specs.Payload.{Parameters, payload, Finished, turnedDown}
 use Rattle.meaning.specs.Reader.{Step, readAll, stopped, halted, refusedBy, Run, call, Turn, Caller, ready, turns, proper}
-use Rattle.meaning.specs.OneShot.{oneShot, findPayload, partOf}
+use Rattle.meaning.specs.OneShot.{Found, found, missing, findPayload, partOf, oneShot}
 use Rattle.meaning.specs.Sessions.{Reading, opened, settled, payloadStep, rested, finishReading, End, Phase, start, introduced, header, within, afterEscape, over, dcsStep, dcsRested, finishDcs}
 
 -- ---- opening
@@ -167,6 +167,39 @@ drawingAtFinish s (within r) = some (r .drawing)
 drawingAtFinish s (afterEscape r) = some (r .drawing)
 drawingAtFinish s (over e r) = some (settled s r .drawing)
 
+-- After an opening and after every call the canvas shows the drawing of the session's state; a payload session opens with the blank drawing,
+-- which is pixel (0,0) in the background, and a DCS session has none before `q`.
+-- After a call that read all its bytes the pending command is not yet carried out; after a stop or an end it is.
+unfoldable pub payloadShown : Session Reading → List ℕ → List ℕ
+unfolding shown
+payloadShown s opening = shown (s .setting .stride) (some (s .state .drawing)) opening
+
+-- the same of a DCS session
+unfoldable pub dcsShown : Session Phase → List ℕ → List ℕ
+unfolding drawingOf shown
+dcsShown s opening = shown (s .setting .stride) (drawingOf (s .state)) opening
+
+-- after finishing it shows the drawing with the pending command carried out; a finish that is 12 writes nothing
+unfoldable pub payloadShownAtFinish : Session Reading → List ℕ → List ℕ
+unfolding shown settled
+payloadShownAtFinish s opening = shown (s .setting .stride) (some (settled (s .setting) (s .state) .drawing)) opening
+
+-- the same of a DCS session; before its end, which is 8, it stays as it is
+unfoldable pub dcsShownAtFinish : Session Phase → List ℕ → List ℕ
+unfolding shown drawingAtFinish
+dcsShownAtFinish s opening = shown (s .setting .stride) (drawingAtFinish (s .setting) (s .state)) opening
+
+-- a one-shot's drawing is its payload's
+unfoldable pub drawingFound : Setting → Palette → Found → Option Drawing
+drawingFound s p (found o part) = some (payload s o p part .drawing)
+drawingFound s p (missing n) = none
+
+-- after a one-shot the canvas shows that; where there is no payload, and on 11, nothing is written
+unfoldable pub oneShotShown : Limits → ℕ → ℕ → Palette → List ℕ → List ℕ → List ℕ
+unfolding opens settingFor drawingFound shown
+oneShotShown l stride length p bs opening =
+    cond (opens l stride length) (shown stride (drawingFound (settingFor l stride length) p (findPayload bs)) opening) opening
+
 -- how a DCS sequence ended
 unfoldable pub dcsEnd : Phase → Option End
 dcsEnd start = none
@@ -224,5 +257,6 @@ properPayload s o p A ts = proper (payloadStep s) (rested s) A (ready (opened o 
 abbrev pub dcsTurns : Setting → Palette → List Turn → Caller Phase
 dcsTurns s p ts = turns (dcsStep s p) (dcsRested s) (ready start) ts
 
+-- and its calls
 abbrev pub properDcs : Setting → Palette → ℕ → List Turn → Bool
 properDcs s p A ts = proper (dcsStep s p) (dcsRested s) A (ready start) ts

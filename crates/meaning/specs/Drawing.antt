@@ -1,7 +1,7 @@
 -- From commands to strokes (document 01, 'Reading the payload'): what each command does to a drawing, and what it is refused for.
 -- The repeat's number, columns, rows and ink have no bound here.
-use Prim.Native.Nat.{ℕ, suc, _+_, _*_, min, max}
-use mathlib.Core.Bool.{Bool, true, false, cond, _||_}
+use Prim.Native.Nat.{ℕ, _+_, _*_, min, max}
+use mathlib.Core.Bool.{Bool, false, cond, _||_}
 use mathlib.Core.Option.{Option, none, some}
 use mathlib.Core.List.{List, [], _∷_, _++_}
 use lib.Dec.{leb, ltb, eqb}
@@ -12,7 +12,7 @@ use Rattle.numbers.specs.Values.{decimal, values}
 use Rattle.colours.specs.declared.Palette.{Palette}
 use Rattle.colours.specs.Palette.{registerOf, setRgb, setHls}
 use Rattle.canvas.specs.Picture.{Stroke, Area, grownTo, reach}
-use Rattle.meaning.specs.Commands.{Kind, repeat, colour, raster, Command, argued, return, line, draw, Placed}
+use Rattle.meaning.specs.Commands.{repeat, colour, raster, Command, argued, return, line, draw, Placed}
 
 -- W, H, R and M
 pub record Limits : Type 0 where

@@ -8,7 +8,7 @@ use lib.ListN.{drop, getD}
 use Rattle.colours.specs.declared.Palette.{Palette}
 use Rattle.meaning.specs.Drawing.{Setting}
 use Rattle.meaning.specs.Payload.{Parameters, Finished, turnedDown, finish, payload}
-use Rattle.meaning.specs.Sessions.{escape, HeaderByte, goesOn, settles, wrong, headerByte}
+use Rattle.meaning.specs.Sessions.{escape, goesOn, settles, wrong, headerByte}
 
 -- what comes after the first 90 or 1B `P`, wherever it stands; none where there is neither
 unfoldable pub afterIntroducer : List ℕ → Option (List ℕ)

@@ -1,11 +1,11 @@
 -- What a payload means, whole: the drawing of its commands, and what finishing it answers (document 01).
-use Prim.Native.Nat.{ℕ, _*_}
-use mathlib.Core.Bool.{Bool, true, false, cond, _||_}
+use Prim.Native.Nat.{ℕ}
+use mathlib.Core.Bool.{Bool, cond, _||_}
 use mathlib.Core.Option.{Option, none, some}
-use mathlib.Core.List.{List, [], _∷_}
-use lib.Dec.{leb, ltb, eqb}
+use mathlib.Core.List.{List}
+use lib.Dec.{ltb}
 use Rattle.colours.specs.declared.Palette.{Palette}
-use Rattle.canvas.specs.Picture.{Stroke, Area}
+use Rattle.canvas.specs.Picture.{Area}
 use Rattle.meaning.specs.Commands.{commands}
 use Rattle.meaning.specs.Drawing.{Setting, Drawing, Outcome, transparent, blank, drawAll, inkOfAll, extentOf, pixelsOf}
 

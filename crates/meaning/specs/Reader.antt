@@ -32,6 +32,13 @@ isRefused stopped = false
 isRefused halted = false
 isRefused (refusedBy n) = true
 
+-- neither an end nor a refusal has come
+unfoldable pub isOngoing : How → Bool
+isOngoing readAll = true
+isOngoing stopped = true
+isOngoing halted = false
+isOngoing (refusedBy n) = false
+
 -- what reading some bytes came to
 pub record Run (S : Type 0) : Type 0 where
   pub state : S

@@ -1,17 +1,16 @@
 -- A payload read byte by byte, and a DCS sequence around it (document 01, 'Reading the payload', 'DCS framing and one-shot').
-use Prim.Native.Nat.{ℕ, suc, _+_, _-_, _*_}
-use mathlib.Core.Bool.{Bool, true, false, cond, not, _||_}
+use Prim.Native.Nat.{ℕ, suc, _-_}
+use mathlib.Core.Bool.{cond, _||_}
 use mathlib.Core.Option.{Option, none, some, Option·map}
 use mathlib.Core.List.{List, [], _∷_, _++_}
-use lib.Dec.{leb, ltb, eqb}
-use lib.ListN.{length, getD, getElem?}
-use Rattle.numbers.specs.Bytes.{skipped, digit, ends, semicolon}
+use lib.Dec.{eqb}
+use lib.ListN.{getElem?}
+use Rattle.numbers.specs.Bytes.{skipped, ends}
 use Rattle.numbers.specs.Values.{values, held16}
 use Rattle.colours.specs.declared.Palette.{Palette}
-use Rattle.canvas.specs.Picture.{Stroke, Area}
 use Rattle.meaning.specs.Commands.{Begun, Scanned, ofValues, closed, scanByte}
-use Rattle.meaning.specs.Drawing.{Limits, Setting, Drawing, Outcome, blank, drawAll, inkOfAll}
-use Rattle.meaning.specs.Payload.{Parameters, Finished, finished, turnedDown, finish}
+use Rattle.meaning.specs.Drawing.{Setting, Drawing, Outcome, blank, drawAll, inkOfAll}
+use Rattle.meaning.specs.Payload.{Parameters, Finished, turnedDown, finish}
 use Rattle.meaning.specs.Reader.{Step, next, halt, refuse, readAll, stopped, halted, refusedBy, Run}
 
 -- ---- a payload
