@@ -31,7 +31,8 @@ use Rattle.oneshot.specs.declared.search.Found.{Found}
 use Rattle.oneshot.specs.declared.search.Found.the-variants.{Payload, Refused}
 use Rattle.oneshot.specs.declared.search.Start.{Start}
 use Rattle.oneshot.specs.declared.search.Start.the-variants.{At, Nowhere}
-use Rattle.oneshot.specs.Meant.{givenMeant, settingsMeant, foundMeant}
+use Rattle.payload.specs.History.{givenMeant, parametersMeant}
+use Rattle.oneshot.specs.OneShot.{foundMeant}
 use Rattle.oneshot.specs.Search.{introducerAt, startFrom, givenAt, settingsOf, inHeader, headerEnd, headerRest, headerFrom, foundAt, foundIn}
 
 -- ---- the introducer
@@ -75,8 +76,8 @@ given-meant {got} i r =
     ap₂ (λ (n v : ℕ). givenMeant (cond (ltb i n) (Number (held16 v)) Nothing)) (read-count (omega arith) r) (read-value i (omega arith) r)
     ∙ given-list (values 3 got) i
 
-settings-meant : {got : List ℕ} {p : Parameters} → Read 3 got p → settingsMeant (settingsOf p) ≡ parametersOf got
-unfolding settingsMeant settingsOf parametersOf
+settings-meant : {got : List ℕ} {p : Parameters} → Read 3 got p → parametersMeant (settingsOf p) ≡ parametersOf got
+unfolding parametersMeant settingsOf parametersOf
 settings-meant r = rw (given-meant 0 r, given-meant 1 r) refl
 
 -- ---- the header
@@ -133,7 +134,7 @@ header-meant l at (b ∷ bs) got p e r =
 
 start-found : (l : List ℕ) (s : Start) (o : Option (List ℕ)) → startMeant l s ≡ o
     → foundMeant l (foundAt s l) ≡ elim o [ none ↦ meaning.found (record { p1 = none; p2 = none }) l | some later ↦ meaning.headerFrom [] later ]
-unfolding startMeant foundMeant foundAt headerFrom settingsMeant
+unfolding startMeant foundMeant foundAt headerFrom parametersMeant
 start-found l (At n) o e = rw (← e) (header-meant l n (drop n l) [] (opened 3) refl (read-none 3))
 start-found l Nowhere o e = rw (← e) refl
 

@@ -1,3 +1,6 @@
 pub mod SearchLaws
 pub mod FoundLaws
 pub mod PartLaws
+pub mod StandLaws
+pub mod ReadLaws
+pub mod WholeLaws

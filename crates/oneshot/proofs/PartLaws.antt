@@ -16,7 +16,8 @@ use Rattle.payload.specs.declared.Settings.{Settings}
 use Rattle.payload.specs.Judge.{inRange, limitsFit, openable}
 use Rattle.oneshot.specs.declared.search.Found.{Found}
 use Rattle.oneshot.specs.declared.search.Found.the-variants.{Payload, Refused}
-use Rattle.oneshot.specs.Meant.{limitsMeant, foundMeant}
+use Rattle.payload.specs.History.{limitsMeant}
+use Rattle.oneshot.specs.OneShot.{foundMeant}
 use Rattle.oneshot.specs.Search.{foundIn}
 use Rattle.oneshot.proofs.FoundLaws.{found-meant, payload-within}
 
