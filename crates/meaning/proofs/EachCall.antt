@@ -3,19 +3,50 @@ use Prim.Native.Nat.{ℕ, _*_, _≤_}
 use native.Mathlib.Omega.{arith}
 use mathlib.Core.Path.{_≡_, refl, sym, ap, _∙_}
 use mathlib.Core.Bool.{true, false, true≢false}
-use mathlib.Core.Option.{none}
-use mathlib.Core.List.{List}
+use mathlib.Core.Option.{Option, none, some}
+use mathlib.Core.List.{List, []}
 use lib.ListN.{take}
 use Rattle.colours.specs.declared.Palette.{Palette}
-use Rattle.meaning.specs.Drawing.{Setting, Outcome, inkOfAll}
+use Rattle.canvas.specs.Picture.{picture}
+use Rattle.meaning.specs.Drawing.{Setting, Drawing, Outcome, blank, backgroundOf, inkOfAll}
 use Rattle.meaning.specs.Payload.{Parameters, payload, payloadInk}
 use Rattle.meaning.specs.Reader.{How, readAll, stopped, halted, refusedBy, isAll, isRefused, isOngoing, Run, Turn, stream, ranBy}
-use Rattle.meaning.specs.Sessions.{Reading, opened, settled, rested, payloadStep, start, dcsStep, dcsRested}
-use Rattle.meaning.specs.Calls.{payloadTurns, properPayload, dcsTurns, properDcs}
+use Rattle.meaning.specs.Sessions.{Reading, opened, settled, rested, payloadStep, Phase, start, introduced, header, within, afterEscape, over, dcsStep, dcsRested}
+use Rattle.meaning.specs.Calls.{Session, drawingOf, shown, payloadShown, dcsShown, payloadTurns, properPayload, dcsTurns, properDcs}
+use Rattle.meaning.proofs.AreaLaws.{Before}
 use Rattle.meaning.proofs.SoFarLaws.{LeftBy, allRead, stoppedAt, SoFar, so-far-read, caller-so-far}
 use Rattle.meaning.proofs.InkLaws.{inked-settled}
 use Rattle.meaning.proofs.PayloadLaws.{outcome-settled, readPayload, reading-settled, reading-ink, rested-settled, settled-none, halted-settled, payload-body}
 use Rattle.meaning.proofs.Demand3.{payload-rests, payload-halts, payload-caps, dcs-rests, dcs-halts, dcs-caps, payload-whole, payload-outcome, payload-all-ink, payload-consumed}
+
+-- before the payload there is no drawing
+no-drawing : (t : Phase) → Before t → drawingOf t ≡ none
+unfolding drawingOf
+no-drawing start h = refl
+no-drawing introduced h = refl
+no-drawing (header bs) h = refl
+no-drawing (within r) h = absurd h
+no-drawing (afterEscape r) h = absurd h
+no-drawing (over e r) h = absurd h
+
+-- ---- at the start
+
+-- a payload session opens with pixel (0,0) in the background, and nothing else of the canvas changed
+pub opening-shown : (s : Session Reading) (o : Parameters) (p : Palette) (opening : List ℕ) → s .state ≡ opened o p
+    → payloadShown s opening ≡ picture (s .setting .stride) (record { width = 1; height = 1 }) (backgroundOf p (o .p2)) [] opening
+unfolding payloadShown opened blank
+opening-shown s o p opening e = ap (λ (r : Reading). shown (s .setting .stride) (some (r .drawing)) opening) e
+
+-- a DCS session does so as its payload begins
+pub begun-shown : (s : Session Phase) (o : Parameters) (p : Palette) (opening : List ℕ) → s .state ≡ within (opened o p)
+    → dcsShown s opening ≡ picture (s .setting .stride) (record { width = 1; height = 1 }) (backgroundOf p (o .p2)) [] opening
+unfolding dcsShown opened blank
+begun-shown s o p opening e = ap (λ (t : Phase). shown (s .setting .stride) (drawingOf t) opening) e
+
+-- before the payload nothing is written
+pub before-shown : (s : Session Phase) (opening : List ℕ) → Before (s .state) → dcsShown s opening ≡ opening
+unfolding dcsShown
+before-shown s opening h = ap (λ (d : Option Drawing). shown (s .setting .stride) d opening) (no-drawing (s .state) h)
 
 -- a call that came to the end did not stop
 ended-going : {h : How} → h ≡ halted → h ≡ stopped → ⊥
@@ -27,14 +58,14 @@ ended-going e z = let never : _≡_ {A = ℕ} 0 1 = cc in omega arith
 left-settled : (s : Setting) {h : How} {here state : Reading} {unread : List ℕ} → LeftBy (payloadStep s) (rested s) h here state unread
     → settled s state ≡ settled s here
 left-settled s allRead = refl
-left-settled s (stoppedAt {here} {b = b} e some) = rested-settled s here (inked-settled s here b e some)
+left-settled s (stoppedAt {here} {b = b} e inked) = rested-settled s here (inked-settled s here b e inked)
 
 -- and no begun command
 left-begun : (s : Setting) {h : How} {here state : Reading} {unread : List ℕ} → LeftBy (payloadStep s) (rested s) h here state unread
     → isAll h ≡ false → state .begun ≡ none
 unfolding isAll rested
 left-begun s allRead q = absurd (true≢false q)
-left-begun s (stoppedAt e some) q = refl
+left-begun s (stoppedAt e inked) q = refl
 
 module _ (s : Setting) (o : Parameters) (p : Palette) (A : ℕ) (ts : List Turn) (fits : 6 * s .limits .width ≤ A)
     (ok : properPayload s o p A ts ≡ true) where

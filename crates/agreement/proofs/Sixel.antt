@@ -1,0 +1,115 @@
+-- A sixel draws in the code what it draws in the definition.
+use Prim.Native.Nat.{ℕ, _+_, min, max}
+use native.Mathlib.Omega.{arith}
+use mathlib.Core.Path.{_≡_, refl, sym, ap, ap₂, _∙_}
+use mathlib.Core.Bool.{Bool, true, false, cond}
+use mathlib.Core.Option.{Option}
+use mathlib.Core.List.{List, [], _∷_, _++_}
+use lib.Dec.{eqb}
+use Rattle.colours.specs.Palette.{registerOf}
+use Rattle.canvas.specs.Picture.{Stroke, Area, areaOf, reach, picture}
+use Rattle.canvas.specs.Paint as paint
+use Rattle.canvas.proofs.Strokes.{reach-within, reach-inside}
+use Rattle.canvas.proofs.Pictures.{picture-grown, picture-stroke}
+use Rattle.canvas.proofs.Shows.{sixel-stroked}
+use Rattle.frame.specs.declared.Command.{Command}
+use Rattle.frame.specs.declared.Frame.{Frame}
+use Rattle.frame.specs.declared.Sheet as codeSheet
+use Rattle.frame.specs.Step.{penAfter, inked, sheetAfter, canvasAfter, rowCeiling}
+use Rattle.meaning.specs.Commands.{draw}
+use Rattle.meaning.specs.Drawing.{Setting, Drawing, unless, strokeOf, stroked, drawCommand, columnsReached, rowsReached, extentOf}
+use Rattle.meaning.proofs.AreaLaws.{Allowed, Sound, Follows, command-drawn}
+use Rattle.agreement.specs.Same.{groundOf, penOf, sheetOf, rasterOf, frameOf, canvasOf, Rated, Bounded, SameDrawing}
+use Rattle.agreement.proofs.Sizes.{allowed-none}
+
+-- ---- the extent of one stroke more
+
+columns-more : (ks : List Stroke) (k : Stroke) → columnsReached (ks ++ k ∷ []) ≡ max (columnsReached ks) (k .column + k .repeat)
+unfolding columnsReached
+columns-more [] k = omega arith
+columns-more (j ∷ ks) k = let later = columns-more ks k in omega arith
+
+rows-more : (ks : List Stroke) (k : Stroke) → rowsReached (ks ++ k ∷ []) ≡ cond (eqb (k .bits) 0) (rowsReached ks) (max (rowsReached ks) (k .row + 6))
+unfolding rowsReached
+rows-more [] k = go (eqb (k .bits) 0)
+  where
+    go : (t : Bool) → max (cond t 1 (k .row + 6)) 1 ≡ cond t 1 (max 1 (k .row + 6))
+    go true = refl
+    go false = omega arith
+rows-more (j ∷ ks) k = ap (max here) (rows-more ks k) ∙ go (eqb (k .bits) 0)
+  where
+    here : ℕ
+    here = cond (eqb (j .bits) 0) 1 (j .row + 6)
+
+    go : (t : Bool) → max here (cond t (rowsReached ks) (max (rowsReached ks) (k .row + 6))) ≡ cond t (max here (rowsReached ks)) (max (max here (rowsReached ks)) (k .row + 6))
+    go true = refl
+    go false = omega arith
+
+-- ---- one stroke more
+
+module _ {s : Setting} (bounded : Bounded s) (opening : List ℕ) {d : Drawing} (sound : Sound s d) (bits : ℕ)
+    (allowed : Allowed s (d .area) (d .pen .column + d .pen .repeats) (d .pen .row + 6)) where
+  -- its row is not held
+  row-known : min (d .pen .row) rowCeiling ≡ d .pen .row
+  row-known = omega (arith, allowed .height, bounded .height)
+
+  -- the drawing follows from the one before
+  pub stroke-follows : Follows s d (stroked d (strokeOf bits d))
+  unfolding drawCommand unless
+  stroke-follows = command-drawn s (draw bits) d (ap (λ (o : Option ℕ). unless o (stroked d (strokeOf bits d))) (allowed-none allowed))
+
+  -- the sheet has the area and the extent
+  stroke-sheet : {w h : ℕ} → w ≡ reach (d .area) (strokeOf bits d) .width → h ≡ reach (d .area) (strokeOf bits d) .height
+      → sheetAfter (sheetOf d) (penOf (d .palette) (d .pen)) bits w h ≡ sheetOf (stroked d (strokeOf bits d))
+  unfolding sheetAfter sheetOf penOf stroked strokeOf extentOf
+  stroke-sheet p q = λ i. record { width = p i; height = q i; right = sym (columns-more (d .strokes) k) i; bottom = low i }
+    where
+      k : Stroke
+      k = strokeOf bits d
+
+      low : cond (eqb bits 0) (rowsReached (d .strokes)) (max (rowsReached (d .strokes)) (min (d .pen .row) rowCeiling + 6))
+          ≡ rowsReached (d .strokes ++ k ∷ [])
+      low =
+          ap (λ (row : ℕ). cond (eqb bits 0) (rowsReached (d .strokes)) (max (rowsReached (d .strokes)) (row + 6))) row-known
+          ∙ sym (rows-more (d .strokes) k)
+
+  -- the canvas shows the stroke on the grown area
+  stroke-canvas : (c : Command) {w h : ℕ} → areaOf w h ≡ reach (d .area) (strokeOf bits d)
+      → canvasAfter (frameOf d c) (groundOf s (d .background)) bits w h (canvasOf s d opening) ≡ canvasOf s (stroked d (strokeOf bits d)) opening
+  unfolding canvasAfter frameOf groundOf sheetOf penOf canvasOf stroked strokeOf
+  stroke-canvas c grows =
+      ap₂ paintedAt row-known grows
+      ∙ ap (paint.sixelPainted stride (k .column) (k .row) (k .repeat) bits (k .colour))
+      (picture-grown stride (d .area) (reach (d .area) k) (d .background) (d .strokes) opening (reach-within (d .area) k) (sound .strokes))
+      ∙ sixel-stroked stride k _
+      ∙ picture-stroke stride (reach (d .area) k) (d .background) (d .strokes) opening k (reach-inside (d .area) k)
+    where
+      k : Stroke
+      k = strokeOf bits d
+
+      stride : ℕ
+      stride = s .stride
+
+      paintedAt : ℕ → Area → List ℕ
+      paintedAt row a =
+          paint.sixelPainted stride (d .pen .column) row (d .pen .repeats) bits (registerOf (d .palette) (d .pen .register))
+          (paint.grown stride (d .area) a (d .background) (picture stride (d .area) (d .background) (d .strokes) opening))
+
+  -- the two stand for each other after the stroke
+  pub stroke-same : Rated (d .raster .ratio) → (c : Command) {w h : ℕ} → w ≡ reach (d .area) (strokeOf bits d) .width → h ≡ reach (d .area) (strokeOf bits d) .height
+      → SameDrawing s opening (stroked d (strokeOf bits d)) (groundOf s (d .background)) (inked (frameOf d c) bits w h) (d .palette)
+      (canvasAfter (frameOf d c) (groundOf s (d .background)) bits w h (canvasOf s d opening))
+  unfolding inked frameOf stroked strokeOf
+  stroke-same rated c p q =
+      record {
+        bounded = bounded;
+        sound = stroke-follows .sound sound;
+        rated = rated;
+        ground = refl;
+        frame = ap withSheet (stroke-sheet p q);
+        palette = refl;
+        canvas = stroke-canvas c (ap₂ areaOf p q);
+      }
+    where
+      withSheet : codeSheet.Sheet → Frame
+      withSheet a = record { pen = penAfter (penOf (d .palette) (d .pen)); sheet = a; raster = rasterOf (d .raster); command = c }

@@ -1,0 +1,78 @@
+// The loop over a payload's bytes.
+ghost use mathlib.Core.Path.{_≡_};
+ghost use lib.ListN.{length};
+ghost use Rattle.colours.specs.Palette.{ofTable};
+ghost use Rattle.frame.specs.Step.{Fits, Turned, stepOf};
+ghost use Rattle.frame.specs.Feed.{Reached, feedFrom};
+use crate::Frame;
+use crate::Ground;
+use crate::Outcome;
+use crate::Progress;
+use crate::Stepped;
+use crate::renew::renewed;
+use crate::step::step;
+
+// One byte, and the frame made anew after it.
+fn turn(
+    frame: Frame,
+    ground: Ground,
+    colors: &mut [u32; 256],
+    canvas: &mut [u8],
+    byte: u8,
+    left: usize,
+) -> Stepped
+    requires { ⌜ Fits frame ground (length (now canvas)) ⌝ }
+    ensures { λ r. ⌜ record { stepped = r; palette = ofTable (now (colors .exit)); canvas = now (canvas .exit) } ≡ stepOf frame ground byte left (ofTable (now (colors .entry))) (now (canvas .entry)) ⌝ }
+{
+    let stepped = step(frame, ground, colors, canvas, byte, left);
+    let outcome = stepped.outcome;
+    Stepped {
+        frame: renewed(stepped.frame),
+        ink: stepped.ink,
+        outcome,
+    }
+}
+
+// Reads bytes until all are read, or one stays unread.
+pub fn process(
+    frame: Frame,
+    ground: Ground,
+    colors: &mut [u32; 256],
+    canvas: &mut [u8],
+    bytes: &[u8],
+    allowance: usize,
+) -> Progress
+    requires { ⌜ Fits frame ground (length (now canvas)) ⌝ }
+    ensures { λ r. ⌜ record { progress = r; palette = ofTable (now (colors .exit)); canvas = now (canvas .exit) } ≡ feedFrom ground allowance (now (bytes .entry)) 0 0 frame (ofTable (now (colors .entry))) (now (canvas .entry)) ⌝ }
+{
+    let mut now = frame;
+    let mut consumed = 0;
+    let mut ink = 0;
+    while consumed < bytes.len() {
+        let byte = bytes[consumed];
+        let stepped = turn(now, ground, colors, canvas, byte, allowance - ink);
+        let outcome = stepped.outcome;
+        now = stepped.frame;
+        match outcome {
+            Outcome::Read => {
+                consumed = consumed + 1;
+                ink = ink + stepped.ink;
+            }
+            Outcome::Settled => {}
+            _ => {
+                return Progress {
+                    frame: now,
+                    consumed,
+                    ink,
+                    outcome,
+                };
+            }
+        }
+    }
+    Progress {
+        frame: now,
+        consumed,
+        ink,
+        outcome: Outcome::Read,
+    }
+}

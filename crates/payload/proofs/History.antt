@@ -1,0 +1,192 @@
+-- Any calls of the code, the canvas given back each time as it was left, are the definition's; and so demands 2 and 3 hold of the code.
+use Prim.Native.Nat.{ℕ, _+_, _-_, _*_, _/_, _≤_}
+use mathlib.Core.Bool.{true, false}
+use mathlib.Core.Option.{none, some}
+use mathlib.Core.List.{List, [], _∷_, map}
+use mathlib.Core.Path.{_≡_, refl, sym, ap, ap₂, _∙_, subst}
+use lib.ListN.{length, take}
+use Rattle.colours.specs.declared.Palette.{Palette}
+use Rattle.frame.specs.declared.Limits.{Limits}
+use Rattle.meaning.specs.Calls as calls
+use Rattle.meaning.specs.Commands.{body}
+use Rattle.meaning.specs.Drawing.{Setting, Drawing, Outcome}
+use Rattle.meaning.specs.Histories.{Ask}
+use Rattle.meaning.specs.Payload as meant
+use Rattle.meaning.specs.Reader.{stopped, refusedBy, isAll, isRefused, Turn, stream, pieces, Caller, ranBy, ready}
+use Rattle.meaning.specs.Sessions.{Reading, opened, settled, finishReading}
+use Rattle.meaning.proofs.Demand3.{payload-calls, payload-outcome, payload-refused, payload-all-ink, payload-consumed}
+use Rattle.meaning.proofs.EachCall.{payload-so-far, payload-drawn-so-far, payload-ink-so-far}
+use Rattle.meaning.proofs.PayloadLaws.{outcome-settled}
+use Rattle.payload.specs.declared.Session.{Session}
+use Rattle.payload.specs.declared.Settings.{Settings}
+use Rattle.payload.specs.Judge.{openable}
+use Rattle.payload.specs.Session.{openedBy, fedBy, finishedBy}
+use Rattle.payload.specs.History.{parametersMeant, limitsMeant, settingMeant, answerMeant, Stands, Feeds, Finishes, Past, fedAll, PastMeant, fedAllMeant, Held, callsOf, properCalls}
+use Rattle.payload.proofs.Standing.{ready-stands, feed-stands, finish-stands, finished-meant, stands-shows, stands-long, stands-fit}
+use Rattle.payload.proofs.Callers.{sessionAt, CallerStands, calls-stand}
+
+-- ---- any calls
+
+-- the answers mean the definition's, and session and canvas stand for its session
+pub record Passes (opening : List ℕ) (x : Past) (y : PastMeant) : Type 0 where
+  pub answers : map answerMeant (x .answers) ≡ y .answers
+  pub session : Stands opening (x .session) (x .canvas) (y .session)
+
+-- any calls of the code are the definition's
+pub history-stands : {opening : List ℕ} {s : Session} {l : List ℕ} {m : calls.Session Reading} → Stands opening s l m → (cs : List Ask)
+    → Passes opening (fedAll s l cs) (fedAllMeant m (length opening) cs)
+unfolding fedAll fedAllMeant
+history-stands k [] = record { answers = refl; session = k }
+history-stands {opening} {s} {l} {m} k (c ∷ cs) =
+    let f : Feeds opening (fedBy s l (c .bytes) (c .allowance)) (calls.feedPayload m (length opening) (c .allowance) (c .bytes)) =
+    subst (λ (n : ℕ). Feeds opening (fedBy s l (c .bytes) (c .allowance)) (calls.feedPayload m n (c .allowance) (c .bytes))) (stands-long k)
+    (feed-stands k (c .bytes) (c .allowance)) in
+    let later = history-stands (f .session) cs in
+    record { answers = ap₂ _∷_ (f .answer) (later .answers); session = later .session }
+
+-- ---- demands 2 and 3 of the code: a session that was opened, and a caller that presents what was left unread
+
+module _ (l : Limits) (stride : ℕ) (o : Settings) (p : Palette) (opening : List ℕ) (opens : openable l stride (length opening) ≡ true) where
+  -- what the opening gives
+  abbrev pub atStart : Caller Held
+  atStart = ready (openedBy l stride o p opening .0 .session, openedBy l stride o p opening .1)
+
+  abbrev pub setting : Setting
+  setting = settingMeant l stride (length opening)
+
+  abbrev pub given : meant.Parameters
+  given = parametersMeant o
+
+  -- what the canvas shows of a drawing
+  abbrev pub shownOf : Drawing → List ℕ
+  shownOf d = calls.shown stride (some d) opening
+
+  start-stands : CallerStands opening setting given atStart (ready (opened given p))
+  unfolding ready opened openedBy isRefused
+  start-stands =
+      record {
+        session = rw opens (ready-stands l stride o p opening opens);
+        parameters = refl;
+        how = refl;
+        over = λ e fine. cc;
+        stays = λ e k zs. cc;
+        unread = λ _. refl;
+        consumed = λ _. refl;
+        ink = λ _. refl;
+      }
+
+  module _ (A : ℕ) (ts : List Turn) (enough : 6 * l .width ≤ A) (ok : properCalls A atStart ts ≡ true) where
+    -- where the caller stands after its calls: its session, its canvas, and what the answers told
+    abbrev pub now : Caller Held
+    now = callsOf atStart ts
+
+    abbrev pub session : Session
+    session = now .state .0
+
+    abbrev pub canvas : List ℕ
+    canvas = now .state .1
+
+    -- what the whole stream means, and what the bytes consumed so far mean
+    abbrev pub whole : Outcome
+    whole = meant.payload setting given p (stream ts)
+
+    abbrev pub soFar : Outcome
+    soFar = meant.payload setting given p (take (now .consumed) (stream ts))
+
+    roomy : 6 * setting .limits .width ≤ A
+    unfolding settingMeant limitsMeant calls.settingFor
+    roomy = enough
+
+    -- the definition's caller, which may make the same calls and stands where the code's does
+    abbrev there : Caller Reading
+    there = calls.payloadTurns setting given p ts
+
+    stood : CallerStands opening setting given now there
+    stood = calls-stand A roomy start-stands ts ok .0
+
+    proper-there : calls.properPayload setting given p A ts ≡ true
+    proper-there = calls-stand A roomy start-stands ts ok .1
+
+    fine-there : isRefused (now .how) ≡ false → isRefused (there .how) ≡ false
+    fine-there fine = sym (ap isRefused (stood .how)) ∙ fine
+
+    going-there : (now .how ≡ stopped → ⊥) → there .how ≡ stopped → ⊥
+    going-there going e = going (stood .how ∙ e)
+
+    -- Demand 3, its first sentence: the calls are at most the pieces and I / (A - 6W + 1), where I is the ink of the whole stream
+    pub calls-bounded : length ts ≤ pieces ts + meant.payloadInk setting given p (stream ts) / (A - 6 * l .width + 1)
+    unfolding settingMeant limitsMeant calls.settingFor
+    calls-bounded = payload-calls setting given p A ts roomy proper-there
+
+    -- the pending command carried out, the session stands where the bytes consumed so far lead
+    so-far-settled : isRefused (now .how) ≡ false → settled setting (there .state) ≡ soFar
+    so-far-settled fine =
+        payload-so-far setting given p A ts roomy proper-there (fine-there fine)
+        ∙ ap (λ (n : ℕ). meant.payload setting given p (take n (stream ts))) (sym (stood .consumed (fine-there fine)))
+
+    -- After each call that is not refused: the canvas shows a drawing that, with the pending command carried out, is what the bytes consumed so
+    -- far mean.
+    pub so-far-pending : isRefused (now .how) ≡ false → (canvas ≡ shownOf (there .state .drawing)) × (settled setting (there .state) ≡ soFar)
+    unfolding calls.payloadShown settingMeant calls.settingFor
+    so-far-pending fine = (stands-shows (stood .session), so-far-settled fine)
+
+    -- After a stop and after an end no command is pending: the canvas shows what the bytes consumed so far mean.
+    pub so-far-shown : isAll (now .how) ≡ false → isRefused (now .how) ≡ false → canvas ≡ shownOf (soFar .drawing)
+    unfolding calls.payloadShown settingMeant calls.settingFor
+    so-far-shown left fine =
+        stands-shows (stood .session)
+        ∙ ap shownOf
+        (payload-drawn-so-far setting given p A ts roomy proper-there (sym (ap isAll (stood .how)) ∙ left) (fine-there fine)
+        ∙ ap (λ (n : ℕ). meant.payload setting given p (take n (stream ts)) .drawing) (sym (stood .consumed (fine-there fine))))
+
+    -- The ink that the calls told is that of the bytes consumed so far.
+    pub so-far-ink : isRefused (now .how) ≡ false → now .ink ≡ meant.payloadInk setting given p (take (now .consumed) (stream ts))
+    so-far-ink fine =
+        stood .ink (fine-there fine)
+        ∙ payload-ink-so-far setting given p A ts roomy proper-there (fine-there fine)
+        ∙ ap (λ (n : ℕ). meant.payloadInk setting given p (take n (stream ts))) (sym (stood .consumed (fine-there fine)))
+
+    -- a finish after calls that were not refused
+    finish-there : isRefused (now .how) ≡ false → (owner : Palette) {out : Outcome} → settled setting (there .state) ≡ out
+        → Finishes (shownOf (out .drawing)) owner canvas (finishedBy session owner canvas) (meant.finish setting given out)
+    unfolding calls.payloadShownAtFinish settingMeant calls.settingFor finishReading calls.firstOf calls.misfits
+    finish-there fine owner {out} e =
+        let m : calls.Session Reading = sessionAt setting (length opening) there in
+        let live : isRefused (there .how) ≡ false = fine-there fine in
+        let answer : calls.finishPayload m (length canvas) ≡ meant.finish setting given out =
+        ap (calls.finishPayload m) (stands-long (stood .session))
+        ∙ finished-meant m (length opening) {o = none} (rw (live, stands-fit (stood .session)) refl)
+        ∙ ap₂ (meant.finish setting) (stood .parameters) e in
+        subst (λ (x : Outcome). Finishes (shownOf (x .drawing)) owner canvas (finishedBy session owner canvas) (meant.finish setting given out)) e
+        (subst (Finishes (calls.payloadShownAtFinish m opening) owner canvas (finishedBy session owner canvas)) answer
+        (finish-stands (stood .session) owner))
+
+    -- A finish then answers what the bytes consumed so far mean, and the canvas shows that.
+    pub so-far-finishes : isRefused (now .how) ≡ false → (owner : Palette)
+        → Finishes (shownOf (soFar .drawing)) owner canvas (finishedBy session owner canvas) (meant.finish setting given soFar)
+    so-far-finishes fine owner = finish-there fine owner (so-far-settled fine)
+
+    -- Demand 2, and the second sentence of demand 3: unless the last call stopped or was refused, a finish answers what the whole stream means:
+    -- size, ratio, background, extent and palette, and every byte of the canvas.
+    pub whole-finishes : (now .how ≡ stopped → ⊥) → isRefused (now .how) ≡ false → (owner : Palette)
+        → Finishes (shownOf (whole .drawing)) owner canvas (finishedBy session owner canvas) (meant.finish setting given whole)
+    unfolding ranBy
+    whole-finishes going fine owner =
+        finish-there fine owner
+        (sym (outcome-settled setting (ranBy there) (fine-there fine)) ∙ payload-outcome setting given p A ts proper-there (going-there going))
+
+    -- A refusal is the whole stream's, and the canvas shows what came before it.
+    pub whole-refused : {n : ℕ} → now .how ≡ refusedBy n → (whole .refusal ≡ some n) × (canvas ≡ shownOf (whole .drawing))
+    unfolding calls.payloadShown settingMeant calls.settingFor
+    whole-refused e =
+        let out = payload-refused setting given p A ts proper-there (sym (stood .how) ∙ e) in
+        (ap (λ (x : Outcome). x .refusal) out, stands-shows (stood .session) ∙ ap (λ (x : Outcome). shownOf (x .drawing)) (sym out))
+
+    -- Demand 3, its third sentence: the ink that the calls told adds up to I.
+    pub whole-ink : (now .how ≡ stopped → ⊥) → isRefused (now .how) ≡ false → now .ink ≡ meant.payloadInk setting given p (stream ts)
+    whole-ink going fine = stood .ink (fine-there fine) ∙ payload-all-ink setting given p A ts proper-there (going-there going)
+
+    -- and the bytes that they told are those before the payload's end
+    pub whole-consumed : (now .how ≡ stopped → ⊥) → isRefused (now .how) ≡ false → now .consumed ≡ length (body (stream ts))
+    whole-consumed going fine =
+        stood .consumed (fine-there fine) ∙ payload-consumed setting given p A ts proper-there (going-there going) (fine-there fine)

@@ -1,0 +1,5 @@
+pub mod JudgeLaws
+pub mod SessionLaws
+pub mod Standing
+pub mod Callers
+pub mod History

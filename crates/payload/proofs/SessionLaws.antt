@@ -1,0 +1,280 @@
+-- Laws of a session: one for each way through a function.
+use Prim.Native.Nat.{ℕ, _/_, _≤_}
+use mathlib.Core.Bool.{Bool, true, false}
+use mathlib.Core.List.{List, [], _∷_}
+use mathlib.Core.Path.{_≡_, refl, sym, ap, ap₂, _∙_}
+use native.Mathlib.Nat.{div-le-self}
+use native.Mathlib.Omega.{arith}
+use borrow.Author.Tests.{eq-eqb, ne-eqb, leb-true}
+use denote.Enum.Declared.{tagOf}
+use lib.ListN.{length}
+use types.Run.{OneOf, miss}
+use Rattle.numbers.proofs.Laws.{cond-yes, cond-no}
+use Rattle.numbers.specs.declared.Parameters.{Parameters}
+use Rattle.numbers.specs.Step as numbers
+use Rattle.colours.specs.declared.Palette.{Palette}
+use Rattle.colours.specs.Palette.{registerOf}
+use Rattle.canvas.proofs.Covers.{and-right}
+use Rattle.canvas.specs.Picture.{areaOf, rowsOf, span}
+use Rattle.canvas.specs.Paint.{painted, grown}
+use Rattle.frame.specs.declared.Frame.{Frame}
+use Rattle.frame.specs.declared.Kind.the-variants as kinds
+use Rattle.frame.specs.declared.Limits.{Limits}
+use Rattle.frame.specs.declared.Outcome.{Outcome}
+use Rattle.frame.specs.declared.Outcome.the-variants as outcomes
+use Rattle.frame.specs.declared.Progress.{Progress}
+use Rattle.frame.specs.declared.Raster.{Raster}
+use Rattle.frame.specs.declared.Refusal.{Refusal}
+use Rattle.frame.specs.declared.Refusal.the-variants as refusals
+use Rattle.frame.specs.declared.Stepped.{Stepped}
+use Rattle.frame.specs.Commands.{Ended, ended}
+use Rattle.frame.specs.Feed.{Reached, feedFrom}
+use Rattle.frame.proofs.Outcome as OutcomeType
+use Rattle.payload.specs.declared.Answer.{Answer}
+use Rattle.payload.specs.declared.Answer.the-variants as answers
+use Rattle.payload.specs.declared.Fed.{Fed}
+use Rattle.payload.specs.declared.Finishing.the-variants as finishes
+use Rattle.payload.specs.declared.Finished.{Finished}
+use Rattle.payload.specs.declared.Given.{Given}
+use Rattle.payload.specs.declared.Life.{Life}
+use Rattle.payload.specs.declared.Life.the-variants as lives
+use Rattle.payload.specs.declared.Opened.{Opened}
+use Rattle.payload.specs.declared.Opening.the-variants as openings
+use Rattle.payload.specs.declared.Ratio.{Ratio}
+use Rattle.payload.specs.declared.Ratio.the-variants as ratios
+use Rattle.payload.specs.declared.Report.{Report}
+use Rattle.payload.specs.declared.Session.{Session}
+use Rattle.payload.specs.declared.Settings.{Settings}
+use Rattle.payload.specs.declared.judge.Judged.{Judged}
+use Rattle.payload.specs.declared.judge.Judged.the-variants as judged
+use Rattle.payload.specs.Judge.{limitsFit, inRange, openable, feedJudged, finishJudged, finalJudged}
+use Rattle.payload.specs.Session.{clearFor, backgroundFor, blankFrame, groundFor, sessionFor, openedBy, sessionWith, answeredIn, answeredBy, fedLive, fedIn, fedAs, fedBy, ratioFor, reportedAs, turnedAway, pictured, finishedIf, finishedIn, finishedLive, finishedAs, finishedBy}
+use Rattle.payload.proofs.Life as LifeType
+use Rattle.payload.proofs.JudgeLaws.{feed-fits, finish-fits}
+
+-- ---- opening
+
+pub clear-as : {r : Bool} {p other : Given} → p ≡ other → r ≡ clearFor other → r ≡ clearFor p
+clear-as e k = k ∙ ap clearFor (sym e)
+
+pub background-clear : {t : Bool} (p : Palette) (o : Given) → t ≡ clearFor o → t ≡ true → 0 ∷ 0 ∷ 0 ∷ 0 ∷ [] ≡ backgroundFor p o
+unfolding backgroundFor
+background-clear p o e t = sym (cond-yes _ _ (sym e ∙ t))
+
+pub background-kept : {t : Bool} {r : List ℕ} (p : Palette) (o : Given) → t ≡ clearFor o → t ≡ false → r ≡ registerOf p 0 → r ≡ backgroundFor p o
+unfolding backgroundFor
+background-kept p o e t k = k ∙ sym (cond-no _ _ (sym e ∙ t))
+
+pub blank-as : {px : List ℕ} {q : Parameters} (p : Palette) → px ≡ registerOf p 0 → q ≡ numbers.opened 0
+    → _≡_ {A = Frame}
+    (record {
+      pen = record { column = 0; row = 0; repeat = 1; register = 0; color = px };
+      sheet = record { width = 1; height = 1; right = 1; bottom = 1 };
+      raster = record { ratio = 0; width = 0; height = 0 };
+      command = record { kind = kinds.Data; number = 0; parameters = q };
+    })
+    (blankFrame p)
+unfolding blankFrame
+blank-as p e k = rw (e, k) refl
+
+-- a canvas on which a session opens has a pixel
+pub pixel-there : {t : Bool} (l : Limits) (stride size : ℕ) → t ≡ openable l stride size → t ≡ true → 4 ≤ size
+unfolding openable rowsOf
+pixel-there l stride size e t =
+    let row : 1 ≤ size / 4 / stride =
+    leb-true _ _ (and-right (inRange stride 1000000) _ (and-right (limitsFit l) _ (sym e ∙ t))) in
+    omega (arith, div-le-self (size / 4) stride)
+
+module _ (l : Limits) (stride : ℕ) (o : Settings) (p : Palette) (canvas : List ℕ) {rows : ℕ} {background : List ℕ} {f : Frame} {t : Bool} (b : background ≡ backgroundFor p (o .p2)) (r : rows ≡ rowsOf (length canvas) stride) (k : f ≡ blankFrame p) (e : t ≡ openable l stride (length canvas)) where
+  opened-session : (life : Life)
+      → _≡_ {A = Session}
+      (record {
+        ground = record { limits = l; stride = stride; rows = rows; background = background };
+        length = length canvas;
+        settings = o;
+        life = life;
+        frame = f;
+        palette = p;
+      })
+      (sessionFor l stride (length canvas) o p life)
+  unfolding sessionFor groundFor
+  opened-session life = rw (b, r, k) refl
+
+  pub opened-ready : {after : List ℕ} → t ≡ true → after ≡ painted (span 0 1) background canvas
+      → _≡_ {A = Opened × List ℕ} (
+        record {
+          answer = openings.Ready;
+          session =
+              record {
+                ground = record { limits = l; stride = stride; rows = rows; background = background };
+                length = length canvas;
+                settings = o;
+                life = lives.Live;
+                frame = f;
+                palette = p;
+              };
+        },
+        after,
+      )
+      (openedBy l stride o p canvas)
+  unfolding openedBy
+  opened-ready h a =
+      ap₂ (λ (s : Session) (c : List ℕ). (record { answer = openings.Ready; session = s }, c)) (opened-session lives.Live)
+      (a ∙ ap (λ (px : List ℕ). painted (span 0 1) px canvas) b)
+      ∙ sym (cond-yes _ _ (sym e ∙ h))
+
+  pub opened-refused : t ≡ false
+      → _≡_ {A = Opened × List ℕ} (
+        record {
+          answer = openings.Refused refusals.Opening;
+          session =
+              record {
+                ground = record { limits = l; stride = stride; rows = rows; background = background };
+                length = length canvas;
+                settings = o;
+                life = lives.Failed;
+                frame = f;
+                palette = p;
+              };
+        },
+        canvas,
+      )
+      (openedBy l stride o p canvas)
+  unfolding openedBy
+  opened-refused h =
+      ap (λ (s : Session). (record { answer = openings.Refused refusals.Opening; session = s }, canvas)) (opened-session lives.Failed)
+      ∙ sym (cond-no _ _ (sym e ∙ h))
+
+pub ruleset openings-laws = (clear-as, background-clear, background-kept, blank-as, pixel-there, opened-ready, opened-refused)
+
+-- ---- feeding
+
+pub answered-as : {o : Outcome} {a : Answer} {x : Session} (life : Life) (s : Session) (r : Progress) (p : Palette) → r .outcome ≡ o → x ≡ sessionWith s life (r .frame) p
+    → _≡_ {A = Fed} (record { answer = a; session = sessionWith s life (r .frame) p }) (answeredIn o s r p)
+    → _≡_ {A = Fed} (record { answer = a; session = x }) (answeredBy s r p)
+unfolding answeredBy
+answered-as {a = a} life s r p e k h =
+    ap (λ (y : Session). record { answer = a; session = y }) k ∙ h ∙ ap (λ (o : Outcome). answeredIn o s r p) (sym e)
+
+-- a session that has not ended reads
+not-ended : (s : Session) (canvas bytes : List ℕ) (allowance : ℕ) (life : Life) → OneOf (0 ∷ 2 ∷ []) (tagOf LifeType.the-type life)
+    → fedLive s canvas bytes allowance ≡ fedIn life s canvas bytes allowance
+unfolding fedIn
+not-ended s canvas bytes allowance lives.Live h = refl
+not-ended s canvas bytes allowance (lives.Ended b) h = absurd (miss (0 ∷ 2 ∷ []) 1 tt h)
+not-ended s canvas bytes allowance lives.Failed h = refl
+
+module _ (s : Session) (canvas bytes : List ℕ) (allowance : ℕ) where
+  -- the palette lent, and what reading made of it
+  pub fed-live : {lent after q : Palette} {pr : Progress} {later : List ℕ} {x : Fed}
+      → _≡_ {A = Reached} (record { progress = pr; palette = after; canvas = later }) (feedFrom (s .ground) allowance bytes 0 0 (s .frame) lent canvas)
+      → lent ≡ s .palette → q ≡ after → x ≡ answeredBy s pr q → (x, later) ≡ fedLive s canvas bytes allowance
+  unfolding fedLive
+  fed-live {pr = pr} {later = later} e t k h =
+      ap (λ (y : Fed). (y, later)) (h ∙ ap (answeredBy s pr) k)
+      ∙ ap (λ (r : Reached). (answeredBy s (r .progress) (r .palette), r .canvas))
+      (e ∙ ap (λ (p : Palette). feedFrom (s .ground) allowance bytes 0 0 (s .frame) p canvas) t)
+
+  module _ {j : Judged} (e : j ≡ feedJudged s (length canvas) allowance) where
+    pub fed-refused : {n : Refusal} → j ≡ judged.Refused n → _≡_ {A = Fed × List ℕ} (record { answer = answers.Refused n; session = s }, canvas) (fedBy s canvas bytes allowance)
+    unfolding fedBy fedAs
+    fed-refused h = ap (λ (k : Judged). fedAs k s canvas bytes allowance) (sym h ∙ e)
+
+    pub fed-ended : {b : ℕ} → j ≡ judged.Fine → s .life ≡ lives.Ended b
+        → _≡_ {A = Fed × List ℕ} (record { answer = answers.Ended 0 0 b; session = s }, canvas) (fedBy s canvas bytes allowance)
+    unfolding fedBy fedAs fedIn
+    fed-ended h l =
+        ap (λ (k : Life). fedIn k s canvas bytes allowance) (sym l)
+        ∙ ap (λ (k : Judged). fedAs k s canvas bytes allowance) (sym h ∙ e)
+
+    pub fed-on : {x : Fed} {later : List ℕ} → j ≡ judged.Fine → OneOf (0 ∷ 2 ∷ []) (tagOf LifeType.the-type (s .life)) → (x, later) ≡ fedLive s canvas bytes allowance
+        → (x, later) ≡ fedBy s canvas bytes allowance
+    unfolding fedBy fedAs
+    fed-on h l k =
+        k
+        ∙ not-ended s canvas bytes allowance (s .life) l
+        ∙ ap (λ (k : Judged). fedAs k s canvas bytes allowance) (sym h ∙ e)
+
+pub ruleset feedings = (answered-as, fed-live, feed-fits, fed-refused, fed-ended, fed-on)
+
+-- ---- finishing
+
+pub ratio-left : (r : Raster) (p1 : Given) → r .ratio ≡ 0 → ratios.LeftToP1 p1 ≡ ratioFor r p1
+unfolding ratioFor
+ratio-left r p1 e = sym (cond-yes _ _ (eq-eqb _ _ e))
+
+pub ratio-raster : (r : Raster) (p1 : Given) → (r .ratio ≡ 0 → ⊥) → ratios.Raster (r .ratio) ≡ ratioFor r p1
+unfolding ratioFor
+ratio-raster r p1 e = sym (cond-no _ _ (ne-eqb _ _ e))
+
+pub reported-as : {r : Ratio} {t : Bool} (f : Frame) (o : Settings) → r ≡ ratioFor (f .raster) (o .p1) → t ≡ clearFor (o .p2)
+    → _≡_ {A = Report}
+    (record { width = f .sheet .width; height = f .sheet .height; right = f .sheet .right; bottom = f .sheet .bottom; ratio = r; transparent = t })
+    (reportedAs f o)
+unfolding reportedAs
+reported-as f o e k = rw (e, k) refl
+
+-- an outcome that is no refusal goes on to 10
+not-refused : (s : Session) (owner : Palette) (last : Frame) (p : Palette) (canvas : List ℕ) (o : Outcome)
+    → OneOf (0 ∷ 1 ∷ 2 ∷ 3 ∷ []) (tagOf OutcomeType.the-type o)
+    → finishedIf (finalJudged (last .sheet) (s .ground)) s owner last p canvas ≡ finishedIn o s owner last p canvas
+unfolding finishedIn
+not-refused s owner last p canvas outcomes.Read h = refl
+not-refused s owner last p canvas outcomes.Settled h = refl
+not-refused s owner last p canvas outcomes.Stopped h = refl
+not-refused s owner last p canvas (outcomes.Ended b) h = refl
+not-refused s owner last p canvas (outcomes.Refused n) h = absurd (miss (0 ∷ 1 ∷ 2 ∷ 3 ∷ []) 4 tt h)
+
+module _ (s : Session) (owner : Palette) (canvas : List ℕ) {lent after : Palette} {st : Stepped} (e : _≡_ {A = Ended} (record { stepped = st; palette = after }) (ended (s .frame) (s .ground) lent)) (t : lent ≡ s .palette) where
+  same-end : _≡_ {A = Ended} (record { stepped = st; palette = after }) (ended (s .frame) (s .ground) (s .palette))
+  same-end = e ∙ ap (ended (s .frame) (s .ground)) t
+
+  finish-in : finishedIn (st .outcome) s owner (st .frame) after canvas ≡ finishedLive s owner canvas
+  unfolding finishedLive
+  finish-in = ap (λ (d : Ended). finishedIn (d .stepped .outcome) s owner (d .stepped .frame) (d .palette) canvas) same-end
+
+  pub finish-pending : {n : Refusal} {x : Finished} → st .outcome ≡ outcomes.Refused n → x ≡ record { answer = finishes.Refused n; palette = owner }
+      → (x, canvas) ≡ finishedLive s owner canvas
+  unfolding finishedIn turnedAway
+  finish-pending h k =
+      ap (λ (y : Finished). (y, canvas)) k
+      ∙ ap (λ (o : Outcome). finishedIn o s owner (st .frame) after canvas) (sym h)
+      ∙ finish-in
+
+  module _ {j : Judged} (o : OneOf (0 ∷ 1 ∷ 2 ∷ 3 ∷ []) (tagOf OutcomeType.the-type (st .outcome))) (k : j ≡ finalJudged (st .frame .sheet) (s .ground)) where
+    finish-if : finishedIf j s owner (st .frame) after canvas ≡ finishedLive s owner canvas
+    finish-if =
+        ap (λ (i : Judged). finishedIf i s owner (st .frame) after canvas) k
+        ∙ not-refused s owner (st .frame) after canvas (st .outcome) o
+        ∙ finish-in
+
+    pub finish-oversize : {n : Refusal} {x : Finished} → j ≡ judged.Refused n → x ≡ record { answer = finishes.Refused n; palette = owner }
+        → (x, canvas) ≡ finishedLive s owner canvas
+    unfolding finishedIf turnedAway
+    finish-oversize h y =
+        ap (λ (z : Finished). (z, canvas)) y
+        ∙ ap (λ (i : Judged). finishedIf i s owner (st .frame) after canvas) (sym h)
+        ∙ finish-if
+
+    pub finish-pictured : {later : List ℕ} {rep : Report} {q : Palette} → j ≡ judged.Fine
+        → later ≡ grown (s .ground .stride) (areaOf (s .frame .sheet .width) (s .frame .sheet .height)) (areaOf (st .frame .sheet .width) (st .frame .sheet .height)) (s .ground .background) canvas
+        → rep ≡ reportedAs (st .frame) (s .settings) → q ≡ after
+        → _≡_ {A = Finished × List ℕ} (record { answer = finishes.Picture rep; palette = q }, later) (finishedLive s owner canvas)
+    unfolding finishedIf pictured
+    finish-pictured h l r q =
+        rw (l, r, q) refl
+        ∙ ap (λ (i : Judged). finishedIf i s owner (st .frame) after canvas) (sym h)
+        ∙ finish-if
+
+module _ (s : Session) (owner : Palette) (canvas : List ℕ) {j : Judged} (e : j ≡ finishJudged s (length canvas)) where
+  pub finish-refused : {n : Refusal} {x : Finished} → j ≡ judged.Refused n → x ≡ record { answer = finishes.Refused n; palette = owner }
+      → (x, canvas) ≡ finishedBy s owner canvas
+  unfolding finishedBy finishedAs turnedAway
+  finish-refused h y = ap (λ (z : Finished). (z, canvas)) y ∙ ap (λ (i : Judged). finishedAs i s owner canvas) (sym h ∙ e)
+
+  pub finish-on : {x : Finished} {later : List ℕ} → j ≡ judged.Fine → (x, later) ≡ finishedLive s owner canvas → (x, later) ≡ finishedBy s owner canvas
+  unfolding finishedBy finishedAs
+  finish-on h y = y ∙ ap (λ (i : Judged). finishedAs i s owner canvas) (sym h ∙ e)
+
+pub ruleset finishings =
+    (ratio-left, ratio-raster, reported-as, finish-pending, finish-oversize, finish-pictured, finish-fits, finish-refused, finish-on)

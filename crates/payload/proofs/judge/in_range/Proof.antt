@@ -1,0 +1,13 @@
+use Rattle.payload.proofs.JudgeLaws.{opened}
+use borrow.Author.Needs.{needs}
+use Rattle.payload.proofs.judge.in_range.Statement.{statement}
+use Rattle.payload.proofs.judge.in_range.Tie as tie
+
+returns : tie.Need-returns
+returns c = search (needs, opened)
+
+returns-2 : tie.Need-returns-2
+returns-2 c = search (needs, opened)
+
+pub in-range-spec : {M : Type 1} → statement M
+in-range-spec = tie.close (tie.spec returns returns-2)

@@ -1,0 +1,197 @@
+-- What the code's values mean, and when a session and its canvas stand for a session of the definition.
+use Prim.Native.Nat.{ℕ, _+_}
+use mathlib.Core.Bool.{Bool, true, false, _&&_}
+use mathlib.Core.Option.{Option, none, some}
+use mathlib.Core.List.{List, [], _∷_, _++_}
+use mathlib.Core.Path.{_≡_}
+use lib.Dec.{leb}
+use lib.ListN.{length, drop}
+use Rattle.colours.specs.declared.Palette.{Palette}
+use Rattle.canvas.specs.Picture.{areaOf}
+use Rattle.frame.specs.declared.Limits.{Limits}
+use Rattle.frame.specs.declared.Refusal.{Refusal}
+use Rattle.frame.specs.Numbers.{numberOf}
+use Rattle.meaning.specs.Calls as calls
+use Rattle.meaning.specs.Drawing as drawing
+use Rattle.meaning.specs.Histories.{Ask}
+use Rattle.meaning.specs.Payload as meant
+use Rattle.meaning.specs.Reader.{How, readAll, stopped, halted, refusedBy, Turn, pieceOf, allowanceOf, Caller, mayCall}
+use Rattle.meaning.specs.Sessions.{Reading}
+use Rattle.agreement.specs.Same.{SameDrawing, SameBegun}
+use Rattle.payload.specs.declared.Answer.{Answer}
+use Rattle.payload.specs.declared.Answer.the-variants as answers
+use Rattle.payload.specs.declared.Fed.{Fed}
+use Rattle.payload.specs.declared.Finished.{Finished}
+use Rattle.payload.specs.declared.Finishing.the-variants as finishes
+use Rattle.payload.specs.declared.Given.{Given}
+use Rattle.payload.specs.declared.Given.the-variants as givens
+use Rattle.payload.specs.declared.Life.{Life}
+use Rattle.payload.specs.declared.Life.the-variants as lives
+use Rattle.payload.specs.declared.Opened.{Opened}
+use Rattle.payload.specs.declared.Opening.the-variants as openings
+use Rattle.payload.specs.declared.Ratio.{Ratio}
+use Rattle.payload.specs.declared.Ratio.the-variants as ratios
+use Rattle.payload.specs.declared.Report.{Report}
+use Rattle.payload.specs.declared.Session.{Session}
+use Rattle.payload.specs.declared.Settings.{Settings}
+use Rattle.payload.specs.Session.{fedBy}
+
+-- ---- what the code's values mean
+
+-- a parameter: some number, or none
+unfoldable pub givenMeant : Given → Option ℕ
+givenMeant givens.Nothing = none
+givenMeant (givens.Number n) = some n
+
+unfoldable pub parametersMeant : Settings → meant.Parameters
+unfolding givenMeant
+parametersMeant o = record { p1 = givenMeant (o .p1); p2 = givenMeant (o .p2) }
+
+unfoldable pub limitsMeant : Limits → drawing.Limits
+limitsMeant l = record { width = l .width; height = l .height; repeats = l .repeats; pixels = l .pixels }
+
+-- what a session is opened with, on a canvas of so many bytes
+unfoldable pub settingMeant : Limits → ℕ → ℕ → drawing.Setting
+unfolding limitsMeant
+settingMeant l stride size = calls.settingFor (limitsMeant l) stride size
+
+-- a feed's answer: counts and a status, or a refusal's number
+unfoldable pub answerMeant : Answer → calls.Answer ℕ
+answerMeant (answers.More consumed ink) = calls.told consumed ink calls.needsMore
+answerMeant (answers.Stopped consumed ink) = calls.told consumed ink calls.stoppedForInk
+answerMeant (answers.Ended consumed ink b) = calls.told consumed ink (calls.ended b)
+answerMeant (answers.Refused n) = calls.refused (numberOf n)
+
+unfoldable pub ratioMeant : Ratio → meant.Ratio
+unfolding givenMeant
+ratioMeant (ratios.Raster n) = meant.byRaster n
+ratioMeant (ratios.LeftToP1 p1) = meant.leftToP1 (givenMeant p1)
+
+-- a report, with the palette that is handed back beside it
+unfoldable pub reportMeant : Report → Palette → meant.Report
+unfolding ratioMeant
+reportMeant r p =
+    record {
+      size = areaOf (r .width) (r .height);
+      ratio = ratioMeant (r .ratio);
+      clear = r .transparent;
+      extent = areaOf (r .right) (r .bottom);
+      palette = p;
+    }
+
+-- ---- a session and its canvas stand for a session of the definition
+
+-- a live session has come to no end, an ended one to its byte; a failed one has failed
+abbrev pub SameLife : Life → Bool → Option ℕ → Type 0
+SameLife lives.Live failed over = (failed ≡ false) × (over ≡ none)
+SameLife (lives.Ended b) failed over = (failed ≡ false) × (over ≡ some b)
+SameLife lives.Failed failed over = failed ≡ true
+
+-- the same setting, length, parameters and life; frame, palette and canvas are those of the drawing on the bytes of the opening; and the begun
+-- command is the same, unless the session has failed
+pub record Stands (opening : List ℕ) (s : Session) (l : List ℕ) (m : calls.Session Reading) : Type 0 where
+  pub setting : m .setting ≡ settingMeant (s .ground .limits) (s .ground .stride) (s .length)
+  pub long : m .length ≡ s .length
+  pub parameters : m .state .parameters ≡ parametersMeant (s .settings)
+  pub life : SameLife (s .life) (m .failed) (m .state .over)
+  pub drawing : SameDrawing (m .setting) opening (m .state .drawing) (s .ground) (s .frame) (s .palette) l
+  pub begun : m .failed ≡ false → SameBegun (m .state .begun) (s .frame .command)
+
+-- an opening: a session that stands for the definition's, or the definition's refusal and not a byte written
+pub data Opens (opening : List ℕ) : Opened × List ℕ → calls.Opened Reading → Type 0 where
+  isReady : {s : Session} {l : List ℕ} {m : calls.Session Reading} → Stands opening s l m
+      → Opens opening (record { answer = openings.Ready; session = s }, l) (calls.isOpen m)
+  isRefused : (n : Refusal) {s : Session}
+      → Opens opening (record { answer = openings.Refused n; session = s }, opening) (calls.notOpened (numberOf n))
+
+-- a feed: the definition's answer, and a session and a canvas that stand for its session
+pub record Feeds (opening : List ℕ) (x : Fed × List ℕ) (y : calls.Fed Reading ℕ) : Type 0 where
+  pub answer : answerMeant (x .0 .answer) ≡ y .answer
+  pub session : Stands opening (x .0 .session) (x .1) (y .session)
+
+-- a finish: the definition's report, its palette committed and its picture on the canvas; or the definition's refusal, the palette the owner's
+-- and the canvas as it was
+pub data Finishes (picture : List ℕ) (owner : Palette) (l : List ℕ) : Finished × List ℕ → meant.Finished → Type 0 where
+  pictures : {r : Report} {p : Palette}
+      → Finishes picture owner l (record { answer = finishes.Picture r; palette = p }, picture) (meant.finished (reportMeant r p))
+  declines : (n : Refusal)
+      → Finishes picture owner l (record { answer = finishes.Refused n; palette = owner }, l) (meant.turnedDown (numberOf n))
+
+-- ---- any calls, the canvas given back each time as it was left
+
+-- the answers, and the session and the canvas after them
+pub record Past : Type 0 where
+  pub answers : List Answer
+  pub session : Session
+  pub canvas : List ℕ
+
+unfoldable pub fedAll : Session → List ℕ → List Ask → Past
+fedAll s l [] = record { answers = []; session = s; canvas = l }
+fedAll s l (c ∷ cs) =
+    let x : Fed × List ℕ = fedBy s l (c .bytes) (c .allowance) in
+    let later : Past = fedAll (x .0 .session) (x .1) cs in
+    record { answers = x .0 .answer ∷ later .answers; session = later .session; canvas = later .canvas }
+
+-- the same of the definition, on a canvas of so many bytes
+pub record PastMeant : Type 0 where
+  pub answers : List (calls.Answer ℕ)
+  pub session : calls.Session Reading
+
+unfoldable pub fedAllMeant : calls.Session Reading → ℕ → List Ask → PastMeant
+fedAllMeant m size [] = record { answers = []; session = m }
+fedAllMeant m size (c ∷ cs) =
+    let y : calls.Fed Reading ℕ = calls.feedPayload m size (c .allowance) (c .bytes) in
+    let later : PastMeant = fedAllMeant (y .session) size cs in
+    record { answers = y .answer ∷ later .answers; session = later .session }
+
+-- ---- a caller that presents what was left unread (document 01, 'Ink')
+
+-- how a call came to its end, as its answer tells
+unfoldable pub howTold : calls.Answer ℕ → How
+howTold (calls.told consumed ink calls.needsMore) = readAll
+howTold (calls.told consumed ink calls.stoppedForInk) = stopped
+howTold (calls.told consumed ink (calls.ended b)) = halted
+howTold (calls.refused n) = refusedBy n
+
+-- the counts that it tells; a refusal tells none
+unfoldable pub consumedTold : calls.Answer ℕ → ℕ
+consumedTold (calls.told consumed ink status) = consumed
+consumedTold (calls.refused n) = 0
+
+unfoldable pub inkTold : calls.Answer ℕ → ℕ
+inkTold (calls.told consumed ink status) = ink
+inkTold (calls.refused n) = 0
+
+-- what a caller holds: a session and its canvas
+abbrev pub Held : Type 0
+Held = Session × List ℕ
+
+-- where a caller stands after a feed of what it presented, with the answer's meaning
+unfoldable pub afterFeed : Caller Held → List ℕ → Held → calls.Answer ℕ → Caller Held
+unfolding howTold consumedTold inkTold
+afterFeed c presented held x =
+    record {
+      state = held;
+      unread = drop (consumedTold x) presented;
+      consumed = c .consumed + consumedTold x;
+      ink = c .ink + inkTold x;
+      how = howTold x;
+    }
+
+unfoldable pub called : Caller Held → Turn → Caller Held
+unfolding afterFeed
+called c t =
+    let presented : List ℕ = c .unread ++ pieceOf t in
+    let x : Fed × List ℕ = fedBy (c .state .0) (c .state .1) presented (allowanceOf t) in
+    afterFeed c presented (x .0 .session, x .1) (answerMeant (x .0 .answer))
+
+unfoldable pub callsOf : Caller Held → List Turn → Caller Held
+unfolding called
+callsOf c [] = c
+callsOf c (t ∷ ts) = callsOf (called c t) ts
+
+-- each call is one that may be made after the answer before it, with an allowance of at least A
+unfoldable pub properCalls : ℕ → Caller Held → List Turn → Bool
+unfolding called
+properCalls A c [] = true
+properCalls A c (t ∷ ts) = leb A (allowanceOf t) && (mayCall t (c .how) && properCalls A (called c t) ts)

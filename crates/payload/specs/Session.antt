@@ -1,0 +1,192 @@
+-- The whole outcome of each function over a payload session: its answer, the session, the palette and every byte of the canvas.
+use Prim.Native.Nat.{ℕ}
+use mathlib.Core.Bool.{Bool, false, cond}
+use mathlib.Core.List.{List, [], _∷_}
+use lib.Dec.{eqb}
+use lib.ListN.{length}
+use Rattle.numbers.specs.Step as numbers
+use Rattle.colours.specs.declared.Palette.{Palette}
+use Rattle.colours.specs.Palette.{registerOf}
+use Rattle.canvas.specs.Picture.{areaOf, rowsOf, span}
+use Rattle.canvas.specs.Paint.{painted, grown}
+use Rattle.frame.specs.declared.Frame.{Frame}
+use Rattle.frame.specs.declared.Ground.{Ground}
+use Rattle.frame.specs.declared.Kind.the-variants as kinds
+use Rattle.frame.specs.declared.Limits.{Limits}
+use Rattle.frame.specs.declared.Outcome.{Outcome}
+use Rattle.frame.specs.declared.Outcome.the-variants as outcomes
+use Rattle.frame.specs.declared.Progress.{Progress}
+use Rattle.frame.specs.declared.Raster.{Raster}
+use Rattle.frame.specs.declared.Refusal.{Refusal}
+use Rattle.frame.specs.declared.Refusal.the-variants as refusals
+use Rattle.frame.specs.Commands.{Ended, ended}
+use Rattle.frame.specs.Feed.{Reached, feedFrom}
+use Rattle.payload.specs.declared.Answer.the-variants as answers
+use Rattle.payload.specs.declared.Fed.{Fed}
+use Rattle.payload.specs.declared.Finishing.the-variants as finishes
+use Rattle.payload.specs.declared.Finished.{Finished}
+use Rattle.payload.specs.declared.Given.{Given}
+use Rattle.payload.specs.declared.Given.the-variants as givens
+use Rattle.payload.specs.declared.Life.{Life}
+use Rattle.payload.specs.declared.Life.the-variants as lives
+use Rattle.payload.specs.declared.Opened.{Opened}
+use Rattle.payload.specs.declared.Opening.the-variants as openings
+use Rattle.payload.specs.declared.Ratio.{Ratio}
+use Rattle.payload.specs.declared.Ratio.the-variants as ratios
+use Rattle.payload.specs.declared.Report.{Report}
+use Rattle.payload.specs.declared.Session.{Session}
+use Rattle.payload.specs.declared.Settings.{Settings}
+use Rattle.payload.specs.declared.judge.Judged.{Judged}
+use Rattle.payload.specs.declared.judge.Judged.the-variants as judged
+use Rattle.payload.specs.Judge.{openable, feedJudged, finishJudged, finalJudged}
+
+-- ---- opening
+
+-- the background is transparent exactly when P2 is 1
+unfoldable pub clearFor : Given → Bool
+clearFor givens.Nothing = false
+clearFor (givens.Number n) = eqb n 1
+
+unfoldable pub backgroundFor : Palette → Given → List ℕ
+unfolding clearFor
+backgroundFor p p2 = cond (clearFor p2) (0 ∷ 0 ∷ 0 ∷ 0 ∷ []) (registerOf p 0)
+
+-- the frame before the first byte
+unfoldable pub blankFrame : Palette → Frame
+blankFrame p =
+    record {
+      pen = record { column = 0; row = 0; repeat = 1; register = 0; color = registerOf p 0 };
+      sheet = record { width = 1; height = 1; right = 1; bottom = 1 };
+      raster = record { ratio = 0; width = 0; height = 0 };
+      command = record { kind = kinds.Data; number = 0; parameters = numbers.opened 0 };
+    }
+
+unfoldable pub groundFor : Limits → ℕ → ℕ → List ℕ → Ground
+groundFor l stride size background = record { limits = l; stride = stride; rows = rowsOf size stride; background = background }
+
+unfoldable pub sessionFor : Limits → ℕ → ℕ → Settings → Palette → Life → Session
+unfolding backgroundFor blankFrame groundFor
+sessionFor l stride size o p life =
+    record {
+      ground = groundFor l stride size (backgroundFor p (o .p2));
+      length = size;
+      settings = o;
+      life = life;
+      frame = blankFrame p;
+      palette = p;
+    }
+
+-- pixel (0, 0) gets the background, or nothing is written
+unfoldable pub openedBy : Limits → ℕ → Settings → Palette → List ℕ → Opened × List ℕ
+unfolding sessionFor
+openedBy l stride o p canvas =
+    cond (openable l stride (length canvas))
+    (record { answer = openings.Ready; session = sessionFor l stride (length canvas) o p lives.Live }, painted (span 0 1) (backgroundFor p (o .p2)) canvas)
+    (record { answer = openings.Refused refusals.Opening; session = sessionFor l stride (length canvas) o p lives.Failed }, canvas)
+
+-- ---- feeding
+
+unfoldable pub sessionWith : Session → Life → Frame → Palette → Session
+sessionWith s life f p =
+    record { ground = s .ground; length = s .length; settings = s .settings; life = life; frame = f; palette = p }
+
+-- what reading came to, as an answer; a refusal fails the session
+unfoldable pub answeredIn : Outcome → Session → Progress → Palette → Fed
+unfolding sessionWith
+answeredIn outcomes.Read s r p =
+    record { answer = answers.More (r .consumed) (r .ink); session = sessionWith s lives.Live (r .frame) p }
+answeredIn outcomes.Settled s r p =
+    record { answer = answers.More (r .consumed) (r .ink); session = sessionWith s lives.Live (r .frame) p }
+answeredIn outcomes.Stopped s r p =
+    record { answer = answers.Stopped (r .consumed) (r .ink); session = sessionWith s lives.Live (r .frame) p }
+answeredIn (outcomes.Ended b) s r p =
+    record { answer = answers.Ended (r .consumed) (r .ink) b; session = sessionWith s (lives.Ended b) (r .frame) p }
+answeredIn (outcomes.Refused n) s r p = record { answer = answers.Refused n; session = sessionWith s lives.Failed (r .frame) p }
+
+unfoldable pub answeredBy : Session → Progress → Palette → Fed
+unfolding answeredIn
+answeredBy s r p = answeredIn (r .outcome) s r p
+
+-- the bytes are read
+unfoldable pub fedLive : Session → List ℕ → List ℕ → ℕ → Fed × List ℕ
+unfolding answeredBy
+fedLive s canvas bytes allowance =
+    let r : Reached = feedFrom (s .ground) allowance bytes 0 0 (s .frame) (s .palette) canvas in
+    (answeredBy s (r .progress) (r .palette), r .canvas)
+
+-- an ended session repeats its end
+unfoldable pub fedIn : Life → Session → List ℕ → List ℕ → ℕ → Fed × List ℕ
+unfolding fedLive
+fedIn lives.Live s canvas bytes allowance = fedLive s canvas bytes allowance
+fedIn (lives.Ended b) s canvas bytes allowance = (record { answer = answers.Ended 0 0 b; session = s }, canvas)
+fedIn lives.Failed s canvas bytes allowance = fedLive s canvas bytes allowance
+
+-- 9, 12, 13 leave all as it is
+unfoldable pub fedAs : Judged → Session → List ℕ → List ℕ → ℕ → Fed × List ℕ
+unfolding fedIn
+fedAs judged.Fine s canvas bytes allowance = fedIn (s .life) s canvas bytes allowance
+fedAs (judged.Refused n) s canvas bytes allowance = (record { answer = answers.Refused n; session = s }, canvas)
+
+unfoldable pub fedBy : Session → List ℕ → List ℕ → ℕ → Fed × List ℕ
+unfolding fedAs
+fedBy s canvas bytes allowance = fedAs (feedJudged s (length canvas) allowance) s canvas bytes allowance
+
+-- ---- finishing
+
+unfoldable pub ratioFor : Raster → Given → Ratio
+ratioFor r p1 = cond (eqb (r .ratio) 0) (ratios.LeftToP1 p1) (ratios.Raster (r .ratio))
+
+unfoldable pub reportedAs : Frame → Settings → Report
+unfolding ratioFor clearFor
+reportedAs f o =
+    record {
+      width = f .sheet .width;
+      height = f .sheet .height;
+      right = f .sheet .right;
+      bottom = f .sheet .bottom;
+      ratio = ratioFor (f .raster) (o .p1);
+      transparent = clearFor (o .p2);
+    }
+
+unfoldable pub turnedAway : Palette → Refusal → List ℕ → Finished × List ℕ
+turnedAway owner n canvas = (record { answer = finishes.Refused n; palette = owner }, canvas)
+
+-- the picture: the area that the pending command grew gets the background, and the palette is the owner's from now on
+unfoldable pub pictured : Session → Frame → Palette → List ℕ → Finished × List ℕ
+unfolding reportedAs
+pictured s last p canvas = (
+  record { answer = finishes.Picture (reportedAs last (s .settings)); palette = p },
+  grown (s .ground .stride) (areaOf (s .frame .sheet .width) (s .frame .sheet .height)) (areaOf (last .sheet .width) (last .sheet .height))
+      (s .ground .background) canvas,
+)
+
+-- 10, judged on the size that the pending command gives and before anything is written
+unfoldable pub finishedIf : Judged → Session → Palette → Frame → Palette → List ℕ → Finished × List ℕ
+unfolding turnedAway pictured
+finishedIf judged.Fine s owner last p canvas = pictured s last p canvas
+finishedIf (judged.Refused n) s owner last p canvas = turnedAway owner n canvas
+
+-- the pending command's refusal, then 10
+unfoldable pub finishedIn : Outcome → Session → Palette → Frame → Palette → List ℕ → Finished × List ℕ
+unfolding finishedIf turnedAway
+finishedIn outcomes.Read s owner last p canvas = finishedIf (finalJudged (last .sheet) (s .ground)) s owner last p canvas
+finishedIn outcomes.Settled s owner last p canvas = finishedIf (finalJudged (last .sheet) (s .ground)) s owner last p canvas
+finishedIn outcomes.Stopped s owner last p canvas = finishedIf (finalJudged (last .sheet) (s .ground)) s owner last p canvas
+finishedIn (outcomes.Ended b) s owner last p canvas = finishedIf (finalJudged (last .sheet) (s .ground)) s owner last p canvas
+finishedIn (outcomes.Refused n) s owner last p canvas = turnedAway owner n canvas
+
+unfoldable pub finishedLive : Session → Palette → List ℕ → Finished × List ℕ
+unfolding finishedIn
+finishedLive s owner canvas =
+    let e : Ended = ended (s .frame) (s .ground) (s .palette) in
+    finishedIn (e .stepped .outcome) s owner (e .stepped .frame) (e .palette) canvas
+
+unfoldable pub finishedAs : Judged → Session → Palette → List ℕ → Finished × List ℕ
+unfolding finishedLive turnedAway
+finishedAs judged.Fine s owner canvas = finishedLive s owner canvas
+finishedAs (judged.Refused n) s owner canvas = turnedAway owner n canvas
+
+-- 9, 12, the pending command's refusal, 10
+unfoldable pub finishedBy : Session → Palette → List ℕ → Finished × List ℕ
+unfolding finishedAs
+finishedBy s owner canvas = finishedAs (finishJudged s (length canvas)) s owner canvas

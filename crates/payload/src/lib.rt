@@ -1,0 +1,419 @@
+// A payload session: the Rust's SixelStreamDecoder. It goes in by value and comes back by value, its palette inside, over a lent
+// canvas. A palette has an owner, who hands a copy to each session and gets one back at finish: the session's where the finish
+// succeeds, else the owner's own.
+mod judge;
+
+ghost use mathlib.Core.Path.{_≡_};
+ghost use lib.ListN.{length};
+ghost use Rattle.colours.specs.Palette.{ofTable};
+ghost use Rattle.frame.specs.Step.{Fits};
+ghost use Rattle.frame.specs.Feed.{Reached};
+ghost use Rattle.payload.specs.Session.{clearFor, backgroundFor, blankFrame, openedBy, sessionWith, answeredBy, fedLive, fedBy, ratioFor, reportedAs, finishedLive, finishedBy};
+use colours::Palette;
+use frame::Command;
+use frame::Frame;
+use frame::Ground;
+use frame::Kind;
+use frame::Limits;
+use frame::Outcome;
+use frame::Pen;
+use frame::Progress;
+use frame::Raster;
+use frame::Refusal;
+use frame::Sheet;
+use frame::Stepped;
+use frame::commands::end_command;
+use frame::process::process;
+use judge::Judged;
+use judge::feed_refusal;
+use judge::final_refusal;
+use judge::finish_refusal;
+use judge::may_open;
+use numbers::Parameters;
+
+// A parameter of a DCS header: a 16-bit number, or none.
+pub enum Given {
+    Nothing,
+    Number(u16),
+}
+
+// P1, to which the ratio is left where no raster says it, and P2, which says whether the background is transparent.
+pub struct Settings {
+    pub p1: Given,
+    pub p2: Given,
+}
+
+pub enum Life {
+    Live,
+    Ended(u8),
+    Failed,
+}
+
+pub struct Session {
+    ground: Ground,
+    length: usize,
+    settings: Settings,
+    life: Life,
+    frame: Frame,
+    palette: Palette,
+}
+
+pub enum Opening {
+    Ready,
+    Refused(Refusal),
+}
+
+// An opening's answer and the session, which is a failed one where the opening is refused.
+pub struct Opened {
+    pub answer: Opening,
+    pub session: Session,
+}
+
+// Bytes consumed and ink of one call, or its refusal.
+pub enum Answer {
+    More {
+        consumed: usize,
+        ink: usize,
+    },
+    Stopped {
+        consumed: usize,
+        ink: usize,
+    },
+    Ended {
+        consumed: usize,
+        ink: usize,
+        byte: u8,
+    },
+    Refused(Refusal),
+}
+
+pub struct Fed {
+    pub answer: Answer,
+    pub session: Session,
+}
+
+// `Raster(n)` is n : 1.
+pub enum Ratio {
+    Raster(u8),
+    LeftToP1(Given),
+}
+
+pub struct Report {
+    pub width: usize,
+    pub height: usize,
+    pub right: usize,
+    pub bottom: usize,
+    pub ratio: Ratio,
+    pub transparent: bool,
+}
+
+pub enum Finishing {
+    Picture(Report),
+    Refused(Refusal),
+}
+
+// A finish's answer, and the owner's palette after it.
+pub struct Finished {
+    pub answer: Finishing,
+    pub palette: Palette,
+}
+
+// The house's limits.
+pub fn house_limits() -> Limits
+    ensures { λ r. ⌜ r ≡ record { width = 1024; height = 768; repeats = 1024; pixels = 786432 } ⌝ }
+{
+    Limits {
+        width: 1_024,
+        height: 768,
+        repeats: 1_024,
+        pixels: 786_432,
+    }
+}
+
+// The limits that the Rust has built in.
+pub fn crate_limits() -> Limits
+    ensures { λ r. ⌜ r ≡ record { width = 1000000; height = 1000000; repeats = 65535; pixels = 67108864 } ⌝ }
+{
+    Limits {
+        width: 1_000_000,
+        height: 1_000_000,
+        repeats: 65_535,
+        pixels: 67_108_864,
+    }
+}
+
+fn background_for(palette: Palette, p2: Given) -> [u8; 4]
+    ensures { λ r. ⌜ r ≡ backgroundFor palette p2 ⌝ }
+{
+    if is_transparent(p2) {
+        return [0, 0, 0, 0];
+    }
+    palette.register(0)
+}
+
+fn is_transparent(p2: Given) -> bool
+    ensures { λ r. ⌜ r ≡ clearFor p2 ⌝ }
+{
+    match p2 {
+        Given::Nothing => false,
+        Given::Number(n) => n == 1,
+    }
+}
+
+fn blank_frame(palette: Palette) -> Frame
+    ensures { λ r. ⌜ r ≡ blankFrame palette ⌝ }
+{
+    let color = palette.register(0);
+    let parameters = Parameters::new(0);
+    Frame {
+        pen: Pen {
+            column: 0,
+            row: 0,
+            repeat: 1,
+            register: 0,
+            color,
+        },
+        sheet: Sheet {
+            width: 1,
+            height: 1,
+            right: 1,
+            bottom: 1,
+        },
+        raster: Raster {
+            ratio: 0,
+            width: 0,
+            height: 0,
+        },
+        command: Command {
+            kind: Kind::Data,
+            number: 0,
+            parameters,
+        },
+    }
+}
+
+// Opens a session on a canvas of `stride` pixels a row, with a copy of the owner's palette. Pixel (0, 0) gets the background.
+pub fn open(
+    limits: Limits,
+    stride: usize,
+    settings: Settings,
+    palette: Palette,
+    canvas: &mut [u8],
+) -> Opened
+    ensures { λ r. ⌜ (r, now (canvas .exit)) ≡ openedBy limits stride settings palette (now (canvas .entry)) ⌝ }
+{
+    let length = canvas.len();
+    let p2 = settings.p2;
+    let background = background_for(palette, p2);
+    let ground = Ground {
+        limits,
+        stride,
+        rows: canvas::rows(length, stride),
+        background,
+    };
+    let frame = blank_frame(palette);
+    if may_open(limits, stride, length) {
+        canvas::first_pixel(canvas, background);
+        let session = Session {
+            ground,
+            length,
+            settings,
+            life: Life::Live,
+            frame,
+            palette,
+        };
+        return Opened {
+            answer: Opening::Ready,
+            session,
+        };
+    }
+    let session = Session {
+        ground,
+        length,
+        settings,
+        life: Life::Failed,
+        frame,
+        palette,
+    };
+    Opened {
+        answer: Opening::Refused(Refusal::Opening),
+        session,
+    }
+}
+
+// The session after reading, in a state of life.
+fn after_reading(session: Session, life: Life, frame: Frame, palette: Palette) -> Session
+    ensures { λ r. ⌜ r ≡ sessionWith session life frame palette ⌝ }
+{
+    let ground = session.ground;
+    let settings = session.settings;
+    Session {
+        ground,
+        length: session.length,
+        settings,
+        life,
+        frame,
+        palette,
+    }
+}
+
+// What reading came to, as an answer.
+fn answer_for(session: Session, progress: Progress, palette: Palette) -> Fed
+    ensures { λ r. ⌜ r ≡ answeredBy session progress palette ⌝ }
+{
+    let consumed = progress.consumed;
+    let ink = progress.ink;
+    let frame = progress.frame;
+    let outcome = progress.outcome;
+    match outcome {
+        Outcome::Read => Fed {
+            answer: Answer::More { consumed, ink },
+            session: after_reading(session, Life::Live, frame, palette),
+        },
+        Outcome::Settled => Fed {
+            answer: Answer::More { consumed, ink },
+            session: after_reading(session, Life::Live, frame, palette),
+        },
+        Outcome::Stopped => Fed {
+            answer: Answer::Stopped { consumed, ink },
+            session: after_reading(session, Life::Live, frame, palette),
+        },
+        Outcome::Ended(byte) => Fed {
+            answer: Answer::Ended {
+                consumed,
+                ink,
+                byte,
+            },
+            session: after_reading(session, Life::Ended(byte), frame, palette),
+        },
+        Outcome::Refused(refusal) => Fed {
+            answer: Answer::Refused(refusal),
+            session: after_reading(session, Life::Failed, frame, palette),
+        },
+    }
+}
+
+// Reads bytes with a session that has passed 9, 12 and 13 and has not ended.
+fn feed_live(session: Session, canvas: &mut [u8], bytes: &[u8], allowance: usize) -> Fed
+    requires { ⌜ Fits (session .frame) (session .ground) (length (now canvas)) ⌝ }
+    ensures { λ r. ⌜ (r, now (canvas .exit)) ≡ fedLive session (now (canvas .entry)) (now (bytes .entry)) allowance ⌝ }
+{
+    let palette = session.palette;
+    let frame = session.frame;
+    let ground = session.ground;
+    let mut colors = palette.table();
+    let progress = process(frame, ground, &mut colors, canvas, bytes, allowance);
+    answer_for(session, progress, Palette::of_table(colors))
+}
+
+// Reads bytes, painting on the canvas, until all are read, the payload ends, or a sixel's ink exceeds the allowance.
+pub fn feed(session: Session, canvas: &mut [u8], bytes: &[u8], allowance: usize) -> Fed
+    ensures { λ r. ⌜ (r, now (canvas .exit)) ≡ fedBy session (now (canvas .entry)) (now (bytes .entry)) allowance ⌝ }
+{
+    if let Judged::Refused(refusal) = feed_refusal(session, canvas.len(), allowance) {
+        return Fed {
+            answer: Answer::Refused(refusal),
+            session,
+        };
+    }
+    let life = session.life;
+    if let Life::Ended(byte) = life {
+        return Fed {
+            answer: Answer::Ended {
+                consumed: 0,
+                ink: 0,
+                byte,
+            },
+            session,
+        };
+    }
+    feed_live(session, canvas, bytes, allowance)
+}
+
+fn ratio_for(raster: Raster, p1: Given) -> Ratio
+    ensures { λ r. ⌜ r ≡ ratioFor raster p1 ⌝ }
+{
+    if raster.ratio == 0 {
+        return Ratio::LeftToP1(p1);
+    }
+    Ratio::Raster(raster.ratio)
+}
+
+fn report_for(frame: Frame, settings: Settings) -> Report
+    ensures { λ r. ⌜ r ≡ reportedAs frame settings ⌝ }
+{
+    let sheet = frame.sheet;
+    let p1 = settings.p1;
+    let p2 = settings.p2;
+    Report {
+        width: sheet.width,
+        height: sheet.height,
+        right: sheet.right,
+        bottom: sheet.bottom,
+        ratio: ratio_for(frame.raster, p1),
+        transparent: is_transparent(p2),
+    }
+}
+
+fn refuse_finish(owner: Palette, refusal: Refusal) -> Finished
+    ensures { λ r. ⌜ r ≡ record { answer = Finishing.Refused refusal; palette = owner } ⌝ }
+{
+    Finished {
+        answer: Finishing::Refused(refusal),
+        palette: owner,
+    }
+}
+
+// Finishes a session that has passed 9 and 12.
+fn finish_live(session: Session, owner: Palette, canvas: &mut [u8]) -> Finished
+    requires { ⌜ Fits (session .frame) (session .ground) (length (now canvas)) ⌝ }
+    ensures { λ r. ⌜ (r, now (canvas .exit)) ≡ finishedLive session owner (now (canvas .entry)) ⌝ }
+{
+    let palette = session.palette;
+    let frame = session.frame;
+    let ground = session.ground;
+    let settings = session.settings;
+    let mut colors = palette.table();
+    let ended = end_command(frame, ground, &mut colors);
+    let outcome = ended.outcome;
+    let last = ended.frame;
+    if let Outcome::Refused(refusal) = outcome {
+        return refuse_finish(owner, refusal);
+    }
+    if let Judged::Refused(refusal) = final_refusal(last.sheet, ground) {
+        return refuse_finish(owner, refusal);
+    }
+    let old = frame.sheet;
+    let new = last.sheet;
+    let background = ground.background;
+    canvas::grow(
+        canvas,
+        ground.stride,
+        old.width,
+        old.height,
+        new.width,
+        new.height,
+        background,
+    );
+    Finished {
+        answer: Finishing::Picture(report_for(last, settings)),
+        palette: Palette::of_table(colors),
+    }
+}
+
+// Carries the pending command out and reports. The session is gone; its palette becomes the owner's where this succeeds.
+pub fn finish(session: Session, owner: Palette, canvas: &mut [u8]) -> Finished
+    ensures { λ r. ⌜ (r, now (canvas .exit)) ≡ finishedBy session owner (now (canvas .entry)) ⌝ }
+{
+    if let Judged::Refused(refusal) = finish_refusal(session, canvas.len()) {
+        return refuse_finish(owner, refusal);
+    }
+    finish_live(session, owner, canvas)
+}
+
+// Drops a session: the owner's palette is as it was.
+pub fn abort(session: Session, owner: Palette) -> Palette
+    ensures { λ r. ⌜ r ≡ owner ⌝ }
+{
+    owner
+}
