@@ -1,22 +1,21 @@
 -- What the search finds is what document 01 says: introducer, header and part.
-use Prim.Native.Nat.{ℕ, zero, suc, _+_, _-_, _≤_, _<_}
+use Prim.Native.Nat.{ℕ, zero, suc, _+_, _≤_}
 use mathlib.Core.Bool.{Bool, true, false, cond, _&&_, _||_}
 use mathlib.Core.List.{List, [], _∷_, _++_}
 use mathlib.Core.Option.{Option, none, some, Option·map}
 use mathlib.Core.Path.{_≡_, refl, sym, ap, ap₂, subst, _∙_}
 use native.Mathlib.Nat.{zero-add}
-use native.Mathlib.Numerals.{add-one}
 use native.Mathlib.Omega.{arith}
 use borrow.Author.Tests.{lt-ltb, le-ltb, ltb-true, ltb-false, eqb-true}
 use lib.Dec.{ltb, eqb}
-use lib.ListN.{length, getD, getElem?, take, drop, length-drop, List·getD-eq-default}
-use lib.Seq.{drop-drop, take-all}
+use lib.ListN.{length, getD, getElem?, drop, length-drop}
+use lib.Seq.{drop-drop}
 use Rattle.numbers.specs.Bytes.{skipped, digit, ends, semicolon}
 use Rattle.numbers.specs.Values.{held16, values}
 use Rattle.numbers.specs.Read.{Read}
-use Rattle.numbers.specs.Step.{opened, pushed, finished, valueAt}
+use Rattle.numbers.specs.Step.{opened, pushed, finished}
 use Rattle.numbers.specs.declared.Parameters.{Parameters}
-use Rattle.numbers.proofs.Laws.{cond-yes, cond-no}
+use Rattle.numbers.proofs.Laws.{cond-yes}
 use Rattle.numbers.proofs.Reading.{read-none, read-push, read-skipped, read-count, read-value}
 use Rattle.canvas.proofs.Covers.{and-right, by-test}
 use Rattle.frame.specs.Numbers.{numberOf}
@@ -24,7 +23,6 @@ use Rattle.meaning.specs.Commands.{ofValues}
 use Rattle.meaning.specs.OneShot as meaning
 use Rattle.meaning.specs.OneShot.{afterIntroducer, findPayload}
 use Rattle.meaning.specs.Sessions.{HeaderByte, goesOn, settles, wrong, headerByte, parametersOf}
-use Rattle.payload.specs.declared.Given.{Given}
 use Rattle.payload.specs.declared.Given.the-variants.{Nothing, Number}
 use Rattle.payload.specs.declared.Settings.{Settings}
 use Rattle.oneshot.specs.declared.search.Found.{Found}

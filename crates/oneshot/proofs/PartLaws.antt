@@ -1,7 +1,7 @@
 -- The part that is handed back.
-use Prim.Native.Nat.{ℕ, _-_, _≤_}
-use mathlib.Core.Bool.{Bool, true, false, cond}
-use mathlib.Core.List.{List, [], _∷_}
+use Prim.Native.Nat.{ℕ, _-_}
+use mathlib.Core.Bool.{Bool, true, false}
+use mathlib.Core.List.{List, []}
 use mathlib.Core.Path.{_≡_, refl, sym, ap, _∙_}
 use native.Mathlib.Omega.{arith}
 use lib.ListN.{length, take, drop, length-drop}
@@ -10,8 +10,7 @@ use Rattle.numbers.proofs.Laws.{cond-yes, cond-no}
 use Rattle.frame.specs.declared.Limits.{Limits}
 use Rattle.frame.specs.declared.Refusal.{Refusal}
 use Rattle.meaning.specs.Calls.{ranges, limitsHold, opens, partHandedBack}
-use Rattle.meaning.specs.OneShot as meaning
-use Rattle.meaning.specs.OneShot.{findPayload, partOf}
+use Rattle.meaning.specs.OneShot.{partOf}
 use Rattle.payload.specs.declared.Settings.{Settings}
 use Rattle.payload.specs.Judge.{inRange, limitsFit, openable}
 use Rattle.oneshot.specs.declared.search.Found.{Found}

@@ -1,24 +1,20 @@
 -- One feed of a live session, in the definition's terms: it goes on, or it has come to what reading the rest comes to.
-use Prim.Native.Nat.{ℕ, zero, suc, _+_, _-_, _*_, _≤_, _<_}
-use mathlib.Core.Bool.{Bool, true, false, cond, not, _&&_, _||_}
+use Prim.Native.Nat.{ℕ, zero, suc, _*_, _≤_, _<_}
+use mathlib.Core.Bool.{false, cond}
 use mathlib.Core.List.{List, [], _∷_, _++_, append-nil}
 use mathlib.Core.Option.{Option, none, some}
-use mathlib.Core.Path.{_≡_, refl, sym, ap, ap₂, subst, _∙_}
+use mathlib.Core.Path.{_≡_, refl, sym, ap, _∙_}
 use native.Mathlib.Omega.{arith}
-use borrow.Author.Tests.{eq-eqb, le-leb, le-ltb}
-use lib.Dec.{leb, ltb, eqb}
+use borrow.Author.Tests.{le-ltb}
 use lib.ListN.{length, take, drop}
-use lib.Seq.{drop-drop}
-use Rattle.canvas.specs.Picture.{rowsOf, fits}
 use Rattle.meaning.specs.Calls as calls
-use Rattle.meaning.specs.Drawing as drawing
 use Rattle.meaning.specs.Reader.{How, readAll, stopped, halted, refusedBy, isRefused, Run, still, after, readFrom, call}
 use Rattle.meaning.specs.Sessions.{Reading, rested, payloadStep, finishReading}
-use Rattle.meaning.specs.Payload as meant
-use Rattle.meaning.proofs.CallLaws.{StoppedAt, call-consumed, call-plain, call-stopped-at, onward, call-onward}
+use Rattle.meaning.proofs.CallLaws.{StoppedAt, call-stopped-at, onward, call-onward}
 use Rattle.meaning.proofs.Demand3.{payload-rests, payload-halts, payload-caps}
 use Rattle.payload.specs.declared.Session.{Session}
-use Rattle.payload.specs.History.{settingMeant, howTold, Stands}
+use Rattle.payload.specs.History.{howTold, Stands}
+use Rattle.payload.proofs.Standing.{fed-meant, finished-meant, stands-fit}
 
 -- the allowance of each feed
 abbrev pub allowance : ℕ
@@ -33,20 +29,8 @@ pub record Lives (opening : List ℕ) (s : Session) (l : List ℕ) (m : calls.Se
 -- ---- 9, 12 and 13 are never given
 
 module _ {opening : List ℕ} {s : Session} {l : List ℕ} {m : calls.Session Reading} (k : Lives opening s l m) where
-  rows-meant : m .setting .rows ≡ rowsOf (length l) (m .setting .stride)
-  unfolding settingMeant calls.settingFor
-  rows-meant =
-      ap (λ (x : drawing.Setting). x .rows) (k .stands .setting)
-      ∙ ap₂ rowsOf (sym (k .stands .long) ∙ sym (k .kept)) (sym (ap (λ (x : drawing.Setting). x .stride) (k .stands .setting)))
-
-  room : fits (m .setting .stride) (length l) (m .state .drawing .area) ≡ true
-  unfolding fits
-  room =
-      rw (le-leb _ _ (k .stands .drawing .sound .fits .stride), ← rows-meant, le-leb _ _ (k .stands .drawing .sound .fits .rows)) refl
-
   fitting : calls.misfits (λ (r : Reading). r .drawing .area) m (length l) ≡ false
-  unfolding calls.misfits
-  fitting = rw (eq-eqb _ _ (k .kept), room) refl
+  fitting = ap (calls.misfits (λ (r : Reading). r .drawing .area) m) (k .kept) ∙ stands-fit (k .stands)
 
   pub unrefused : calls.feedRefusal (λ (r : Reading). r .drawing .area) m (length l) allowance ≡ none
   unfolding calls.feedRefusal calls.firstOf
@@ -58,9 +42,7 @@ module _ {opening : List ℕ} {s : Session} {l : List ℕ} {m : calls.Session Re
 
   -- so finishing finishes the reading
   pub finish-lives : calls.finishPayload m (length l) ≡ finishReading (m .setting) (m .state)
-  unfolding calls.finishPayload calls.finishSession
-  finish-lives =
-      ap (λ (o : Option ℕ). elim o as (λ _. meant.Finished) [ none ↦ finishReading (m .setting) (m .state) | some n ↦ meant.turnedDown n ]) unjudged
+  finish-lives = finished-meant m (length l) unjudged
 
 -- ---- what a feed of the definition tells
 
@@ -124,15 +106,8 @@ module _ (m : calls.Session Reading) (q : Run Reading) where
 -- a feed of the definition is the answer to its run
 module _ {opening : List ℕ} {s : Session} {l : List ℕ} {m : calls.Session Reading} (k : Lives opening s l m) (bs : List ℕ) where
   fed-told : calls.feedPayload m (length l) allowance bs ≡ told m (fedRun m bs) (fedRun m bs .how)
-  unfolding calls.feedPayload calls.feed told
-  fed-told =
-      ap
-      (λ (o : Option ℕ).
-      elim o as (λ _. calls.Fed Reading ℕ) [
-        | none ↦ calls.answered (λ (r : Reading). r .over) m (fedRun m bs)
-        | some n ↦ record { answer = calls.refused n; session = m }
-      ])
-      (unrefused k)
+  unfolding told
+  fed-told = fed-meant m (length l) allowance bs (unrefused k)
 
   pub fed-how : plain (howTold (calls.feedPayload m (length l) allowance bs .answer)) ≡ plain (fedRun m bs .how)
   fed-how = ap (λ (x : calls.Fed Reading ℕ). plain (howTold (x .answer))) fed-told ∙ told-how m (fedRun m bs) (fedRun m bs .how)

@@ -2,66 +2,46 @@ use Rattle.oneshot.proofs.WholeLaws.{wholes}
 use borrow.Author.Needs.{needs}
 use Rattle.oneshot.proofs.read.Statement.{statement}
 use Rattle.oneshot.proofs.read.Tie as tie
-use Rattle.oneshot.proofs.read.Reads as reads
-use Rattle.oneshot.proofs.read.Lts as lts
-use Rattle.oneshot.proofs.read_part.Reads as read-part-reads
-use Rattle.oneshot.proofs.refuse.Reads as refuse-reads
-use Rattle.oneshot.proofs.search.find.Reads as find-reads
-use Rattle.payload.proofs.judge.may_open.Reads as may-open-reads
 
--- src/lib.rt:90:8
 may-open-requires : tie.Need-may-open-requires
 may-open-requires c κs = search needs
 
--- src/lib.rt:91:15
 find-requires : tie.Need-find-requires
 find-requires c κs = search needs
 
--- src/lib.rt:92:30
 enum-known-from : tie.Need-enum-known-from
 enum-known-from c = search needs
 
--- src/lib.rt:93:77
 sub-read-part : tie.Need-sub-read-part
 sub-read-part c = search (needs, wholes)
 
--- src/lib.rt:93:77
 part-read-part-start : tie.Need-part-read-part-start
 part-read-part-start c = search (needs, wholes)
 
--- src/lib.rt:93:77
 part-read-part-end : tie.Need-part-read-part-end
 part-read-part-end c = search needs
 
--- src/lib.rt:93:17
 read-part-requires : tie.Need-read-part-requires
 read-part-requires c κs = search (needs, wholes)
 
--- src/lib.rt:93:17
 same-length : tie.Need-same-length
 same-length c = search needs
 
--- src/lib.rt:93:17
 returns : tie.Need-returns
 returns c = search (needs, wholes)
 
--- src/lib.rt:95:28
 enum-known-refusal : tie.Need-enum-known-refusal
 enum-known-refusal c = search needs
 
--- src/lib.rt:95:40
 refuse-requires : tie.Need-refuse-requires
 refuse-requires c κs = search needs
 
--- src/lib.rt:95:40
 returns-2 : tie.Need-returns-2
 returns-2 c = search (needs, wholes)
 
--- src/lib.rt:98:5
 refuse-requires-2 : tie.Need-refuse-requires-2
 refuse-requires-2 c κs = search needs
 
--- src/lib.rt:81:1
 returns-3 : tie.Need-returns-3
 returns-3 c = search (needs, wholes)
 

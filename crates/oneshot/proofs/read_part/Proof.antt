@@ -3,15 +3,10 @@ use Prim.Native.Nat.{_+_, _-_, _≤_}
 use native.Mathlib.Omega.{arith}
 use denote.Ref.{now}
 use lib.ListN.{length}
-use Rattle.oneshot.proofs.ReadLaws.{parts-read, Midway}
+use Rattle.oneshot.proofs.FeedLaws.{Midway}
+use Rattle.oneshot.proofs.ReadLaws.{parts-read}
 use Rattle.oneshot.proofs.read_part.Statement.{statement}
 use Rattle.oneshot.proofs.read_part.Tie as tie
-use Rattle.oneshot.proofs.read_part.Reads as reads
-use Rattle.oneshot.proofs.read_part.Lts as lts
-use Rattle.oneshot.proofs.refuse.Reads as refuse-reads
-use Rattle.payload.proofs.feed.Reads as feed-reads
-use Rattle.payload.proofs.finish.Reads as finish-reads
-use Rattle.payload.proofs.open.Reads as open-reads
 
 abbrev Inv-loop : tie.InvT-loop
 Inv-loop stride palette canvas₀ part session₀ at₀ canvas session at = Midway session₀ canvas₀ part canvas session at
@@ -19,74 +14,57 @@ Inv-loop stride palette canvas₀ part session₀ at₀ canvas session at = Midw
 abbrev μ-loop : tie.MeasureT-loop
 μ-loop stride palette canvas₀ part session₀ at₀ canvas session at = length part - at
 
--- src/lib.rt:64:9
 open-requires : tie.Need-open-requires Inv-loop μ-loop
 open-requires c κs = search (needs, parts-read)
 
--- src/lib.rt:67:5
 loop-holds : tie.Need-loop-holds Inv-loop μ-loop
 loop-holds c = search (needs, parts-read)
 
--- src/lib.rt:68:41
 sub-feed : tie.Need-sub-feed Inv-loop μ-loop
 sub-feed c = search (needs, parts-read)
 
--- src/lib.rt:68:41
 part-feed-start : tie.Need-part-feed-start Inv-loop μ-loop
 part-feed-start c = search (needs, parts-read)
 
--- src/lib.rt:68:41
 part-feed-end : tie.Need-part-feed-end Inv-loop μ-loop
 part-feed-end c = search (needs, parts-read)
 
--- src/lib.rt:68:13
 feed-requires : tie.Need-feed-requires Inv-loop μ-loop
 feed-requires c κs = search (needs, parts-read)
 
--- src/lib.rt:72:31
 enum-known-answer : tie.Need-enum-known-answer Inv-loop μ-loop
 enum-known-answer c = search (needs, parts-read)
 
--- src/lib.rt:72:53
 add-at : tie.Need-add-at Inv-loop μ-loop
 add-at c =
     let start = c .before .before .before .before .before .before .before .before .before .before .before .before .before .before .before .before .before in
     let within : c .before .before .before .before .before .before .before .before .before .loop .at + c .before .answer .given .0 .0 ≤ length (now (start .args .part)) = search (parts-read, start .pre, c .before .before .before .before .before .before .before .before .before .before .before .before .before .«open» .ensures, c .before .before .before .before .before .before .before .before .before .loop .inv) in
     omega (arith, within, start .good .1 .1 .1 .1 .1 .0 .0)
 
--- src/lib.rt:67:5
 loop-less : tie.Need-loop-less Inv-loop μ-loop
 loop-less c = search (needs, parts-read)
 
--- src/lib.rt:67:5
 loop-again : tie.Need-loop-again Inv-loop μ-loop
 loop-again c = search (needs, parts-read)
 
--- src/lib.rt:73:29
 enum-known-answer-2 : tie.Need-enum-known-answer-2 Inv-loop μ-loop
 enum-known-answer-2 c = search (needs, parts-read)
 
--- src/lib.rt:73:41
 refuse-requires : tie.Need-refuse-requires Inv-loop μ-loop
 refuse-requires c κs = search (needs, parts-read)
 
--- src/lib.rt:73:41
 same-length : tie.Need-same-length Inv-loop μ-loop
 same-length c = search (needs, parts-read)
 
--- src/lib.rt:73:41
 returns : tie.Need-returns Inv-loop μ-loop
 returns c = search (needs, parts-read)
 
--- src/lib.rt:74:18
 finish-requires : tie.Need-finish-requires Inv-loop μ-loop
 finish-requires c κs = search (needs, parts-read)
 
--- src/lib.rt:74:18
 same-length-2 : tie.Need-same-length-2 Inv-loop μ-loop
 same-length-2 c = search (needs, parts-read)
 
--- src/lib.rt:74:18
 returns-2 : tie.Need-returns-2 Inv-loop μ-loop
 returns-2 c = search (needs, parts-read)
 

@@ -2,28 +2,19 @@ use Rattle.oneshot.proofs.SearchLaws.{header-ends}
 use borrow.Author.Needs.{needs}
 use Rattle.oneshot.proofs.search.header_end.Statement.{statement}
 use Rattle.oneshot.proofs.search.header_end.Tie as tie
-use Rattle.oneshot.proofs.search.header_end.Reads as reads
-use Rattle.oneshot.proofs.search.header_end.Lts as lts
-use Rattle.numbers.proofs.ends_payload.Reads as ends-payload-reads
-use Rattle.oneshot.proofs.search.settings_of.Reads as settings-of-reads
 
--- src/search.rt:105:23
 settings-of-requires : tie.Need-settings-of-requires
 settings-of-requires c κs = search needs
 
--- src/search.rt:103:9
 returns : tie.Need-returns
 returns c = search (needs, header-ends)
 
--- src/search.rt:108:8
 ends-payload-requires : tie.Need-ends-payload-requires
 ends-payload-requires c κs = search needs
 
--- src/search.rt:109:9
 returns-2 : tie.Need-returns-2
 returns-2 c = search (needs, header-ends)
 
--- src/search.rt:99:1
 returns-3 : tie.Need-returns-3
 returns-3 c = search (needs, header-ends)
 

@@ -5,9 +5,6 @@ use lib.ListN.{length}
 use native.Mathlib.Omega.{arith}
 use Rattle.oneshot.proofs.search.header_start.Statement.{statement}
 use Rattle.oneshot.proofs.search.header_start.Tie as tie
-use Rattle.oneshot.proofs.search.header_start.Reads as reads
-use Rattle.oneshot.proofs.search.header_start.Lts as lts
-use Rattle.oneshot.proofs.search.introducer_length.Reads as introducer-length-reads
 
 abbrev Inv-loop : tie.InvT-loop
 Inv-loop bytes at₀ at = Looking bytes at
@@ -15,35 +12,27 @@ Inv-loop bytes at₀ at = Looking bytes at
 abbrev μ-loop : tie.MeasureT-loop
 μ-loop bytes at₀ at = length bytes - at
 
--- src/search.rt:52:9
 loop-holds : tie.Need-loop-holds Inv-loop μ-loop
 loop-holds c = search (needs, lookings)
 
--- src/search.rt:54:13
 returns : tie.Need-returns Inv-loop μ-loop
 returns c = search (needs, lookings)
 
--- src/search.rt:56:13
 introducer-length-requires : tie.Need-introducer-length-requires Inv-loop μ-loop
 introducer-length-requires c κs = search (needs, lookings)
 
--- src/search.rt:58:19
 add-place : tie.Need-add-place Inv-loop μ-loop
 add-place c = omega (arith, introducer-short _ (c .before .introducer-length .ensures), c .before .before .before .before .before .good .0 .1)
 
--- src/search.rt:60:9
 add-at : tie.Need-add-at Inv-loop μ-loop
 add-at c = search (needs, lookings)
 
--- src/search.rt:52:9
 loop-less : tie.Need-loop-less Inv-loop μ-loop
 loop-less c = search (needs, lookings)
 
--- src/search.rt:52:9
 loop-again : tie.Need-loop-again Inv-loop μ-loop
 loop-again c = search (needs, lookings)
 
--- src/search.rt:48:1
 returns-2 : tie.Need-returns-2 Inv-loop μ-loop
 returns-2 c = search (needs, lookings)
 

@@ -2,28 +2,19 @@ use Rattle.oneshot.proofs.SearchLaws.{in-headers}
 use borrow.Author.Needs.{needs}
 use Rattle.oneshot.proofs.search.in_header.Statement.{statement}
 use Rattle.oneshot.proofs.search.in_header.Tie as tie
-use Rattle.oneshot.proofs.search.in_header.Reads as reads
-use Rattle.oneshot.proofs.search.in_header.Lts as lts
-use Rattle.numbers.proofs.is_digit.Reads as is-digit-reads
-use Rattle.numbers.proofs.is_skipped.Reads as is-skipped-reads
 
--- src/search.rt:89:8
 is-skipped-requires : tie.Need-is-skipped-requires
 is-skipped-requires c κs = search needs
 
--- src/search.rt:90:9
 returns : tie.Need-returns
 returns c = search (needs, in-headers)
 
--- src/search.rt:92:8
 is-digit-requires : tie.Need-is-digit-requires
 is-digit-requires c κs = search needs
 
--- src/search.rt:93:9
 returns-2 : tie.Need-returns-2
 returns-2 c = search (needs, in-headers)
 
--- src/search.rt:86:1
 returns-3 : tie.Need-returns-3
 returns-3 c = search (needs, in-headers)
 
