@@ -1,0 +1,7 @@
+pub mod SearchLaws
+pub mod FoundLaws
+pub mod PartLaws
+pub mod StandLaws
+pub mod FeedLaws
+pub mod ReadLaws
+pub mod WholeLaws

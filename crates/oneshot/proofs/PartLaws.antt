@@ -1,0 +1,52 @@
+-- The part that is handed back.
+use Prim.Native.Nat.{ℕ, _-_}
+use mathlib.Core.Bool.{Bool, true, false}
+use mathlib.Core.List.{List, []}
+use mathlib.Core.Path.{_≡_, refl, sym, ap, _∙_}
+use native.Mathlib.Omega.{arith}
+use lib.ListN.{length, take, drop, length-drop}
+use lib.Seq.{take-all}
+use Rattle.numbers.proofs.Laws.{cond-yes, cond-no}
+use Rattle.frame.specs.declared.Limits.{Limits}
+use Rattle.frame.specs.declared.Refusal.{Refusal}
+use Rattle.meaning.specs.Calls.{ranges, limitsHold, opens, partHandedBack}
+use Rattle.meaning.specs.OneShot.{partOf}
+use Rattle.payload.specs.declared.Settings.{Settings}
+use Rattle.payload.specs.Judge.{inRange, limitsFit, openable}
+use Rattle.oneshot.specs.declared.search.Found.{Found}
+use Rattle.oneshot.specs.declared.search.Found.the-variants.{Payload, Refused}
+use Rattle.payload.specs.History.{limitsMeant}
+use Rattle.oneshot.specs.OneShot.{foundMeant}
+use Rattle.oneshot.specs.Search.{foundIn}
+use Rattle.oneshot.proofs.FoundLaws.{found-meant, payload-within}
+
+-- the same openings
+pub opens-meant : (l : Limits) (stride size : ℕ) → openable l stride size ≡ opens (limitsMeant l) stride size
+unfolding openable limitsFit inRange opens limitsHold ranges limitsMeant
+opens-meant l stride size = refl
+
+module _ {t : Bool} (l : Limits) (stride size : ℕ) (bytes : List ℕ) (e : t ≡ openable l stride size) where
+  pub part-closed : t ≡ false → [] ≡ partHandedBack (limitsMeant l) stride size bytes
+  unfolding partHandedBack
+  part-closed h = sym (cond-no _ _ (sym (opens-meant l stride size) ∙ sym e ∙ h))
+
+  module _ {f : Found} (h : t ≡ true) (k : f ≡ foundIn bytes) where
+    part-open : partOf (foundMeant bytes f) ≡ partHandedBack (limitsMeant l) stride size bytes
+    unfolding partHandedBack
+    part-open =
+        ap (λ (x : Found). partOf (foundMeant bytes x)) k
+        ∙ ap partOf (found-meant bytes)
+        ∙ sym (cond-yes _ _ (sym (opens-meant l stride size) ∙ sym e ∙ h))
+
+    pub part-found : {from : ℕ} {o : Settings} → f ≡ Payload from o → take (length bytes - from) (drop from bytes) ≡ partHandedBack (limitsMeant l) stride size bytes
+    unfolding partOf foundMeant
+    part-found {from} m =
+        take-all (length bytes - from) (drop from bytes) (rw (length-drop from bytes) (omega arith))
+        ∙ ap (λ (x : Found). partOf (foundMeant bytes x)) (sym m)
+        ∙ part-open
+
+    pub part-refused : {n : Refusal} → f ≡ Refused n → [] ≡ partHandedBack (limitsMeant l) stride size bytes
+    unfolding partOf foundMeant
+    part-refused m = ap (λ (x : Found). partOf (foundMeant bytes x)) (sym m) ∙ part-open
+
+pub ruleset parts = (payload-within, part-closed, part-found, part-refused)

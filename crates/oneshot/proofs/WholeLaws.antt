@@ -1,0 +1,147 @@
+-- Reading all at once: one law for each way through it.
+use Prim.Native.Nat.{ℕ, _-_}
+use mathlib.Core.Bool.{Bool, true, false, cond}
+use mathlib.Core.List.{List, []}
+use mathlib.Core.Path.{_≡_, refl, sym, ap, _∙_}
+use lib.ListN.{length, take, drop}
+use Rattle.colours.specs.declared.Palette.{Palette}
+use Rattle.frame.specs.Numbers.{numberOf}
+use Rattle.frame.specs.declared.Limits.{Limits}
+use Rattle.frame.specs.declared.Refusal.{Refusal}
+use Rattle.frame.specs.declared.Refusal.the-variants as refusals
+use Rattle.meaning.specs.Calls.{opens, settingFor, shown, drawingFound, oneShotShown, readOneShot, partHandedBack}
+use Rattle.meaning.specs.Drawing as drawing
+use Rattle.meaning.specs.Drawing.{Setting}
+use Rattle.meaning.specs.OneShot as meaning
+use Rattle.meaning.specs.Payload as meant
+use Rattle.payload.specs.declared.Finished.{Finished}
+use Rattle.payload.specs.declared.Finishing.the-variants as finishes
+use Rattle.payload.specs.declared.Settings.{Settings}
+use Rattle.payload.specs.History.{parametersMeant, limitsMeant, settingMeant}
+use Rattle.payload.specs.Judge.{openable}
+use Rattle.oneshot.specs.declared.search.Found.{Found}
+use Rattle.oneshot.specs.declared.search.Found.the-variants.{Payload, Refused}
+use Rattle.oneshot.specs.OneShot.{foundMeant, Read, paletteAfter, readWhole, readOutcome, readPart, finishMeant, readMeant}
+use Rattle.oneshot.specs.Search.{foundIn}
+use Rattle.oneshot.proofs.FoundLaws.{found-meant, payload-within}
+use Rattle.oneshot.proofs.PartLaws.{opens-meant}
+use Rattle.oneshot.proofs.FeedLaws.{rest-all}
+
+-- what was found, read
+foundRead : Setting → Palette → List ℕ → meaning.Found → Read
+foundRead s p canvas f =
+    record {
+      answer = meaning.answerOf s p f;
+      palette = paletteAfter (meaning.answerOf s p f) p;
+      canvas = shown (s .stride) (drawingFound s p f) canvas;
+    }
+
+-- where no session can be opened
+notOpened : Palette → List ℕ → Read
+notOpened p canvas = record { answer = meant.turnedDown 11; palette = p; canvas = canvas }
+
+-- what it comes to, by whether a session can be opened
+module _ {t : Bool} (l : drawing.Limits) (stride : ℕ) (p : Palette) (canvas bytes : List ℕ) (e : opens l stride (length canvas) ≡ t) where
+  by-opening : cond t (foundRead (settingFor l stride (length canvas)) p canvas (meaning.findPayload bytes)) (notOpened p canvas) ≡ readWhole l stride p canvas bytes
+  unfolding foundRead notOpened readWhole readOneShot oneShotShown meaning.oneShot settingFor paletteAfter
+  by-opening =
+      go t
+      ∙ ap (λ (u : Bool). readIn (cond u answered (meant.turnedDown 11)) (cond u (shown stride (drawingFound setting p found) canvas) canvas)) (sym e)
+    where
+      setting : Setting
+      setting = settingFor l stride (length canvas)
+
+      found : meaning.Found
+      found = meaning.findPayload bytes
+
+      answered : meant.Finished
+      answered = meaning.answerOf setting p found
+
+      readIn : meant.Finished → List ℕ → Read
+      readIn a c = record { answer = a; palette = paletteAfter a p; canvas = c }
+
+      go : (u : Bool) → cond u (foundRead setting p canvas found) (notOpened p canvas)
+          ≡ readIn (cond u answered (meant.turnedDown 11)) (cond u (shown stride (drawingFound setting p found) canvas) canvas)
+      go true = refl
+      go false = refl
+
+  handed : cond t (meaning.partOf (meaning.findPayload bytes)) [] ≡ partHandedBack l stride (length canvas) bytes
+  unfolding partHandedBack
+  handed = ap (λ (u : Bool). cond u (meaning.partOf (meaning.findPayload bytes)) []) (sym e)
+
+-- ---- the part and the answer agree
+
+module _ (l : drawing.Limits) (stride : ℕ) (p : Palette) (canvas bytes : List ℕ) where
+  -- where a payload is found, the part that is handed back is the part that is read, with its parameters
+  pub part-read : {o : meant.Parameters} {part : List ℕ} → opens l stride (length canvas) ≡ true → meaning.findPayload bytes ≡ meaning.found o part
+      → (partHandedBack l stride (length canvas) bytes ≡ part) × (readWhole l stride p canvas bytes ≡ readPart (settingFor l stride (length canvas)) o p canvas part)
+  unfolding foundRead readPart readOutcome meaning.answerOf meaning.partOf drawingFound
+  part-read e f = (
+    sym (handed l stride p canvas bytes e) ∙ ap meaning.partOf f,
+    sym (by-opening l stride p canvas bytes e) ∙ ap (foundRead (settingFor l stride (length canvas)) p canvas) f,
+  )
+
+  -- where none is, or no session can be opened, the part is empty, the answer is the refusal, and palette and canvas are as they were
+  pub part-missing : {n : ℕ} → opens l stride (length canvas) ≡ true → meaning.findPayload bytes ≡ meaning.missing n
+      → (partHandedBack l stride (length canvas) bytes ≡ []) × (readWhole l stride p canvas bytes ≡ record { answer = meant.turnedDown n; palette = p; canvas = canvas })
+  unfolding foundRead paletteAfter shown meaning.answerOf meaning.partOf drawingFound
+  part-missing e f = (
+    sym (handed l stride p canvas bytes e) ∙ ap meaning.partOf f,
+    sym (by-opening l stride p canvas bytes e) ∙ ap (foundRead (settingFor l stride (length canvas)) p canvas) f,
+  )
+
+  pub part-unopened : opens l stride (length canvas) ≡ false
+      → (partHandedBack l stride (length canvas) bytes ≡ []) × (readWhole l stride p canvas bytes ≡ record { answer = meant.turnedDown 11; palette = p; canvas = canvas })
+  unfolding notOpened
+  part-unopened e = (sym (handed l stride p canvas bytes e), sym (by-opening l stride p canvas bytes e))
+
+-- ---- one law for each way through the code
+
+module _ {t : Bool} (l : Limits) (stride : ℕ) (p : Palette) (canvas bytes : List ℕ) (e : t ≡ openable l stride (length canvas)) where
+  known : opens (limitsMeant l) stride (length canvas) ≡ t
+  known = sym (e ∙ opens-meant l stride (length canvas))
+
+  coded : cond t (foundRead (settingMeant l stride (length canvas)) p canvas (meaning.findPayload bytes)) (notOpened p canvas) ≡ readWhole (limitsMeant l) stride p canvas bytes
+  unfolding settingMeant
+  coded = by-opening (limitsMeant l) stride p canvas bytes known
+
+  pub open-known : t ≡ true → openable l stride (length canvas) ≡ true
+  open-known h = sym e ∙ h
+
+  -- 11
+  pub whole-unopened : {r : Finished} → t ≡ false → r ≡ record { answer = finishes.Refused refusals.Opening; palette = p }
+      → readMeant r canvas ≡ readWhole (limitsMeant l) stride p canvas bytes
+  unfolding readMeant finishMeant numberOf notOpened
+  whole-unopened h k =
+      ap (λ (z : Finished). readMeant z canvas) k
+      ∙ ap (λ (u : Bool). cond u (foundRead (settingMeant l stride (length canvas)) p canvas (meaning.findPayload bytes)) (notOpened p canvas)) (sym h)
+      ∙ coded
+
+  module _ {f : Found} (h : t ≡ true) (g : f ≡ foundIn bytes) where
+    found-whole : foundRead (settingMeant l stride (length canvas)) p canvas (foundMeant bytes f) ≡ readWhole (limitsMeant l) stride p canvas bytes
+    found-whole =
+        ap (foundRead (settingMeant l stride (length canvas)) p canvas) (ap (foundMeant bytes) g ∙ found-meant bytes)
+        ∙ ap (λ (u : Bool). cond u (foundRead (settingMeant l stride (length canvas)) p canvas (meaning.findPayload bytes)) (notOpened p canvas)) (sym h)
+        ∙ coded
+
+    -- 2, 3 or 8
+    pub whole-refused : {n : Refusal} {r : Finished} → f ≡ Refused n → r ≡ record { answer = finishes.Refused n; palette = p }
+        → readMeant r canvas ≡ readWhole (limitsMeant l) stride p canvas bytes
+    unfolding readMeant finishMeant foundRead foundMeant meaning.answerOf drawingFound shown paletteAfter
+    whole-refused k m =
+        ap (λ (z : Finished). readMeant z canvas) m
+        ∙ ap (λ (x : Found). foundRead (settingMeant l stride (length canvas)) p canvas (foundMeant bytes x)) (sym k)
+        ∙ found-whole
+
+    -- a payload
+    pub whole-found : {from : ℕ} {o : Settings} {x : Read} → f ≡ Payload from o
+        → x ≡ readPart (settingMeant l stride (length canvas)) (parametersMeant o) p canvas (take (length bytes - from) (drop from bytes))
+        → x ≡ readWhole (limitsMeant l) stride p canvas bytes
+    unfolding readPart readOutcome foundRead foundMeant meaning.answerOf drawingFound
+    whole-found {from} {o} k m =
+        m
+        ∙ ap (readPart (settingMeant l stride (length canvas)) (parametersMeant o) p canvas) (rest-all bytes from)
+        ∙ ap (λ (x : Found). foundRead (settingMeant l stride (length canvas)) p canvas (foundMeant bytes x)) (sym k)
+        ∙ found-whole
+
+pub ruleset wholes = (payload-within, open-known, whole-unopened, whole-refused, whole-found)

@@ -1,0 +1,62 @@
+-- What the code's answers mean, and the whole outcome of reading all at once, in document 01's terms.
+use Prim.Native.Nat.{ℕ}
+use mathlib.Core.List.{List}
+use mathlib.Core.Option.{some}
+use lib.ListN.{length, drop}
+use Rattle.colours.specs.declared.Palette.{Palette}
+use Rattle.frame.specs.Numbers.{numberOf}
+use Rattle.meaning.specs.Calls.{shown, oneShotShown, readOneShot}
+use Rattle.meaning.specs.Drawing.{Limits, Setting, Outcome}
+use Rattle.meaning.specs.OneShot as meaning
+use Rattle.meaning.specs.Payload as meant
+use Rattle.payload.specs.declared.Finished.{Finished}
+use Rattle.payload.specs.declared.Finishing.{Finishing}
+use Rattle.payload.specs.declared.Finishing.the-variants as finishes
+use Rattle.payload.specs.History.{parametersMeant, reportMeant}
+use Rattle.oneshot.specs.declared.search.Found.{Found}
+use Rattle.oneshot.specs.declared.search.Found.the-variants.{Payload, Refused}
+
+-- what was found in some bytes: parameters and the part from a place on, or a refusal's number
+unfoldable pub foundMeant : List ℕ → Found → meaning.Found
+foundMeant bs (Payload from o) = meaning.found (parametersMeant o) (drop from bs)
+foundMeant bs (Refused n) = meaning.missing (numberOf n)
+
+-- the whole outcome of a reading: its answer, the owner's palette after it, and every byte of the canvas
+pub record Read : Type 0 where
+  pub answer : meant.Finished
+  pub palette : Palette
+  pub canvas : List ℕ
+
+-- the owner's palette becomes the picture's, and stays on a refusal
+unfoldable pub paletteAfter : meant.Finished → Palette → Palette
+paletteAfter (meant.finished r) owner = r .palette
+paletteAfter (meant.turnedDown n) owner = owner
+
+-- all at once
+unfoldable pub readWhole : Limits → ℕ → Palette → List ℕ → List ℕ → Read
+unfolding paletteAfter
+readWhole l stride p canvas bytes =
+    let answer : meant.Finished = readOneShot l stride (length canvas) p bytes in
+    record { answer = answer; palette = paletteAfter answer p; canvas = oneShotShown l stride (length canvas) p bytes canvas }
+
+-- what a payload's outcome is read as
+unfoldable pub readOutcome : Setting → meant.Parameters → Palette → List ℕ → Outcome → Read
+unfolding paletteAfter
+readOutcome s o p canvas out =
+    let answer : meant.Finished = meant.finish s o out in
+    record { answer = answer; palette = paletteAfter answer p; canvas = shown (s .stride) (some (out .drawing)) canvas }
+
+-- a payload that was found
+unfoldable pub readPart : Setting → meant.Parameters → Palette → List ℕ → List ℕ → Read
+unfolding readOutcome
+readPart s o p canvas part = readOutcome s o p canvas (meant.payload s o p part)
+
+-- an answer of the code, with the palette beside it: a report, or a refusal's number
+unfoldable pub finishMeant : Finishing → Palette → meant.Finished
+finishMeant (finishes.Picture r) p = meant.finished (reportMeant r p)
+finishMeant (finishes.Refused n) p = meant.turnedDown (numberOf n)
+
+-- what the code answers, with the canvas after it
+unfoldable pub readMeant : Finished → List ℕ → Read
+unfolding finishMeant
+readMeant r canvas = record { answer = finishMeant (r .answer) (r .palette); palette = r .palette; canvas = canvas }
