@@ -1,10 +1,15 @@
 // Replays the Rust's answers, stored in the file `answers`: blocks of records, each a case and what the Rust said of it.
-// The colours and the ratios of P1 are compared. Of the sessions, whose reader is yet to come, the records themselves are checked.
+// Payload sessions are put to the reader, on one owner's palette from record to record; colours and the ratios of P1 are
+// compared. Of DCS sessions and one-shot readings, whose readers are yet to come, the records themselves are checked.
 ghost use Prim.Native.Nat.{_-_, _≤_};
 
 mod record;
+mod session;
+mod trial;
 
+use colours::Palette;
 use libc::STDOUT_FILENO;
+use record::Owner;
 use record::Verdict;
 
 const BLOCK: usize = 65_536;
@@ -15,9 +20,13 @@ const FIRST: usize = 20;
 // A list has at most this many blocks, 4 MiB in all.
 const MOST_BLOCKS: u32 = 64;
 
+// Room for the list's largest picture on a canvas that is a column and a row larger.
+const ROOM: usize = 2_097_160;
+
 // What has been replayed so far.
 struct Tally {
     payload: u64,
+    left_out: u64,
     dcs: u64,
     one_shot: u64,
     compared: u64,
@@ -32,23 +41,62 @@ fn more(count: u64) -> u64 {
 impl Tally {
     fn with(mut self, verdict: Verdict) -> Tally {
         match verdict {
-            Verdict::Payload => self.payload = more(self.payload),
-            Verdict::Dcs => self.dcs = more(self.dcs),
-            Verdict::OneShot => self.one_shot = more(self.one_shot),
-            Verdict::Same => self.compared = more(self.compared),
-            Verdict::Differs => {
-                self.compared = more(self.compared);
-                self.differing = more(self.differing);
+            Verdict::Replayed(is_same) => {
+                self.payload = more(self.payload);
+                self.judged(is_same)
             }
-            Verdict::Faulty => self.faults = more(self.faults),
+            Verdict::Compared(is_same) => {
+                self.compared = more(self.compared);
+                self.judged(is_same)
+            }
+            Verdict::LeftOut => {
+                self.left_out = more(self.left_out);
+                self
+            }
+            Verdict::Dcs => {
+                self.dcs = more(self.dcs);
+                self
+            }
+            Verdict::OneShot => {
+                self.one_shot = more(self.one_shot);
+                self
+            }
+            Verdict::Faulty => {
+                self.faults = more(self.faults);
+                self
+            }
+        }
+    }
+
+    fn judged(mut self, is_same: bool) -> Tally {
+        if !is_same {
+            self.differing = more(self.differing);
         }
         self
     }
 
     fn cases(self) -> u64 {
-        let sessions = std::num::wrapping_add_u64(self.payload, self.dcs);
+        let payload = std::num::wrapping_add_u64(self.payload, self.left_out);
+        let sessions = std::num::wrapping_add_u64(payload, self.dcs);
         let readings = std::num::wrapping_add_u64(sessions, self.one_shot);
         std::num::wrapping_add_u64(readings, self.compared)
+    }
+}
+
+// The tally and the owner's palette, carried from record to record.
+struct State {
+    tally: Tally,
+    owner: Owner,
+}
+
+impl State {
+    fn faulty(self) -> State {
+        let tally = self.tally;
+        let owner = self.owner;
+        State {
+            tally: tally.with(Verdict::Faulty),
+            owner,
+        }
     }
 }
 
@@ -80,28 +128,41 @@ fn length_at(block: &[u8], at: usize) -> usize
     length
 }
 
-fn replay_block(block: &[u8], start: Tally) -> Tally {
+// One record more.
+fn replay_record(record: &[u8], buffer: &mut [u8], before: State) -> State {
+    let tally = before.tally;
+    let owner = before.owner;
+    let step = record::judge(record, buffer, owner);
+    let verdict = step.verdict;
+    let after = step.owner;
+    State {
+        tally: tally.with(verdict),
+        owner: after,
+    }
+}
+
+fn replay_block(block: &[u8], buffer: &mut [u8], start: State) -> State {
     if block.len() < FIRST {
-        return start.with(Verdict::Faulty);
+        return start.faulty();
     }
     let count = answers::number_at(block, 16);
-    let mut tally = start;
+    let mut state = start;
     let mut at = FIRST;
     for _ in 0..count {
         let length = length_at(block, at);
         if length == 0 {
-            return tally.with(Verdict::Faulty);
+            return state.faulty();
         }
-        tally = tally.with(record::judge(&block[at..at + length]));
+        state = replay_record(&block[at..at + length], buffer, state);
         at += length;
     }
-    tally
+    state
 }
 
 // What is known after a block.
 struct Turn {
     goes_on: bool,
-    tally: Tally,
+    state: State,
 }
 
 // Whether a block follows number `number` of `all`.
@@ -113,45 +174,57 @@ fn has_next(number: u32, all: u32) -> bool {
 }
 
 // Reads one block and replays it.
-fn next_block(fd: i32, number: u32, tally: Tally) -> Turn {
+fn next_block(fd: i32, number: u32, buffer: &mut [u8], state: State) -> Turn {
     let mut block = io::large_buffer();
     let got = io::read_full(fd, &mut block);
     if got < BLOCK {
         return Turn {
             goes_on: false,
-            tally: tally.with(Verdict::Faulty),
+            state: state.faulty(),
         };
     }
     if !is_sound(&block, number) {
         return Turn {
             goes_on: false,
-            tally: tally.with(Verdict::Faulty),
+            state: state.faulty(),
         };
     }
     let goes_on = has_next(number, answers::number_at(&block, 12));
     Turn {
         goes_on,
-        tally: replay_block(&block, tally),
+        state: replay_block(&block, buffer, state),
     }
 }
 
-fn replay_list(fd: i32) -> Tally {
-    let mut tally = Tally {
-        payload: 0,
-        dcs: 0,
-        one_shot: 0,
-        compared: 0,
-        differing: 0,
-        faults: 0,
-    };
+fn at_first() -> State {
+    let palette = Palette::standard();
+    State {
+        tally: Tally {
+            payload: 0,
+            left_out: 0,
+            dcs: 0,
+            one_shot: 0,
+            compared: 0,
+            differing: 0,
+            faults: 0,
+        },
+        owner: Owner {
+            palette,
+            is_known: true,
+        },
+    }
+}
+
+fn replay_list(fd: i32, buffer: &mut [u8]) -> Tally {
+    let mut state = at_first();
     for number in 0..MOST_BLOCKS {
-        let turn = next_block(fd, number, tally);
-        tally = turn.tally;
+        let turn = next_block(fd, number, buffer, state);
+        state = turn.state;
         if !turn.goes_on {
-            return tally;
+            return state.tally;
         }
     }
-    tally
+    state.tally
 }
 
 fn print_count(words: &[u8], count: u64) {
@@ -161,7 +234,11 @@ fn print_count(words: &[u8], count: u64) {
 }
 
 fn report(tally: Tally) {
-    print_count(b"payload sessions, record checked: ", tally.payload);
+    print_count(b"payload sessions, replayed: ", tally.payload);
+    print_count(
+        b"payload sessions on registers that a session not yet replayed has left, record checked: ",
+        tally.left_out,
+    );
     print_count(b"DCS sessions, record checked: ", tally.dcs);
     print_count(b"one-shot readings, record checked: ", tally.one_shot);
     print_count(b"colours and ratios, compared: ", tally.compared);
@@ -171,6 +248,10 @@ fn report(tally: Tally) {
     print_count(b", differences ", tally.differing);
 }
 
+fn room() -> [u8; ROOM] {
+    [0; ROOM]
+}
+
 fn main() {
     let path = b"answers";
     let fd = os::open_read(path);
@@ -178,6 +259,7 @@ fn main() {
         os::fail(path);
         return;
     }
-    report(replay_list(fd));
+    let mut buffer = room();
+    report(replay_list(fd, &mut buffer));
     libc::close(fd);
 }

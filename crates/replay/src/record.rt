@@ -1,4 +1,5 @@
 // One record: its kind stands in its fifth byte, and each kind has its fields at fixed places.
+use crate::trial;
 use colours::Palette;
 
 const PAYLOAD: u8 = 1;
@@ -15,7 +16,7 @@ const REGISTERS: u8 = 6;
 
 const RATIO: u8 = 7;
 
-fn byte_at(record: &[u8], at: usize) -> u8 {
+pub fn byte_at(record: &[u8], at: usize) -> u8 {
     if at < record.len() {
         return record[at];
     }
@@ -28,55 +29,105 @@ fn signed_at(record: &[u8], at: usize) -> i32 {
 
 // What is to be said of a record.
 pub enum Verdict {
+    // A session that was replayed, and was the Rust's or was not.
+    Replayed(bool),
+    // A payload session that starts from registers which are not known.
+    LeftOut,
     // A session whose record is whole, to be replayed once there is a reader.
-    Payload,
     Dcs,
     OneShot,
-    // A colour or a ratio that is the Rust's, and one that is not.
-    Same,
-    Differs,
+    // A colour or a ratio that is the Rust's, or is not.
+    Compared(bool),
     // A record that is not what it should be.
     Faulty,
 }
 
-fn compared(is_same: bool) -> Verdict {
-    if is_same {
-        return Verdict::Same;
-    }
-    Verdict::Differs
+// The owner's palette between two records. It is not known after a record that changed it and was not replayed.
+pub struct Owner {
+    pub palette: Palette,
+    pub is_known: bool,
 }
 
-fn session(kind: u8, record: &[u8]) -> Verdict {
+pub struct Step {
+    pub verdict: Verdict,
+    pub owner: Owner,
+}
+
+// The palette is that of the list exactly if its checksum is the one that the record has.
+fn step_to(verdict: Verdict, record: &[u8], palette: Palette) -> Step {
+    let is_known = registers_sum(palette) == answers::number_at(record, 68);
+    Step {
+        verdict,
+        owner: Owner { palette, is_known },
+    }
+}
+
+fn payload_session(record: &[u8], buffer: &mut [u8], owner: Owner) -> Step {
+    let palette = owner.palette;
+    if !owner.is_known {
+        return step_to(Verdict::LeftOut, record, palette);
+    }
+    let judged = trial::judge(record, buffer, palette);
+    let after = judged.palette;
+    step_to(Verdict::Replayed(judged.is_same), record, after)
+}
+
+// The owner's palette as a session's record starts.
+fn at_start(record: &[u8], owner: Owner) -> Owner {
+    if byte_at(record, 5) % 2 == 1 {
+        return Owner {
+            palette: Palette::standard(),
+            is_known: true,
+        };
+    }
+    owner
+}
+
+fn session(kind: u8, record: &[u8], buffer: &mut [u8], before: Owner) -> Step {
+    let owner = at_start(record, before);
+    let palette = owner.palette;
     if !is_session_whole(record) {
-        return Verdict::Faulty;
+        return step_to(Verdict::Faulty, record, palette);
     }
     if kind == PAYLOAD {
-        return Verdict::Payload;
+        return payload_session(record, buffer, owner);
     }
     if kind == DCS {
-        return Verdict::Dcs;
+        return step_to(Verdict::Dcs, record, palette);
     }
     if kind == ONE_SHOT {
-        return Verdict::OneShot;
+        return step_to(Verdict::OneShot, record, palette);
     }
-    Verdict::Faulty
+    step_to(Verdict::Faulty, record, palette)
 }
 
-pub fn judge(record: &[u8]) -> Verdict {
+pub fn judge(record: &[u8], buffer: &mut [u8], owner: Owner) -> Step {
     let kind = byte_at(record, 4);
+    if is_plain(kind) {
+        return Step {
+            verdict: Verdict::Compared(is_plain_same(kind, record)),
+            owner,
+        };
+    }
+    session(kind, record, buffer, owner)
+}
+
+fn is_plain(kind: u8) -> bool {
+    kind == HLS || kind == PERCENT || kind == REGISTERS || kind == RATIO
+}
+
+// A colour, the standard registers, or a ratio.
+fn is_plain_same(kind: u8, record: &[u8]) -> bool {
     if kind == HLS {
-        return compared(is_hls_same(record));
+        return is_hls_same(record);
     }
     if kind == PERCENT {
-        return compared(is_percent_same(record));
+        return is_percent_same(record);
     }
     if kind == REGISTERS {
-        return compared(answers::number_at(record, 8) == registers_sum());
+        return answers::number_at(record, 8) == registers_sum(Palette::standard());
     }
-    if kind == RATIO {
-        return compared(answers::from_p1(answers::number_at(record, 8)) == byte_at(record, 5));
-    }
-    session(kind, record)
+    answers::from_p1(answers::number_at(record, 8)) == byte_at(record, 5)
 }
 
 fn is_hls_same(record: &[u8]) -> bool {
@@ -92,11 +143,12 @@ fn is_percent_same(record: &[u8]) -> bool {
     hls::percent_to_byte(signed_at(record, 8)) == byte_at(record, 5)
 }
 
-// The checksum of the standard registers, each as four bytes.
-fn registers_sum() -> u32 {
+// The checksum of a palette's registers, each as four bytes.
+pub fn registers_sum(palette: Palette) -> u32 {
+    let colors = palette.table();
     let mut sum = 1;
     for index in 0..256 {
-        sum = answers::with_bytes(sum, &Palette::standard().register(index));
+        sum = answers::with_bytes(sum, &colours::rgb_bytes(&colors, index));
     }
     sum
 }

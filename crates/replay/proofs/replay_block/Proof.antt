@@ -1,19 +1,21 @@
 -- `replay::replay_block` is safe and ends. A record lies within the block, since its length was tested.
 -- Assumes nothing.
-use Prim.Native.Nat.{_≤_, _-_}
-use borrow.Author.Needs.{needs}
+use mathlib.Core.Path.{_≡_}
+use Prim.Native.Nat.{_-_, _≤_}
+use native.Mathlib.Omega.{arith}
 use lib.ListN.{length}
+use borrow.Author.Needs.{needs}
 use Rattle.replay.proofs.replay_block.Statement.{statement}
 use Rattle.replay.proofs.replay_block.Tie as tie
 
 abbrev Inv-loop : tie.InvT-loop
-Inv-loop block count tally₀ at₀ counter₀ tally at counter = (counter ≤ count) × (at ≤ length block)
+Inv-loop block buffer₀ count state₀ at₀ counter₀ buffer state at counter = (counter ≤ count) × (at ≤ length block) × (length buffer ≡ length buffer₀)
 
 abbrev μ-loop : tie.MeasureT-loop
-μ-loop block count tally₀ at₀ counter₀ tally at counter = count - counter
+μ-loop block buffer₀ count state₀ at₀ counter₀ buffer state at counter = count - counter
 
-with-requires : tie.Need-with-requires Inv-loop μ-loop
-with-requires c κs = search needs
+faulty-requires : tie.Need-faulty-requires Inv-loop μ-loop
+faulty-requires c κs = search needs
 
 returns : tie.Need-returns Inv-loop μ-loop
 returns c = search needs
@@ -27,29 +29,29 @@ loop-holds c = search needs
 length-at-requires : tie.Need-length-at-requires Inv-loop μ-loop
 length-at-requires c κs = search needs
 
-with-requires-2 : tie.Need-with-requires-2 Inv-loop μ-loop
-with-requires-2 c κs = search needs
+faulty-requires-2 : tie.Need-faulty-requires-2 Inv-loop μ-loop
+faulty-requires-2 c κs = search needs
+
+same-length : tie.Need-same-length Inv-loop μ-loop
+same-length c = omega arith
 
 returns-2 : tie.Need-returns-2 Inv-loop μ-loop
 returns-2 c = search needs
 
-add-judge : tie.Need-add-judge Inv-loop μ-loop
-add-judge c = search needs
+add-replay-record : tie.Need-add-replay-record Inv-loop μ-loop
+add-replay-record c = search needs
 
-sub-judge : tie.Need-sub-judge Inv-loop μ-loop
-sub-judge c = search needs
+sub-replay-record : tie.Need-sub-replay-record Inv-loop μ-loop
+sub-replay-record c = search needs
 
-part-judge-start : tie.Need-part-judge-start Inv-loop μ-loop
-part-judge-start c = search needs
+part-replay-record-start : tie.Need-part-replay-record-start Inv-loop μ-loop
+part-replay-record-start c = search needs
 
-part-judge-end : tie.Need-part-judge-end Inv-loop μ-loop
-part-judge-end c = search needs
+part-replay-record-end : tie.Need-part-replay-record-end Inv-loop μ-loop
+part-replay-record-end c = search needs
 
-judge-requires : tie.Need-judge-requires Inv-loop μ-loop
-judge-requires c κs = search needs
-
-with-requires-3 : tie.Need-with-requires-3 Inv-loop μ-loop
-with-requires-3 c κs = search needs
+replay-record-requires : tie.Need-replay-record-requires Inv-loop μ-loop
+replay-record-requires c κs = search needs
 
 add-at : tie.Need-add-at Inv-loop μ-loop
 add-at c = search needs
@@ -63,6 +65,9 @@ loop-less c = search needs
 loop-again : tie.Need-loop-again Inv-loop μ-loop
 loop-again c = search needs
 
+same-length-2 : tie.Need-same-length-2 Inv-loop μ-loop
+same-length-2 c = omega arith
+
 returns-3 : tie.Need-returns-3 Inv-loop μ-loop
 returns-3 c = search needs
 
@@ -72,21 +77,22 @@ replay-block-spec =
     (tie.spec
     Inv-loop
     μ-loop
-    with-requires
+    faulty-requires
     returns
     number-at-requires
     loop-holds
     length-at-requires
-    with-requires-2
+    faulty-requires-2
+    same-length
     returns-2
-    add-judge
-    sub-judge
-    part-judge-start
-    part-judge-end
-    judge-requires
-    with-requires-3
+    add-replay-record
+    sub-replay-record
+    part-replay-record-start
+    part-replay-record-end
+    replay-record-requires
     add-at
     add-counter
     loop-less
     loop-again
+    same-length-2
     returns-3)

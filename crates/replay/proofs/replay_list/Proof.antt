@@ -1,21 +1,30 @@
 -- `replay::replay_list` is safe and ends.
 -- Assumes nothing.
-use Prim.Native.Nat.{_≤_, _-_}
+use mathlib.Core.Path.{_≡_}
+use Prim.Native.Nat.{_-_, _≤_}
+use native.Mathlib.Omega.{arith}
+use lib.ListN.{length}
 use borrow.Author.Needs.{needs}
 use Rattle.replay.proofs.replay_list.Statement.{statement}
 use Rattle.replay.proofs.replay_list.Tie as tie
 
 abbrev Inv-loop : tie.InvT-loop
-Inv-loop fd tally₀ number₀ tally number = number ≤ 64
+Inv-loop fd buffer₀ state₀ number₀ buffer state number = (number ≤ 64) × (length buffer ≡ length buffer₀)
 
 abbrev μ-loop : tie.MeasureT-loop
-μ-loop fd tally₀ number₀ tally number = 64 - number
+μ-loop fd buffer₀ state₀ number₀ buffer state number = 64 - number
+
+at-first-requires : tie.Need-at-first-requires Inv-loop μ-loop
+at-first-requires c κs = search needs
 
 loop-holds : tie.Need-loop-holds Inv-loop μ-loop
 loop-holds c = search needs
 
 next-block-requires : tie.Need-next-block-requires Inv-loop μ-loop
 next-block-requires c κs = search needs
+
+same-length : tie.Need-same-length Inv-loop μ-loop
+same-length c = omega arith
 
 returns : tie.Need-returns Inv-loop μ-loop
 returns c = search needs
@@ -29,6 +38,9 @@ loop-less c = search needs
 loop-again : tie.Need-loop-again Inv-loop μ-loop
 loop-again c = search needs
 
+same-length-2 : tie.Need-same-length-2 Inv-loop μ-loop
+same-length-2 c = omega arith
+
 returns-2 : tie.Need-returns-2 Inv-loop μ-loop
 returns-2 c = search needs
 
@@ -38,10 +50,13 @@ replay-list-spec =
     (tie.spec
     Inv-loop
     μ-loop
+    at-first-requires
     loop-holds
     next-block-requires
+    same-length
     returns
     add-number
     loop-less
     loop-again
+    same-length-2
     returns-2)

@@ -1,24 +1,24 @@
 -- `replay::record::registers_sum` is safe and ends.
 -- Assumes nothing.
-use Prim.Native.Nat.{_≤_, _-_}
+use Prim.Native.Nat.{_-_, _≤_}
 use borrow.Author.Needs.{needs}
 use Rattle.replay.proofs.record.registers_sum.Statement.{statement}
 use Rattle.replay.proofs.record.registers_sum.Tie as tie
 
 abbrev Inv-loop : tie.InvT-loop
-Inv-loop sum₀ index₀ sum index = index ≤ 256
+Inv-loop colors sum₀ index₀ sum index = index ≤ 256
 
 abbrev μ-loop : tie.MeasureT-loop
-μ-loop sum₀ index₀ sum index = 256 - index
+μ-loop colors sum₀ index₀ sum index = 256 - index
+
+table-requires : tie.Need-table-requires Inv-loop μ-loop
+table-requires c κs = search needs
 
 loop-holds : tie.Need-loop-holds Inv-loop μ-loop
 loop-holds c = search needs
 
-standard-requires : tie.Need-standard-requires Inv-loop μ-loop
-standard-requires c κs = search needs
-
-register-requires : tie.Need-register-requires Inv-loop μ-loop
-register-requires c κs = search needs
+rgb-bytes-requires : tie.Need-rgb-bytes-requires Inv-loop μ-loop
+rgb-bytes-requires c κs = search needs
 
 slice-aggregate-with-bytes : tie.Need-slice-aggregate-with-bytes Inv-loop μ-loop
 slice-aggregate-with-bytes c = search needs
@@ -44,9 +44,9 @@ registers-sum-spec =
     (tie.spec
     Inv-loop
     μ-loop
+    table-requires
     loop-holds
-    standard-requires
-    register-requires
+    rgb-bytes-requires
     slice-aggregate-with-bytes
     with-bytes-requires
     add-index
