@@ -1,0 +1,266 @@
+-- Laws of commands: one for each way through a function of `commands`.
+use Prim.Native.Nat.{ℕ, _*_, _≤_, _<_, max}
+use mathlib.Core.Bool.{Bool, true, false, _&&_}
+use mathlib.Core.List.{List, [], _∷_}
+use mathlib.Core.Path.{_≡_, refl, sym, ap, ap₂, _∙_}
+use native.Mathlib.Omega.{arith}
+use borrow.Author.Tests.{lt-ltb, le-ltb, eq-eqb, ne-eqb}
+use denote.Enum.Declared.{tagOf}
+use lib.Dec.{eqb}
+use lib.IntN.{pos}
+use mir.Syntax.{w32}
+use mir.Val.{SFits}
+use types.Run.{OneOf, miss}
+use Rattle.numbers.specs.declared.Parameters.{Parameters}
+use Rattle.numbers.specs.Step as numbers
+use Rattle.numbers.proofs.Laws.{cond-yes, cond-no}
+use Rattle.numbers.proofs.Reading.{value-small}
+use Rattle.colours.specs.declared.Palette.{Palette}
+use Rattle.colours.specs.Palette.{registerOf, setRgb, setHls}
+use Rattle.colours.proofs.Laws.{passed, passed-pos}
+use Rattle.frame.specs.declared.Command.{Command}
+use Rattle.frame.specs.declared.Frame.{Frame}
+use Rattle.frame.specs.declared.Ground.{Ground}
+use Rattle.frame.specs.declared.Kind.{Kind}
+use Rattle.frame.specs.declared.Kind.the-variants as kinds
+use Rattle.frame.specs.declared.Raster.{Raster}
+use Rattle.frame.specs.declared.Refusal.{Refusal}
+use Rattle.frame.specs.declared.Refusal.the-variants as refusals
+use Rattle.frame.specs.declared.Stepped.{Stepped}
+use Rattle.frame.specs.declared.sizes.Needed.{Needed}
+use Rattle.frame.specs.declared.sizes.Needed.the-variants.{Area, Refused}
+use Rattle.frame.specs.Sizes.{rasterArea}
+use Rattle.frame.specs.Commands.{withCommand, begun, valuesLonger, numberLonger, byDigitIn, byDigit, bySemicolon, settledAs, refusedAs, withRepeat, repeatEnded, redefinedBy, registerIn, withColor, paletteAfter, colorEndedBy, finishedOf, quotientOf, ratioBy, keptSize, rasterBy, withArea, rasterGrown, rasterEndedBy, Ended, endedIn, ended}
+use Rattle.frame.proofs.Kind as KindType
+
+-- ---- a command begins and goes on
+
+pub begun-as : {q : Parameters} (f : Frame) (k : Kind) (n : ℕ) → q ≡ numbers.opened n
+    → _≡_ {A = Frame} (record { pen = f .pen; sheet = f .sheet; raster = f .raster; command = record { kind = k; number = 0; parameters = q } }) (begun f k n)
+unfolding begun withCommand
+begun-as f k n e = ap (λ (q : Parameters). withCommand f (record { kind = k; number = 0; parameters = q })) e
+
+-- the frame with the pending command changed
+abbrev framed : Frame → Command → Frame
+framed f c = record { pen = f .pen; sheet = f .sheet; raster = f .raster; command = c }
+
+pub digit-number : {n : ℕ} (f : Frame) (b : ℕ) → f .command .kind ≡ kinds.Repeat → n ≡ numbers.repeated (f .command .number) b
+    → framed f (record { kind = f .command .kind; number = n; parameters = f .command .parameters }) ≡ withCommand f (byDigit (f .command) b)
+unfolding withCommand byDigit byDigitIn numberLonger
+digit-number f b k e =
+    ap (λ (m : ℕ). framed f (record { kind = f .command .kind; number = m; parameters = f .command .parameters })) e
+    ∙ sym (ap (λ (j : Kind). framed f (byDigitIn j (f .command) b)) k)
+
+other-digit : (k : Kind) (c : Command) (b : ℕ) → OneOf (0 ∷ 2 ∷ 3 ∷ []) (tagOf KindType.the-type k) → byDigitIn k c b ≡ valuesLonger c b
+unfolding byDigitIn
+other-digit kinds.Data c b h = refl
+other-digit kinds.Repeat c b h = absurd (miss (0 ∷ 2 ∷ 3 ∷ []) 1 tt h)
+other-digit kinds.Color c b h = refl
+other-digit kinds.Raster c b h = refl
+
+pub digit-value : {q : Parameters} (f : Frame) (b : ℕ) → OneOf (0 ∷ 2 ∷ 3 ∷ []) (tagOf KindType.the-type (f .command .kind)) → q ≡ numbers.withDigit (f .command .parameters) b
+    → framed f (record { kind = f .command .kind; number = f .command .number; parameters = q }) ≡ withCommand f (byDigit (f .command) b)
+unfolding withCommand byDigit valuesLonger
+digit-value f b k e =
+    ap (λ (q : Parameters). framed f (record { kind = f .command .kind; number = f .command .number; parameters = q })) e
+    ∙ ap (framed f) (sym (other-digit (f .command .kind) (f .command) b k))
+
+pub semicolon-as : {q : Parameters} (f : Frame) → q ≡ numbers.withSemicolon (f .command .parameters)
+    → framed f (record { kind = f .command .kind; number = f .command .number; parameters = q }) ≡ withCommand f (bySemicolon (f .command))
+unfolding withCommand bySemicolon
+semicolon-as f e = ap (λ (q : Parameters). framed f (record { kind = f .command .kind; number = f .command .number; parameters = q })) e
+
+-- ---- a repeat ends
+
+pub repeat-refused : {r : Stepped} (f : Frame) (g : Ground) → g .limits .repeats < f .command .number → r ≡ refusedAs f refusals.Repeat → r ≡ repeatEnded f g
+unfolding repeatEnded
+repeat-refused f g h e = e ∙ sym (cond-yes _ _ (lt-ltb _ _ h))
+
+pub repeat-settled : {r : Stepped} {n : ℕ} (f : Frame) (g : Ground) → f .command .number ≤ g .limits .repeats → n ≡ max 1 (f .command .number)
+    → r ≡ settledAs (record { column = f .pen .column; row = f .pen .row; repeat = n; register = f .pen .register; color = f .pen .color }) (f .sheet) (f .raster) (f .command)
+    → r ≡ repeatEnded f g
+unfolding repeatEnded withRepeat
+repeat-settled f g h e k =
+    k
+    ∙ ap (λ (m : ℕ). settledAs (withRepeat (f .pen) m) (f .sheet) (f .raster) (f .command)) e
+    ∙ sym (cond-no _ _ (le-ltb _ _ h))
+
+-- ---- a colour ends
+
+-- a value fits a signed number
+pub value-signed : {r : ℕ} (v : Parameters) (i : ℕ) → r ≡ numbers.valueAt v i → SFits w32 (pos r)
+value-signed v i e = record { sfits = rw e (omega (arith, value-small v i)) }
+
+value-passed : {r : ℕ} (v : Parameters) (i : ℕ) → r ≡ numbers.valueAt v i → passed (pos r) ≡ pos (numbers.valueAt v i)
+value-passed v i e = ap (λ (n : ℕ). passed (pos n)) e ∙ passed-pos (numbers.valueAt v i) (omega (arith, value-small v i))
+
+module _ (p : Palette) (k : ℕ) (v : Parameters) {n : ℕ} (count : n ≡ v .count) where
+  pub redefined-few : (n ≡ 5 → ⊥) → p ≡ redefinedBy p k v
+  unfolding redefinedBy
+  redefined-few h = sym (cond-no _ _ (ne-eqb _ _ (λ e. h (count ∙ e))))
+
+  module _ {s : ℕ} (five : n ≡ 5) (space : s ≡ numbers.valueAt v 1) where
+    five-values : eqb (v .count) 5 ≡ true
+    five-values = eq-eqb _ _ (sym count ∙ five)
+
+    pub redefined-none : (s ≡ 1 → ⊥) → (s ≡ 2 → ⊥) → p ≡ redefinedBy p k v
+    unfolding redefinedBy
+    redefined-none h l =
+        sym
+        (cond-yes _ _ five-values
+        ∙ cond-no _ _ (ne-eqb _ _ (λ e. h (space ∙ e)))
+        ∙ cond-no _ _ (ne-eqb _ _ (λ e. l (space ∙ e))))
+
+    module _ {x y z : ℕ} {q : Palette} (ex : x ≡ numbers.valueAt v 2) (ey : y ≡ numbers.valueAt v 3) (ez : z ≡ numbers.valueAt v 4) where
+      pub redefined-hls : s ≡ 1 → q ≡ setHls p k (passed (pos x)) (passed (pos y)) (passed (pos z)) → q ≡ redefinedBy p k v
+      unfolding redefinedBy
+      redefined-hls h e =
+          e
+          ∙ rw (value-passed v 2 ex, value-passed v 3 ey, value-passed v 4 ez)
+          (sym (cond-yes _ _ five-values ∙ cond-yes _ _ (eq-eqb _ _ (sym space ∙ h))))
+
+      pub redefined-rgb : (s ≡ 1 → ⊥) → s ≡ 2 → q ≡ setRgb p k (passed (pos x)) (passed (pos y)) (passed (pos z)) → q ≡ redefinedBy p k v
+      unfolding redefinedBy
+      redefined-rgb h l e =
+          e
+          ∙ rw (value-passed v 2 ex, value-passed v 3 ey, value-passed v 4 ez)
+          (sym
+          (cond-yes _ _ five-values
+          ∙ cond-no _ _ (ne-eqb _ _ (λ d. h (space ∙ d)))
+          ∙ cond-yes _ _ (eq-eqb _ _ (sym space ∙ l))))
+
+pub register-first : {n : ℕ} (v : Parameters) → n ≡ numbers.valueAt v 0 → n < 255 → n ≡ registerIn v
+unfolding registerIn
+register-first v e h = omega arith
+
+pub register-last : {n : ℕ} (v : Parameters) → n ≡ numbers.valueAt v 0 → 255 ≤ n → 255 ≡ registerIn v
+unfolding registerIn
+register-last v e h = omega arith
+
+module _ (f : Frame) {v : Parameters} {n : ℕ} (finish : v ≡ numbers.finished (f .command .parameters)) (register : n ≡ registerIn v) where
+  pub color-palette : {q : Palette} (p : Palette) → q ≡ redefinedBy p n v → q ≡ paletteAfter p (finishedOf f)
+  unfolding paletteAfter finishedOf
+  color-palette p e = e ∙ rw (register, finish) refl
+
+  pub color-settled : {r : Stepped} {px : List ℕ} (q : Palette) → px ≡ registerOf q n
+      → r ≡ settledAs (record { column = f .pen .column; row = f .pen .row; repeat = f .pen .repeat; register = n; color = px }) (f .sheet) (f .raster) (f .command)
+      → r ≡ colorEndedBy f q (finishedOf f)
+  unfolding colorEndedBy withColor finishedOf
+  color-settled q c e = e ∙ rw (c, register, finish) refl
+
+-- ---- a raster ends
+
+pub quotient-one : (v h : ℕ) → v ≡ h → 1 ≡ quotientOf v h
+unfolding quotientOf
+quotient-one v h e = sym (cond-yes _ _ (eq-eqb _ _ e))
+
+pub quotient-two : (v h : ℕ) → (v ≡ h → ⊥) → v ≡ 2 * h → 2 ≡ quotientOf v h
+unfolding quotientOf
+quotient-two v h n e = sym (cond-no _ _ (ne-eqb _ _ n) ∙ cond-yes _ _ (eq-eqb _ _ e))
+
+pub quotient-three : (v h : ℕ) → (v ≡ h → ⊥) → (v ≡ 2 * h → ⊥) → v ≡ 3 * h → 3 ≡ quotientOf v h
+unfolding quotientOf
+quotient-three v h n m e = sym (cond-no _ _ (ne-eqb _ _ n) ∙ cond-no _ _ (ne-eqb _ _ m) ∙ cond-yes _ _ (eq-eqb _ _ e))
+
+pub quotient-five : (v h : ℕ) → (v ≡ h → ⊥) → (v ≡ 2 * h → ⊥) → (v ≡ 3 * h → ⊥) → v ≡ 5 * h → 5 ≡ quotientOf v h
+unfolding quotientOf
+quotient-five v h n m l e =
+    sym (cond-no _ _ (ne-eqb _ _ n) ∙ cond-no _ _ (ne-eqb _ _ m) ∙ cond-no _ _ (ne-eqb _ _ l) ∙ cond-yes _ _ (eq-eqb _ _ e))
+
+pub quotient-none : (v h : ℕ) → (v ≡ h → ⊥) → (v ≡ 2 * h → ⊥) → (v ≡ 3 * h → ⊥) → (v ≡ 5 * h → ⊥) → 0 ≡ quotientOf v h
+unfolding quotientOf
+quotient-none v h n m l k =
+    sym (cond-no _ _ (ne-eqb _ _ n) ∙ cond-no _ _ (ne-eqb _ _ m) ∙ cond-no _ _ (ne-eqb _ _ l) ∙ cond-no _ _ (ne-eqb _ _ k))
+
+pub ratio-old : {n : ℕ} (old : ℕ) (v : Parameters) → n ≡ v .count → n < 2 → old ≡ ratioBy old v
+unfolding ratioBy
+ratio-old old v e h = sym (cond-yes _ _ (lt-ltb (v .count) 2 (omega arith)))
+
+pub ratio-new : {n a b x y r : ℕ} (old : ℕ) (v : Parameters) → n ≡ v .count → 2 ≤ n → a ≡ numbers.valueAt v 0 → x ≡ max 1 a → b ≡ numbers.valueAt v 1 → y ≡ max 1 b
+    → r ≡ quotientOf x y → r ≡ ratioBy old v
+unfolding ratioBy
+ratio-new old v e h ea ex eb ey er =
+    er
+    ∙ ap₂ quotientOf (ex ∙ ap (max 1) ea) (ey ∙ ap (max 1) eb)
+    ∙ sym (cond-no _ _ (le-ltb (v .count) 2 (omega arith)))
+
+pub kept-old : (old n : ℕ) → n ≡ 0 → old ≡ keptSize old n
+unfolding keptSize
+kept-old old n e = sym (cond-yes _ _ (eq-eqb _ _ e))
+
+pub kept-new : (old n : ℕ) → (n ≡ 0 → ⊥) → n ≡ keptSize old n
+unfolding keptSize
+kept-new old n e = sym (cond-no _ _ (ne-eqb _ _ e))
+
+pub sizeless-yes : (w h : ℕ) → w ≡ 0 → eqb h 0 ≡ (eqb w 0 && eqb h 0)
+sizeless-yes w h e = ap (λ (s : Bool). s && eqb h 0) (sym (eq-eqb w 0 e))
+
+pub sizeless-no : (w h : ℕ) → (w ≡ 0 → ⊥) → false ≡ (eqb w 0 && eqb h 0)
+sizeless-no w h e = ap (λ (s : Bool). s && eqb h 0) (sym (ne-eqb w 0 e))
+
+-- the raster of the values
+pub raster-as : {x w h a b : ℕ} (r : Raster) (v : Parameters) → x ≡ ratioBy (r .ratio) v → a ≡ numbers.valueAt v 2 → w ≡ keptSize (r .width) a → b ≡ numbers.valueAt v 3
+    → h ≡ keptSize (r .height) b → _≡_ {A = Raster} (record { ratio = x; width = w; height = h }) (rasterBy r v)
+unfolding rasterBy
+raster-as r v ex ea ew eb eh = rw (ex, ew, ea, eh, eb) refl
+
+module _ (f : Frame) (g : Ground) {v : Parameters} {r : Raster} {t : Bool} (finish : v ≡ numbers.finished (f .command .parameters)) (after : r ≡ rasterBy (f .raster) v) (test : t ≡ (eqb (r .width) 0 && eqb (r .height) 0)) where
+  same-raster : r ≡ rasterBy (f .raster) (finishedOf f)
+  unfolding finishedOf
+  same-raster = after ∙ ap (rasterBy (f .raster)) finish
+
+  pub raster-settled : {s : Stepped} → t ≡ true → s ≡ settledAs (f .pen) (f .sheet) r (f .command) → s ≡ rasterEndedBy f g (rasterBy (f .raster) (finishedOf f))
+  unfolding rasterEndedBy
+  raster-settled h k = k ∙ sym (cond-yes _ _ (sym test ∙ h)) ∙ ap (rasterEndedBy f g) same-raster
+
+  module _ {a b : ℕ} {n : Needed} (no : t ≡ false) (wide : a ≡ max 1 (r .width)) (high : b ≡ max 1 (r .height)) (needed : n ≡ rasterArea (f .sheet) g a b) where
+    raster-grown : rasterGrown f r n ≡ rasterEndedBy f g (rasterBy (f .raster) (finishedOf f))
+    unfolding rasterEndedBy
+    raster-grown =
+        ap (rasterGrown f r) (needed ∙ ap₂ (rasterArea (f .sheet) g) wide high)
+        ∙ sym (cond-no _ _ (sym test ∙ no))
+        ∙ ap (rasterEndedBy f g) same-raster
+
+    pub raster-area : {s : Stepped} {w h : ℕ} → n ≡ Area w h
+        → s ≡ settledAs (f .pen) (record { width = w; height = h; right = f .sheet .right; bottom = f .sheet .bottom }) r (f .command)
+        → s ≡ rasterEndedBy f g (rasterBy (f .raster) (finishedOf f))
+    unfolding rasterGrown withArea
+    raster-area e k = k ∙ ap (rasterGrown f r) (sym e) ∙ raster-grown
+
+    pub raster-refused : {s : Stepped} {x : Refusal} → n ≡ Refused x → s ≡ refusedAs f x → s ≡ rasterEndedBy f g (rasterBy (f .raster) (finishedOf f))
+    unfolding rasterGrown
+    raster-refused e k = k ∙ ap (rasterGrown f r) (sym e) ∙ raster-grown
+
+-- ---- whichever is pending
+
+module _ (f : Frame) (g : Ground) (p : Palette) {s : Stepped} where
+  pub ended-data : f .command .kind ≡ kinds.Data → s ≡ settledAs (f .pen) (f .sheet) (f .raster) (f .command)
+      → _≡_ {A = Ended} (record { stepped = s; palette = p }) (ended f g p)
+  unfolding ended endedIn
+  ended-data k e = ap (λ (x : Stepped). record { stepped = x; palette = p }) e ∙ sym (ap (λ (j : Kind). endedIn j f g p) k)
+
+  pub ended-repeat : f .command .kind ≡ kinds.Repeat → s ≡ repeatEnded f g → _≡_ {A = Ended} (record { stepped = s; palette = p }) (ended f g p)
+  unfolding ended endedIn
+  ended-repeat k e = ap (λ (x : Stepped). record { stepped = x; palette = p }) e ∙ sym (ap (λ (j : Kind). endedIn j f g p) k)
+
+  pub ended-color : {q : Palette} → f .command .kind ≡ kinds.Color → (q ≡ paletteAfter p (finishedOf f)) × (s ≡ colorEndedBy f q (finishedOf f))
+      → _≡_ {A = Ended} (record { stepped = s; palette = q }) (ended f g p)
+  unfolding ended endedIn
+  ended-color k e =
+      ap₂ (λ (x : Stepped) (y : Palette). record { stepped = x; palette = y }) (e .1 ∙ ap (λ (y : Palette). colorEndedBy f y (finishedOf f)) (e .0)) (e .0)
+      ∙ sym (ap (λ (j : Kind). endedIn j f g p) k)
+
+  pub ended-raster : f .command .kind ≡ kinds.Raster → s ≡ rasterEndedBy f g (rasterBy (f .raster) (finishedOf f))
+      → _≡_ {A = Ended} (record { stepped = s; palette = p }) (ended f g p)
+  unfolding ended endedIn
+  ended-raster k e = ap (λ (x : Stepped). record { stepped = x; palette = p }) e ∙ sym (ap (λ (j : Kind). endedIn j f g p) k)
+
+pub ruleset begins = (begun-as, digit-number, digit-value, semicolon-as)
+
+pub ruleset colored =
+    (value-signed, redefined-few, redefined-none, redefined-hls, redefined-rgb, register-first, register-last, color-palette, color-settled)
+
+pub ruleset rastered =
+    (quotient-one, quotient-two, quotient-three, quotient-five, quotient-none, ratio-old, ratio-new, kept-old, kept-new, sizeless-yes, sizeless-no, raster-as, raster-settled, raster-area, raster-refused)
+
+pub ruleset endings = (repeat-refused, repeat-settled, ended-data, ended-repeat, ended-color, ended-raster)

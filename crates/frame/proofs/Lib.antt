@@ -1,0 +1,4 @@
+pub mod SizeLaws
+pub mod CommandLaws
+pub mod StepLaws
+pub mod FeedLaws

@@ -1,0 +1,21 @@
+use borrow.Author.Needs.{needs}
+use Rattle.frame.proofs.StepLaws.{arguments, settle-room}
+use Rattle.frame.proofs.step.settle.Statement.{statement}
+use Rattle.frame.proofs.step.settle.Tie as tie
+
+end-command-requires : tie.Need-end-command-requires
+end-command-requires c κs = search needs
+
+grow-requires : tie.Need-grow-requires
+grow-requires c κs =
+    let s = c .before .before .before .before .before in
+    settle-room (s .args .frame) (s .args .ground) _ _ (s .pre) (c .before .before .end-command .ensures)
+
+same-length : tie.Need-same-length
+same-length c = search needs
+
+returns : tie.Need-returns
+returns c = search (needs, arguments)
+
+pub settle-spec : {M : Type 1} → statement M
+settle-spec = tie.close (tie.spec end-command-requires grow-requires same-length returns)

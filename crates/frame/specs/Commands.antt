@@ -1,0 +1,159 @@
+-- What the code does with a command's argument, on its own records.
+use Prim.Native.Nat.{ℕ, _+_, _*_, min, max}
+use mathlib.Core.Bool.{Bool, cond, _&&_}
+use mathlib.Core.List.{List}
+use lib.Dec.{leb, ltb, eqb}
+use lib.IntN.{pos}
+use Rattle.numbers.specs.declared.Parameters.{Parameters}
+use Rattle.numbers.specs.Step as numbers
+use Rattle.colours.specs.declared.Palette.{Palette}
+use Rattle.colours.specs.Palette.{registerOf, setRgb, setHls}
+use Rattle.frame.specs.declared.Command.{Command}
+use Rattle.frame.specs.declared.Frame.{Frame}
+use Rattle.frame.specs.declared.Ground.{Ground}
+use Rattle.frame.specs.declared.Kind.{Kind}
+use Rattle.frame.specs.declared.Kind.the-variants as kinds
+use Rattle.frame.specs.declared.Outcome.{Outcome}
+use Rattle.frame.specs.declared.Outcome.the-variants as outcomes
+use Rattle.frame.specs.declared.Pen.{Pen}
+use Rattle.frame.specs.declared.Raster.{Raster}
+use Rattle.frame.specs.declared.Refusal.{Refusal}
+use Rattle.frame.specs.declared.Refusal.the-variants as refusals
+use Rattle.frame.specs.declared.Sheet.{Sheet}
+use Rattle.frame.specs.declared.Stepped.{Stepped}
+use Rattle.frame.specs.declared.sizes.Needed.{Needed}
+use Rattle.frame.specs.declared.sizes.Needed.the-variants.{Area, Refused}
+use Rattle.frame.specs.Sizes.{rasterArea}
+
+-- ---- a command begins and goes on
+
+unfoldable pub withCommand : Frame → Command → Frame
+withCommand f c = record { pen = f .pen; sheet = f .sheet; raster = f .raster; command = c }
+
+unfoldable pub begun : Frame → Kind → ℕ → Frame
+unfolding withCommand
+begun f k places = withCommand f (record { kind = k; number = 0; parameters = numbers.opened places })
+
+-- a digit lengthens the values, or in a repeat the number
+unfoldable pub valuesLonger : Command → ℕ → Command
+valuesLonger c b = record { kind = c .kind; number = c .number; parameters = numbers.withDigit (c .parameters) b }
+
+unfoldable pub numberLonger : Command → ℕ → Command
+numberLonger c b = record { kind = c .kind; number = numbers.repeated (c .number) b; parameters = c .parameters }
+
+unfoldable pub byDigitIn : Kind → Command → ℕ → Command
+unfolding valuesLonger numberLonger
+byDigitIn kinds.Data c b = valuesLonger c b
+byDigitIn kinds.Repeat c b = numberLonger c b
+byDigitIn kinds.Color c b = valuesLonger c b
+byDigitIn kinds.Raster c b = valuesLonger c b
+
+unfoldable pub byDigit : Command → ℕ → Command
+unfolding byDigitIn
+byDigit c b = byDigitIn (c .kind) c b
+
+unfoldable pub bySemicolon : Command → Command
+bySemicolon c = record { kind = c .kind; number = c .number; parameters = numbers.withSemicolon (c .parameters) }
+
+-- ---- a command ends
+
+-- no command is pending any more
+unfoldable pub settledAs : Pen → Sheet → Raster → Command → Stepped
+settledAs p a r c =
+    record {
+      frame = record { pen = p; sheet = a; raster = r; command = record { kind = kinds.Data; number = c .number; parameters = c .parameters } };
+      ink = 0;
+      outcome = outcomes.Settled;
+    }
+
+unfoldable pub refusedAs : Frame → Refusal → Stepped
+refusedAs f r = record { frame = f; ink = 0; outcome = outcomes.Refused r }
+
+-- repeat: above the limit it is refused, and 0 means 1
+unfoldable pub withRepeat : Pen → ℕ → Pen
+withRepeat p n = record { column = p .column; row = p .row; repeat = n; register = p .register; color = p .color }
+
+unfoldable pub repeatEnded : Frame → Ground → Stepped
+unfolding withRepeat settledAs refusedAs
+repeatEnded f g =
+    cond (ltb (g .limits .repeats) (f .command .number)) (refusedAs f refusals.Repeat)
+    (settledAs (withRepeat (f .pen) (max 1 (f .command .number))) (f .sheet) (f .raster) (f .command))
+
+-- colour: with five values space 1 or 2 redefines the register
+unfoldable pub redefinedBy : Palette → ℕ → Parameters → Palette
+redefinedBy p n v =
+    cond (eqb (v .count) 5)
+    (cond (eqb (numbers.valueAt v 1) 1) (setHls p n (pos (numbers.valueAt v 2)) (pos (numbers.valueAt v 3)) (pos (numbers.valueAt v 4)))
+    (cond (eqb (numbers.valueAt v 1) 2) (setRgb p n (pos (numbers.valueAt v 2)) (pos (numbers.valueAt v 3)) (pos (numbers.valueAt v 4)))
+    p))
+    p
+
+-- the register that the first value selects
+unfoldable pub registerIn : Parameters → ℕ
+registerIn v = min (numbers.valueAt v 0) 255
+
+unfoldable pub withColor : Pen → ℕ → List ℕ → Pen
+withColor p n color = record { column = p .column; row = p .row; repeat = p .repeat; register = n; color = color }
+
+-- the palette after a colour command with these values, and the step
+unfoldable pub paletteAfter : Palette → Parameters → Palette
+unfolding redefinedBy registerIn
+paletteAfter p v = redefinedBy p (registerIn v) v
+
+unfoldable pub colorEndedBy : Frame → Palette → Parameters → Stepped
+unfolding settledAs withColor registerIn
+colorEndedBy f after v =
+    settledAs (withColor (f .pen) (registerIn v) (registerOf after (registerIn v))) (f .sheet) (f .raster) (f .command)
+
+-- raster
+unfoldable pub quotientOf : ℕ → ℕ → ℕ
+quotientOf v h = cond (eqb v h) 1 (cond (eqb v (2 * h)) 2 (cond (eqb v (3 * h)) 3 (cond (eqb v (5 * h)) 5 0)))
+
+unfoldable pub ratioBy : ℕ → Parameters → ℕ
+unfolding quotientOf
+ratioBy old v = cond (ltb (v .count) 2) old (quotientOf (max 1 (numbers.valueAt v 0)) (max 1 (numbers.valueAt v 1)))
+
+unfoldable pub keptSize : ℕ → ℕ → ℕ
+keptSize old n = cond (eqb n 0) old n
+
+unfoldable pub rasterBy : Raster → Parameters → Raster
+unfolding ratioBy keptSize
+rasterBy r v =
+    record { ratio = ratioBy (r .ratio) v; width = keptSize (r .width) (numbers.valueAt v 2); height = keptSize (r .height) (numbers.valueAt v 3) }
+
+unfoldable pub withArea : Sheet → ℕ → ℕ → Sheet
+withArea a w h = record { width = w; height = h; right = a .right; bottom = a .bottom }
+
+-- the visible area grows to the size that a raster needs
+unfoldable pub rasterGrown : Frame → Raster → Needed → Stepped
+unfolding settledAs refusedAs withArea
+rasterGrown f r (Area w h) = settledAs (f .pen) (withArea (f .sheet) w h) r (f .command)
+rasterGrown f r (Refused n) = refusedAs f n
+
+unfoldable pub rasterEndedBy : Frame → Ground → Raster → Stepped
+unfolding settledAs rasterGrown
+rasterEndedBy f g r =
+    cond (eqb (r .width) 0 && eqb (r .height) 0) (settledAs (f .pen) (f .sheet) r (f .command))
+    (rasterGrown f r (rasterArea (f .sheet) g (max 1 (r .width)) (max 1 (r .height))))
+
+-- ---- whichever is pending
+
+-- a step, and the palette after it
+pub record Ended : Type 0 where
+  pub stepped : Stepped
+  pub palette : Palette
+
+unfoldable pub finishedOf : Frame → Parameters
+finishedOf f = numbers.finished (f .command .parameters)
+
+unfoldable pub endedIn : Kind → Frame → Ground → Palette → Ended
+unfolding settledAs repeatEnded colorEndedBy paletteAfter rasterEndedBy rasterBy finishedOf
+endedIn kinds.Data f g p = record { stepped = settledAs (f .pen) (f .sheet) (f .raster) (f .command); palette = p }
+endedIn kinds.Repeat f g p = record { stepped = repeatEnded f g; palette = p }
+endedIn kinds.Color f g p =
+    record { stepped = colorEndedBy f (paletteAfter p (finishedOf f)) (finishedOf f); palette = paletteAfter p (finishedOf f) }
+endedIn kinds.Raster f g p = record { stepped = rasterEndedBy f g (rasterBy (f .raster) (finishedOf f)); palette = p }
+
+unfoldable pub ended : Frame → Ground → Palette → Ended
+unfolding endedIn
+ended f g p = endedIn (f .command .kind) f g p

@@ -1,0 +1,5 @@
+pub mod Numbers
+pub mod Sizes
+pub mod Commands
+pub mod Step
+pub mod Feed

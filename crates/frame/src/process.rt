@@ -1,0 +1,55 @@
+// The loop over a payload's bytes.
+ghost use mathlib.Core.Path.{_≡_};
+ghost use lib.ListN.{length};
+ghost use Rattle.colours.specs.Palette.{ofTable};
+ghost use Rattle.frame.specs.Step.{Fits};
+ghost use Rattle.frame.specs.Feed.{Reached, feedFrom};
+use crate::Frame;
+use crate::Ground;
+use crate::Outcome;
+use crate::Progress;
+use crate::step::step;
+
+fn reached(frame: Frame, consumed: usize, ink: usize, outcome: Outcome) -> Progress
+    ensures { λ r. ⌜ r ≡ record { frame = frame; consumed = consumed; ink = ink; outcome = outcome } ⌝ }
+{
+    Progress {
+        frame,
+        consumed,
+        ink,
+        outcome,
+    }
+}
+
+// Reads bytes until all are read, or one stays unread.
+// Inner: asks that the visible area has room on the canvas.
+pub fn process(
+    frame: Frame,
+    ground: Ground,
+    colors: &mut [u32; 256],
+    canvas: &mut [u8],
+    bytes: &[u8],
+    allowance: usize,
+) -> Progress
+    requires { ⌜ Fits frame ground (length (now canvas)) ⌝ }
+    ensures { λ r. ⌜ record { progress = r; palette = ofTable (now (colors .exit)); canvas = now (canvas .exit) } ≡ feedFrom ground allowance (now (bytes .entry)) 0 0 frame (ofTable (now (colors .entry))) (now (canvas .entry)) ⌝ }
+{
+    let mut now = frame;
+    let mut consumed = 0;
+    let mut ink = 0;
+    while consumed < bytes.len() {
+        let byte = bytes[consumed];
+        let stepped = step(now, ground, colors, canvas, byte, allowance - ink);
+        let outcome = stepped.outcome;
+        now = stepped.frame;
+        match outcome {
+            Outcome::Read => {
+                consumed = consumed + 1;
+                ink = ink + stepped.ink;
+            }
+            Outcome::Settled => {}
+            _ => return reached(now, consumed, ink, outcome),
+        }
+    }
+    reached(now, consumed, ink, Outcome::Read)
+}
