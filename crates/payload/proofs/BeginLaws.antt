@@ -25,59 +25,18 @@ use Rattle.payload.specs.Judge.{openable}
 use Rattle.payload.specs.Session.{clearFor, backgroundFor, blankFrame, groundFor, sessionFor, sessionWith}
 use Rattle.payload.specs.Begin.{noSettings, reservedBy, withBackground, begunSession, begunBy, failedOf}
 
-module _ (l : Limits) (stride : ℕ) (p : Palette) (size : ℕ) {rows : ℕ} {background : List ℕ} {f : Frame} {t : Bool} (b : background ≡ registerOf p 0) (r : rows ≡ rowsOf size stride) (k : f ≡ blankFrame p) (e : t ≡ openable l stride size) where
-  reserved-session : (life : Life)
-      → _≡_ {A = Session}
-      (record {
-        ground = record { limits = l; stride = stride; rows = rows; background = background };
-        length = size;
-        settings = record { p1 = givens.Nothing; p2 = givens.Nothing };
-        life = life;
-        frame = f;
-        palette = p;
-      })
-      (sessionFor l stride size noSettings p life)
-  unfolding sessionFor groundFor noSettings backgroundFor clearFor
-  reserved-session life = rw (b, r, k) refl
+module _ (l : Limits) (stride : ℕ) (p : Palette) (size : ℕ) {s : Session} {t : Bool} (e : t ≡ openable l stride size) where
+  pub reserved-ready : t ≡ true → s ≡ sessionFor l stride size (record { p1 = givens.Nothing; p2 = givens.Nothing }) p lives.Live
+      → _≡_ {A = Opened} (record { answer = openings.Ready; session = s }) (reservedBy l stride p size)
+  unfolding reservedBy noSettings
+  reserved-ready h k =
+      ap (λ (x : Session). record { answer = openings.Ready; session = x }) k ∙ sym (cond-yes _ _ (sym e ∙ h))
 
-  pub reserved-ready : t ≡ true
-      → _≡_ {A = Opened}
-      (record {
-        answer = openings.Ready;
-        session =
-            record {
-              ground = record { limits = l; stride = stride; rows = rows; background = background };
-              length = size;
-              settings = record { p1 = givens.Nothing; p2 = givens.Nothing };
-              life = lives.Live;
-              frame = f;
-              palette = p;
-            };
-      })
-      (reservedBy l stride p size)
-  unfolding reservedBy
-  reserved-ready h =
-      ap (λ (s : Session). record { answer = openings.Ready; session = s }) (reserved-session lives.Live) ∙ sym (cond-yes _ _ (sym e ∙ h))
-
-  pub reserved-refused : t ≡ false
-      → _≡_ {A = Opened}
-      (record {
-        answer = openings.Refused refusals.Opening;
-        session =
-            record {
-              ground = record { limits = l; stride = stride; rows = rows; background = background };
-              length = size;
-              settings = record { p1 = givens.Nothing; p2 = givens.Nothing };
-              life = lives.Failed;
-              frame = f;
-              palette = p;
-            };
-      })
-      (reservedBy l stride p size)
-  unfolding reservedBy
-  reserved-refused h =
-      ap (λ (s : Session). record { answer = openings.Refused refusals.Opening; session = s }) (reserved-session lives.Failed)
-      ∙ sym (cond-no _ _ (sym e ∙ h))
+  pub reserved-refused : t ≡ false → s ≡ sessionFor l stride size (record { p1 = givens.Nothing; p2 = givens.Nothing }) p lives.Failed
+      → _≡_ {A = Opened} (record { answer = openings.Refused refusals.Opening; session = s }) (reservedBy l stride p size)
+  unfolding reservedBy noSettings
+  reserved-refused h k =
+      ap (λ (x : Session). record { answer = openings.Refused refusals.Opening; session = x }) k ∙ sym (cond-no _ _ (sym e ∙ h))
 
 module _ (s : Session) (o : Settings) (canvas : List ℕ) {background : List ℕ} {f : Frame} (b : background ≡ backgroundFor (s .palette) (o .p2)) (k : f ≡ blankFrame (s .palette)) where
   -- the session at `q`, as the code makes it

@@ -85,67 +85,39 @@ pixel-there l stride size e t =
     leb-true _ _ (and-right (inRange stride 1000000) _ (and-right (limitsFit l) _ (sym e ∙ t))) in
     omega (arith, div-le-self (size / 4) stride)
 
-module _ (l : Limits) (stride : ℕ) (o : Settings) (p : Palette) (canvas : List ℕ) {rows : ℕ} {background : List ℕ} {f : Frame} {t : Bool} (b : background ≡ backgroundFor p (o .p2)) (r : rows ≡ rowsOf (length canvas) stride) (k : f ≡ blankFrame p) (e : t ≡ openable l stride (length canvas)) where
-  opened-session : (life : Life)
-      → _≡_ {A = Session}
-      (record {
-        ground = record { limits = l; stride = stride; rows = rows; background = background };
-        length = length canvas;
-        settings = o;
-        life = life;
-        frame = f;
-        palette = p;
-      })
-      (sessionFor l stride (length canvas) o p life)
-  unfolding sessionFor groundFor
-  opened-session life = rw (b, r, k) refl
+pub session-as : {rows : ℕ} {background : List ℕ} {f : Frame} (l : Limits) (stride size : ℕ) (o : Settings) (p : Palette) (life : Life)
+    → background ≡ backgroundFor p (o .p2) → rows ≡ rowsOf size stride → f ≡ blankFrame p
+    → _≡_ {A = Session}
+    (record {
+      ground = record { limits = l; stride = stride; rows = rows; background = background };
+      length = size;
+      settings = o;
+      life = life;
+      frame = f;
+      palette = p;
+    })
+    (sessionFor l stride size o p life)
+unfolding sessionFor groundFor
+session-as l stride size o p life b r k = rw (b, r, k) refl
 
-  pub opened-ready : {after : List ℕ} → t ≡ true → after ≡ painted (span 0 1) background canvas
-      → _≡_ {A = Opened × List ℕ} (
-        record {
-          answer = openings.Ready;
-          session =
-              record {
-                ground = record { limits = l; stride = stride; rows = rows; background = background };
-                length = length canvas;
-                settings = o;
-                life = lives.Live;
-                frame = f;
-                palette = p;
-              };
-        },
-        after,
-      )
-      (openedBy l stride o p canvas)
+module _ (l : Limits) (stride : ℕ) (o : Settings) (p : Palette) (canvas : List ℕ) {t : Bool} {s : Session} (e : t ≡ openable l stride (length canvas)) where
+  pub opened-ready : {px after : List ℕ} → t ≡ true → px ≡ backgroundFor p (o .p2) → after ≡ painted (span 0 1) px canvas
+      → s ≡ sessionFor l stride (length canvas) o p lives.Live
+      → _≡_ {A = Opened × List ℕ} (record { answer = openings.Ready; session = s }, after) (openedBy l stride o p canvas)
   unfolding openedBy
-  opened-ready h a =
-      ap₂ (λ (s : Session) (c : List ℕ). (record { answer = openings.Ready; session = s }, c)) (opened-session lives.Live)
+  opened-ready h b a k =
+      ap₂ (λ (x : Session) (c : List ℕ). (record { answer = openings.Ready; session = x }, c)) k
       (a ∙ ap (λ (px : List ℕ). painted (span 0 1) px canvas) b)
       ∙ sym (cond-yes _ _ (sym e ∙ h))
 
-  pub opened-refused : t ≡ false
-      → _≡_ {A = Opened × List ℕ} (
-        record {
-          answer = openings.Refused refusals.Opening;
-          session =
-              record {
-                ground = record { limits = l; stride = stride; rows = rows; background = background };
-                length = length canvas;
-                settings = o;
-                life = lives.Failed;
-                frame = f;
-                palette = p;
-              };
-        },
-        canvas,
-      )
-      (openedBy l stride o p canvas)
+  pub opened-refused : t ≡ false → s ≡ sessionFor l stride (length canvas) o p lives.Failed
+      → _≡_ {A = Opened × List ℕ} (record { answer = openings.Refused refusals.Opening; session = s }, canvas) (openedBy l stride o p canvas)
   unfolding openedBy
-  opened-refused h =
-      ap (λ (s : Session). (record { answer = openings.Refused refusals.Opening; session = s }, canvas)) (opened-session lives.Failed)
+  opened-refused h k =
+      ap (λ (x : Session). (record { answer = openings.Refused refusals.Opening; session = x }, canvas)) k
       ∙ sym (cond-no _ _ (sym e ∙ h))
 
-pub ruleset openings-laws = (clear-as, background-clear, background-kept, blank-as, pixel-there, opened-ready, opened-refused)
+pub ruleset openings-made = (clear-as, background-clear, background-kept, blank-as, pixel-there, session-as, opened-ready, opened-refused)
 
 -- ---- feeding
 

@@ -11,6 +11,7 @@ use crate::Settings;
 use crate::background_for;
 use crate::blank_frame;
 use crate::judge::may_open;
+use crate::new_session;
 use colours::Palette;
 use frame::Ground;
 use frame::Limits;
@@ -24,39 +25,15 @@ pub fn reserve(limits: Limits, stride: usize, palette: Palette, length: usize) -
         p1: Given::Nothing,
         p2: Given::Nothing,
     };
-    let background = palette.register(0);
-    let ground = Ground {
-        limits,
-        stride,
-        rows: canvas::rows(length, stride),
-        background,
-    };
-    let frame = blank_frame(palette);
     if may_open(limits, stride, length) {
-        let session = Session {
-            ground,
-            length,
-            settings,
-            life: Life::Live,
-            frame,
-            palette,
-        };
         return Opened {
             answer: Opening::Ready,
-            session,
+            session: new_session(limits, stride, length, settings, palette, Life::Live),
         };
     }
-    let session = Session {
-        ground,
-        length,
-        settings,
-        life: Life::Failed,
-        frame,
-        palette,
-    };
     Opened {
         answer: Opening::Refused(Refusal::Opening),
-        session,
+        session: new_session(limits, stride, length, settings, palette, Life::Failed),
     }
 }
 

@@ -9,7 +9,7 @@ ghost use lib.ListN.{length};
 ghost use Rattle.colours.specs.Palette.{ofTable};
 ghost use Rattle.frame.specs.Step.{Fits};
 ghost use Rattle.frame.specs.Feed.{Reached};
-ghost use Rattle.payload.specs.Session.{clearFor, backgroundFor, blankFrame, openedBy, sessionWith, answeredBy, fedLive, fedBy, ratioFor, reportedAs, finishedLive, finishedBy};
+ghost use Rattle.payload.specs.Session.{clearFor, backgroundFor, blankFrame, sessionFor, openedBy, sessionWith, answeredBy, fedLive, fedBy, ratioFor, reportedAs, finishedLive, finishedBy};
 use colours::Palette;
 use frame::Command;
 use frame::Frame;
@@ -193,6 +193,36 @@ fn blank_frame(palette: Palette) -> Frame
     }
 }
 
+// A session before its first byte, in a state of life.
+fn new_session(
+    limits: Limits,
+    stride: usize,
+    length: usize,
+    settings: Settings,
+    palette: Palette,
+    life: Life,
+) -> Session
+    ensures { λ r. ⌜ r ≡ sessionFor limits stride length settings palette life ⌝ }
+{
+    let p2 = settings.p2;
+    let background = background_for(palette, p2);
+    let ground = Ground {
+        limits,
+        stride,
+        rows: canvas::rows(length, stride),
+        background,
+    };
+    let frame = blank_frame(palette);
+    Session {
+        ground,
+        length,
+        settings,
+        life,
+        frame,
+        palette,
+    }
+}
+
 // Opens a session on a canvas of `stride` pixels a row, with a copy of the owner's palette. Pixel (0, 0) gets the background.
 pub fn open(
     limits: Limits,
@@ -204,41 +234,17 @@ pub fn open(
     ensures { λ r. ⌜ (r, now (canvas .exit)) ≡ openedBy limits stride settings palette (now (canvas .entry)) ⌝ }
 {
     let length = canvas.len();
-    let p2 = settings.p2;
-    let background = background_for(palette, p2);
-    let ground = Ground {
-        limits,
-        stride,
-        rows: canvas::rows(length, stride),
-        background,
-    };
-    let frame = blank_frame(palette);
     if may_open(limits, stride, length) {
-        canvas::first_pixel(canvas, background);
-        let session = Session {
-            ground,
-            length,
-            settings,
-            life: Life::Live,
-            frame,
-            palette,
-        };
+        let p2 = settings.p2;
+        canvas::first_pixel(canvas, background_for(palette, p2));
         return Opened {
             answer: Opening::Ready,
-            session,
+            session: new_session(limits, stride, length, settings, palette, Life::Live),
         };
     }
-    let session = Session {
-        ground,
-        length,
-        settings,
-        life: Life::Failed,
-        frame,
-        palette,
-    };
     Opened {
         answer: Opening::Refused(Refusal::Opening),
-        session,
+        session: new_session(limits, stride, length, settings, palette, Life::Failed),
     }
 }
 

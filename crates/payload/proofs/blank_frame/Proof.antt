@@ -1,4 +1,4 @@
-use Rattle.payload.proofs.SessionLaws.{openings-laws}
+use Rattle.payload.proofs.SessionLaws.{openings-made}
 use borrow.Author.Needs.{needs}
 use Rattle.payload.proofs.blank_frame.Statement.{statement}
 use Rattle.payload.proofs.blank_frame.Tie as tie
@@ -10,7 +10,7 @@ new-requires : tie.Need-new-requires
 new-requires c κs = search needs
 
 returns : tie.Need-returns
-returns c = search (needs, openings-laws)
+returns c = search (needs, openings-made)
 
 pub blank-frame-spec : {M : Type 1} → statement M
 blank-frame-spec = tie.close (tie.spec register-requires new-requires returns)

@@ -1,4 +1,4 @@
-use Rattle.payload.proofs.SessionLaws.{openings-laws}
+use Rattle.payload.proofs.SessionLaws.{openings-made}
 use Rattle.payload.specs.Session.{clearFor}
 use borrow.Author.Needs.{needs}
 use Rattle.payload.proofs.is_transparent.Statement.{statement}
@@ -12,11 +12,11 @@ enum-known-p2 c = search needs
 
 returns : tie.Need-returns
 unfolding clearFor
-returns c = search (needs, openings-laws)
+returns c = search (needs, openings-made)
 
 returns-2 : tie.Need-returns-2
 unfolding clearFor
-returns-2 c = search (needs, openings-laws)
+returns-2 c = search (needs, openings-made)
 
 pub is-transparent-spec : {M : Type 1} → statement M
 is-transparent-spec = tie.close (tie.spec enum-told enum-known-p2 returns returns-2)
