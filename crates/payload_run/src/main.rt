@@ -126,48 +126,36 @@ struct Turn {
     is_refused: bool,
 }
 
+fn read_on(session: Session, consumed: usize, ink: usize, is_stopped: bool) -> Turn {
+    say_counts(consumed, ink);
+    Turn {
+        session,
+        consumed,
+        is_stopped,
+        is_refused: false,
+    }
+}
+
+fn refused(session: Session, refusal: Refusal) -> Turn {
+    say_refusal(refusal);
+    Turn {
+        session,
+        consumed: 0,
+        is_stopped: false,
+        is_refused: true,
+    }
+}
+
 fn told(session: Session, answer: Answer) -> Turn {
     match answer {
-        Answer::More { consumed, ink } => {
-            say_counts(consumed, ink);
-            Turn {
-                session,
-                consumed,
-                is_stopped: false,
-                is_refused: false,
-            }
-        }
-        Answer::Stopped { consumed, ink } => {
-            say_counts(consumed, ink);
-            Turn {
-                session,
-                consumed,
-                is_stopped: true,
-                is_refused: false,
-            }
-        }
+        Answer::More { consumed, ink } => read_on(session, consumed, ink, false),
+        Answer::Stopped { consumed, ink } => read_on(session, consumed, ink, true),
         Answer::Ended {
             consumed,
             ink,
             byte: _,
-        } => {
-            say_counts(consumed, ink);
-            Turn {
-                session,
-                consumed,
-                is_stopped: false,
-                is_refused: false,
-            }
-        }
-        Answer::Refused(refusal) => {
-            say_refusal(refusal);
-            Turn {
-                session,
-                consumed: 0,
-                is_stopped: false,
-                is_refused: true,
-            }
-        }
+        } => read_on(session, consumed, ink, false),
+        Answer::Refused(refusal) => refused(session, refusal),
     }
 }
 
