@@ -26,19 +26,19 @@ use Rattle.dcs.specs.declared.lead.Led.{Led}
 use Rattle.dcs.specs.declared.lead.Led.the-variants as leds
 use Rattle.dcs.specs.declared.lead.Step.{Step}
 use Rattle.dcs.specs.declared.lead.Lead.{Lead}
-use Rattle.dcs.specs.Lead.{leadByte, leadAt, leadOn, leadFrom}
+use Rattle.dcs.specs.Lead.{leadByte, leadOn, leadFrom}
 
 -- ---- introducer and header
 
 led-bound : (led : Led) (s : Step) (n m : ℕ) (later : ℕ → Place → Parameters → Lead)
     → ((t : Place) (h : Parameters) → later (n + 1) t h .consumed ≤ n + 1 + m) → leadOn led s n later .consumed ≤ n + suc m
-unfolding leadOn leadAt
+unfolding leadOn
 led-bound leds.On s n m later k = omega (arith, k (s .place) (s .header))
 led-bound leds.Begins s n m later k = omega arith
 led-bound (leds.Refused r) s n m later k = omega arith
 
 pub lead-bound : (bs : List ℕ) (n : ℕ) (t : Place) (h : Parameters) → leadFrom bs n t h .consumed ≤ n + length bs
-unfolding leadFrom leadAt
+unfolding leadFrom
 lead-bound [] n t h = omega arith
 lead-bound (b ∷ bs) n t h = led-bound (leadByte t h b .led) (leadByte t h b) n (length bs) _ (λ t′ h′. lead-bound bs (n + 1) t′ h′)
 

@@ -1,16 +1,15 @@
 -- Laws of introducer and header: one for each way through a function of `lead`, and the loop's.
-use Prim.Native.Nat.{ℕ, _+_, _-_, _≤_, _<_}
-use mathlib.Core.Bool.{Bool, true, false, cond}
-use mathlib.Core.List.{List, [], _∷_}
+use Prim.Native.Nat.{ℕ, _+_, _≤_, _<_}
+use mathlib.Core.Bool.{Bool, true, false}
+use mathlib.Core.List.{List, _∷_}
 use mathlib.Core.Path.{_≡_, refl, sym, ap, _∙_}
 use native.Mathlib.Numerals.{add-one}
 use native.Mathlib.Omega.{arith}
 use borrow.Author.Tests.{eq-eqb, ne-eqb}
-use lib.Dec.{eqb}
 use lib.ListN.{length, getD, drop}
 use lib.Seq.{drop-cons, drop-length}
 use Rattle.numbers.specs.declared.Parameters.{Parameters}
-use Rattle.numbers.specs.Bytes.{skipped, digit, ends, semicolon}
+use Rattle.numbers.specs.Bytes.{skipped, digit, ends}
 use Rattle.numbers.specs.Step.{withDigit, withSemicolon}
 use Rattle.frame.specs.declared.Refusal.{Refusal}
 use Rattle.frame.specs.declared.Refusal.the-variants as refusals
@@ -142,20 +141,20 @@ module _ {bytes : List ℕ} {whole : Lead} {t : Place} {h : Parameters} {consume
   unfolding leadOn
   going-on e = record { same = here e; within = omega arith }
 
-  pub turn-begins : s .led ≡ Begins → _≡_ {A = Lead} (record { place = s .place; header = s .header; consumed = consumed + 1; led = s .led }) whole
-  unfolding leadOn leadAt
-  turn-begins e = ap (λ (x : Led). record { place = s .place; header = s .header; consumed = consumed + 1; led = x }) e ∙ here e
+  pub turn-begins : {r : Lead} → s .led ≡ Begins → r ≡ leadAt (s .place) (s .header) (consumed + 1) (s .led) → r ≡ whole
+  unfolding leadOn
+  turn-begins e r = r ∙ ap (leadAt (s .place) (s .header) (consumed + 1)) e ∙ here e
 
-  pub turn-refused : {n : Refusal} → s .led ≡ Refused n → _≡_ {A = Lead} (record { place = s .place; header = s .header; consumed = consumed; led = s .led }) whole
-  unfolding leadOn leadAt
-  turn-refused e = ap (λ (x : Led). record { place = s .place; header = s .header; consumed = consumed; led = x }) e ∙ here e
+  pub turn-refused : {n : Refusal} {r : Lead} → s .led ≡ Refused n → r ≡ leadAt (s .place) (s .header) consumed (s .led) → r ≡ whole
+  unfolding leadOn
+  turn-refused e r = r ∙ ap (leadAt (s .place) (s .header) consumed) e ∙ here e
 
 -- all bytes are read
-pub going-done : {bytes : List ℕ} {whole : Lead} {t : Place} {h : Parameters} {consumed : ℕ} → Going bytes whole t h consumed
-    → length bytes ≤ consumed → _≡_ {A = Lead} (record { place = t; header = h; consumed = consumed; led = On }) whole
-unfolding leadFrom leadAt
-going-done {bytes} {t = t} {h = h} {consumed = consumed} going m =
+pub going-done : {bytes : List ℕ} {whole r : Lead} {t : Place} {h : Parameters} {consumed : ℕ} → Going bytes whole t h consumed
+    → length bytes ≤ consumed → r ≡ leadAt t h consumed On → r ≡ whole
+unfolding leadFrom
+going-done {bytes} {t = t} {h = h} {consumed = consumed} going m r =
     let e : consumed ≡ length bytes = omega (arith, going .within) in
-    ap (λ (bs : List ℕ). leadFrom bs consumed t h) (sym (ap (λ (n : ℕ). drop n bytes) e ∙ drop-length bytes)) ∙ going .same
+    r ∙ ap (λ (bs : List ℕ). leadFrom bs consumed t h) (sym (ap (λ (n : ℕ). drop n bytes) e ∙ drop-length bytes)) ∙ going .same
 
 pub ruleset turns = (going-start, turn-within, going-on, turn-begins, turn-refused, going-done)

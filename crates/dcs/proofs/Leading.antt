@@ -1,20 +1,19 @@
 -- Introducer and header byte by byte: the code's step is the definition's.
 use Prim.Native.Nat.{ℕ, zero, suc, _≤_, _<_}
 use native.Mathlib.Omega.{arith}
-use mathlib.Core.Bool.{Bool, true, false, cond}
 use mathlib.Core.Option.{Option, none, some, Option·map}
 use mathlib.Core.List.{List, [], _∷_, _++_}
 use mathlib.Core.Path.{_≡_, refl, sym, ap, ap₂, subst, _∙_}
-use borrow.Author.Tests.{le-leb, lt-leb, eqb-true, leb-true, leb-false}
+use borrow.Author.Tests.{eqb-true, leb-true, leb-false}
 use lib.Dec.{leb, eqb}
 use lib.ListN.{length, getD, getElem?}
 use Rattle.numbers.specs.declared.Parameters.{Parameters}
 use Rattle.numbers.specs.Bytes.{skipped, digit, ends, semicolon}
 use Rattle.numbers.specs.Read.{Read}
-use Rattle.numbers.specs.Step.{finished, valueAt, withDigit, withSemicolon}
+use Rattle.numbers.specs.Step.{finished, valueAt, withSemicolon}
 use Rattle.numbers.specs.Values.{values, held16}
 use Rattle.numbers.proofs.Laws.{cond-yes, cond-no}
-use Rattle.numbers.proofs.Reading.{read-none, read-digit, read-semicolon, read-count, read-value}
+use Rattle.numbers.proofs.Reading.{read-digit, read-semicolon, read-count, read-value}
 use Rattle.colours.specs.declared.Palette.{Palette}
 use Rattle.canvas.proofs.Covers.{by-test}
 use Rattle.frame.specs.declared.Refusal.{Refusal}
@@ -25,11 +24,9 @@ use Rattle.meaning.specs.Drawing.{Setting}
 use Rattle.meaning.specs.Payload as meant
 use Rattle.meaning.specs.Reader as reader
 use Rattle.meaning.specs.Sessions as sessions
-use Rattle.payload.specs.declared.Given.{Given}
 use Rattle.payload.specs.declared.Given.the-variants as givens
 use Rattle.payload.specs.History as payload
 use Rattle.dcs.specs.declared.lead.Place.{Place}
-use Rattle.dcs.specs.declared.lead.Place.the-variants as places
 use Rattle.dcs.specs.declared.lead.Led.the-variants as leds
 use Rattle.dcs.specs.declared.lead.Step.{Step}
 use Rattle.dcs.specs.Lead.{ledTo, startByte, introducedByte, headerByte, leadByte}

@@ -3,4 +3,8 @@ pub mod Bounds
 pub mod SessionLaws
 pub mod Runs
 pub mod Leading
+pub mod Within
+pub mod Before
 pub mod Standing
+pub mod Callers
+pub mod History

@@ -1,13 +1,13 @@
 -- Laws of a DCS session: one for each way through a function.
 use Prim.Native.Nat.{ℕ, _+_, _-_, _≤_, _<_}
-use mathlib.Core.Bool.{Bool, true, false, cond, _||_}
+use mathlib.Core.Bool.{true, false, cond, _||_}
 use mathlib.Core.List.{List, [], _∷_}
 use mathlib.Core.Path.{_≡_, refl, sym, ap, ap₂, subst, _∙_}
 use native.Mathlib.Numerals.{add-one}
 use native.Mathlib.Omega.{arith}
 use borrow.Author.Tests.{le-leb, lt-leb, eq-eqb, ne-eqb}
 use denote.Enum.Declared.{tagOf}
-use lib.Dec.{leb, eqb}
+use lib.Dec.{eqb}
 use lib.ListN.{length, getD, take, drop, drop-of-length-le, length-drop}
 use lib.Seq.{drop-cons, drop-drop, take-length}
 use types.Run.{OneOf, miss}
@@ -168,35 +168,31 @@ module _ (p : payloadSession.Session) (canvas bytes : List ℕ) (from allowance 
       subst (λ (n : ℕ). AtMost n a) (length-drop from bytes)
       (subst (AtMost (length (drop from bytes))) (ap (λ (x : payloadFed.Fed × List ℕ). x .0 .answer) (sym whole) ∙ e) (fed-bound p canvas (drop from bytes) allowance))
 
-module _ (s : Session) (canvas bytes : List ℕ) (from allowance : ℕ) {f : payloadFed.Fed} {after : List ℕ} (fed : (f, after) ≡ payload.fedBy (s .payload) canvas (take (length bytes - from) (drop from bytes)) allowance) where
-  passed : {a : payloadAnswer.Answer} {r : Fed} → f .answer ≡ a → r ≡ passedOn a (sessionOf (f .session) (s .header) phases.Within) (drop from bytes) from
-      → (r, after) ≡ fedPayload s canvas (drop from bytes) from allowance
+module _ (s : Session) (canvas bytes : List ℕ) (from allowance : ℕ) {f : payloadFed.Fed} {after : List ℕ} {k : Session} {r : Fed} (call : (f, after) ≡ payload.fedBy (s .payload) canvas (take (length bytes - from) (drop from bytes)) allowance) (read : k ≡ sessionOf (f .session) (s .header) phases.Within) where
+  passed : {a : payloadAnswer.Answer} → f .answer ≡ a → r ≡ passedOn a k (drop from bytes) from → (r, after) ≡ fedPayload s canvas (drop from bytes) from allowance
   unfolding fedPayload
   passed e h =
-      ap (λ (x : Fed). (x, after)) (h ∙ ap (λ (a : payloadAnswer.Answer). passedOn a (sessionOf (f .session) (s .header) phases.Within) (drop from bytes) from) (sym e))
-      ∙ ap (λ (x : payloadFed.Fed × List ℕ). (passedOn (x .0 .answer) (sessionOf (x .0 .session) (s .header) phases.Within) (drop from bytes) from, x .1)) (whole (s .payload) canvas bytes from allowance fed)
+      ap (λ (x : Fed). (x, after))
+      (h
+      ∙ ap₂ (λ (a : payloadAnswer.Answer) (x : Session). passedOn a x (drop from bytes) from) (sym e) read)
+      ∙ ap (λ (x : payloadFed.Fed × List ℕ). (passedOn (x .0 .answer) (sessionOf (x .0 .session) (s .header) phases.Within) (drop from bytes) from, x .1)) (whole (s .payload) canvas bytes from allowance call)
 
   module _ {c i : ℕ} where
-    pub passed-more : f .answer ≡ payloadAnswers.More c i
-        → _≡_ {A = Fed × List ℕ} (record { answer = answers.More (from + c) i; session = record { payload = f .session; header = s .header; phase = phases.Within } }, after) (fedPayload s canvas (drop from bytes) from allowance)
+    pub passed-more : f .answer ≡ payloadAnswers.More c i → r ≡ record { answer = answers.More (from + c) i; session = k } → (r, after) ≡ fedPayload s canvas (drop from bytes) from allowance
     unfolding passedOn
-    passed-more e = passed e refl
+    passed-more e h = passed e h
 
-    pub passed-stopped : f .answer ≡ payloadAnswers.Stopped c i
-        → _≡_ {A = Fed × List ℕ} (record { answer = answers.Stopped (from + c) i; session = record { payload = f .session; header = s .header; phase = phases.Within } }, after) (fedPayload s canvas (drop from bytes) from allowance)
+    pub passed-stopped : f .answer ≡ payloadAnswers.Stopped c i → r ≡ record { answer = answers.Stopped (from + c) i; session = k } → (r, after) ≡ fedPayload s canvas (drop from bytes) from allowance
     unfolding passedOn
-    passed-stopped e = passed e refl
+    passed-stopped e h = passed e h
 
-    pub passed-ended : {b : ℕ} {r : Fed} → f .answer ≡ payloadAnswers.Ended c i b
-        → r ≡ closedBy (record { payload = f .session; header = s .header; phase = phases.Within }) (drop (from + c) bytes) (from + c) i
-        → (r, after) ≡ fedPayload s canvas (drop from bytes) from allowance
+    pub passed-ended : {b : ℕ} → f .answer ≡ payloadAnswers.Ended c i b → r ≡ closedBy k (drop (from + c) bytes) (from + c) i → (r, after) ≡ fedPayload s canvas (drop from bytes) from allowance
     unfolding passedOn
-    passed-ended e h = passed e (h ∙ ap (λ (bs : List ℕ). closedBy (record { payload = f .session; header = s .header; phase = phases.Within }) bs (from + c) i) (sym (drop-drop c from bytes)))
+    passed-ended e h = passed e (h ∙ ap (λ (bs : List ℕ). closedBy k bs (from + c) i) (sym (drop-drop c from bytes)))
 
-  pub passed-refused : {n : Refusal} → f .answer ≡ payloadAnswers.Refused n
-      → _≡_ {A = Fed × List ℕ} (record { answer = answers.Refused n; session = record { payload = f .session; header = s .header; phase = phases.Within } }, after) (fedPayload s canvas (drop from bytes) from allowance)
+  pub passed-refused : {n : Refusal} → f .answer ≡ payloadAnswers.Refused n → r ≡ record { answer = answers.Refused n; session = k } → (r, after) ≡ fedPayload s canvas (drop from bytes) from allowance
   unfolding passedOn
-  passed-refused e = passed e refl
+  passed-refused e h = passed e h
 
 pub ruleset payloads = (passed-more, passed-stopped, passed-ended, passed-refused)
 
@@ -213,28 +209,32 @@ module _ (s : Session) (t : Place) (canvas bytes : List ℕ) (allowance : ℕ) {
       ∙ ap (λ (x : Led). ledTo x l s canvas bytes allowance) (sym e)
       ∙ ap (λ (x : Lead). ledTo (x .led) x s canvas bytes allowance) lead
 
-  pub led-on : l .led ≡ leds.On
-      → _≡_ {A = Fed × List ℕ} (record { answer = answers.More (l .consumed) 0; session = record { payload = s .payload; header = l .header; phase = phases.Before (l .place) } }, canvas) (fedLead s t canvas bytes allowance)
-  unfolding ledTo
-  led-on e = led e refl
+  module _ {k : Session} {r : Fed} where
+    pub led-on : l .led ≡ leds.On → k ≡ sessionOf (s .payload) (l .header) (phases.Before (l .place)) → r ≡ record { answer = answers.More (l .consumed) 0; session = k }
+        → (r, canvas) ≡ fedLead s t canvas bytes allowance
+    unfolding ledTo
+    led-on e k h = led e (ap (λ (x : Fed). (x, canvas)) (h ∙ ap (λ (x : Session). record { answer = answers.More (l .consumed) 0; session = x }) k))
 
-  pub led-refused : {n : Refusal} {k : payloadSession.Session} → l .led ≡ leds.Refused n → k ≡ failedOf (s .payload)
-      → _≡_ {A = Fed × List ℕ} (record { answer = answers.Refused n; session = record { payload = k; header = l .header; phase = phases.Before (l .place) } }, canvas) (fedLead s t canvas bytes allowance)
-  unfolding ledTo
-  led-refused {n} e k =
-      led e
-      (ap (λ (x : payloadSession.Session). (record { answer = answers.Refused n; session = record { payload = x; header = l .header; phase = phases.Before (l .place) } }, canvas)) k)
+    pub led-refused : {n : Refusal} {y : payloadSession.Session} → l .led ≡ leds.Refused n → y ≡ failedOf (s .payload) → k ≡ sessionOf y (l .header) (phases.Before (l .place))
+        → r ≡ record { answer = answers.Refused n; session = k } → (r, canvas) ≡ fedLead s t canvas bytes allowance
+    unfolding ledTo
+    led-refused {n} e y k h =
+        led e
+        (ap (λ (x : Fed). (x, canvas))
+        (h
+        ∙ ap (λ (x : Session). record { answer = answers.Refused n; session = x })
+        (k ∙ ap (λ (x : payloadSession.Session). sessionOf x (l .header) (phases.Before (l .place))) y)))
 
-  pub led-begins : {o : Settings} {b : payloadSession.Session} {l₁ l₂ : List ℕ} {r : Fed} → l .led ≡ leds.Begins → o ≡ settingsFrom (l .header)
-      → (b, l₁) ≡ begunBy (s .payload) o canvas
-      → (r, l₂) ≡ fedPayload (record { payload = b; header = l .header; phase = phases.Within }) l₁ (drop (l .consumed) bytes) (l .consumed) allowance
-      → (r, l₂) ≡ fedLead s t canvas bytes allowance
-  unfolding ledTo
-  led-begins e o b h =
-      led e
-      (h
-      ∙ ap (λ (x : payloadSession.Session × List ℕ). fedPayload (record { payload = x .0; header = l .header; phase = phases.Within }) (x .1) (drop (l .consumed) bytes) (l .consumed) allowance)
-      (b ∙ ap (λ (y : Settings). begunBy (s .payload) y canvas) o))
+    pub led-begins : {o : Settings} {b : payloadSession.Session} {l₁ l₂ : List ℕ} → l .led ≡ leds.Begins → o ≡ settingsFrom (l .header)
+        → (b, l₁) ≡ begunBy (s .payload) o canvas → k ≡ sessionOf b (l .header) phases.Within
+        → (r, l₂) ≡ fedPayload k l₁ (drop (l .consumed) bytes) (l .consumed) allowance → (r, l₂) ≡ fedLead s t canvas bytes allowance
+    unfolding ledTo
+    led-begins {l₁ = l₁} e o b k h =
+        led e
+        (h
+        ∙ ap (λ (x : Session). fedPayload x l₁ (drop (l .consumed) bytes) (l .consumed) allowance) k
+        ∙ ap (λ (x : payloadSession.Session × List ℕ). fedPayload (sessionOf (x .0) (l .header) phases.Within) (x .1) (drop (l .consumed) bytes) (l .consumed) allowance)
+        (b ∙ ap (λ (y : Settings). begunBy (s .payload) y canvas) o))
 
 pub ruleset leads = (led-bound, led-on, led-refused, led-begins)
 

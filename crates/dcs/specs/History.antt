@@ -1,10 +1,11 @@
 -- What the code's values mean, and when a DCS session and its canvas stand for a session of the definition.
-use Prim.Native.Nat.{ℕ}
-use mathlib.Core.Bool.{Bool, true, false}
+use Prim.Native.Nat.{ℕ, _+_}
+use mathlib.Core.Bool.{Bool, true, false, _&&_}
 use mathlib.Core.Option.{none}
-use mathlib.Core.List.{List, []}
+use mathlib.Core.List.{List, [], _∷_, _++_}
 use mathlib.Core.Path.{_≡_}
-use lib.ListN.{length}
+use lib.Dec.{leb}
+use lib.ListN.{length, drop}
 use Rattle.numbers.specs.declared.Parameters.{Parameters}
 use Rattle.numbers.specs.Read.{Read}
 use Rattle.colours.specs.declared.Palette.{Palette}
@@ -12,6 +13,8 @@ use Rattle.frame.specs.declared.Limits.{Limits}
 use Rattle.frame.specs.declared.Refusal.{Refusal}
 use Rattle.frame.specs.Numbers.{numberOf}
 use Rattle.meaning.specs.Calls as calls
+use Rattle.meaning.specs.Histories.{Ask}
+use Rattle.meaning.specs.Reader.{How, readAll, stopped, halted, refusedBy, Turn, pieceOf, allowanceOf, Caller, mayCall}
 use Rattle.meaning.specs.Sessions as sessions
 use Rattle.payload.specs.declared.Life.the-variants as lives
 use Rattle.payload.specs.declared.Opening.the-variants as openings
@@ -30,7 +33,7 @@ use Rattle.dcs.specs.declared.Phase.the-variants as phases
 use Rattle.dcs.specs.declared.Session.{Session}
 use Rattle.dcs.specs.declared.lead.Place.{Place}
 use Rattle.dcs.specs.declared.lead.Place.the-variants as places
-use Rattle.dcs.specs.Session.{sessionOf}
+use Rattle.dcs.specs.Session.{sessionOf, fedBy}
 
 -- ---- what the code's values mean
 
@@ -88,3 +91,82 @@ pub data Opens (l : Limits) (stride : ℕ) (p : Palette) (opening : List ℕ) : 
 pub record Feeds (l : Limits) (stride : ℕ) (p : Palette) (opening : List ℕ) (x : Fed × List ℕ) (y : calls.Fed sessions.Phase sessions.End) : Type 0 where
   pub answer : answerMeant (x .0 .answer) ≡ y .answer
   pub session : Stands l stride p opening (x .0 .session) (x .1) (y .session)
+
+-- ---- any calls, the canvas given back each time as it was left
+
+-- the answers, and the session and the canvas after them
+pub record Past : Type 0 where
+  pub answers : List Answer
+  pub session : Session
+  pub canvas : List ℕ
+
+unfoldable pub fedAll : Session → List ℕ → List Ask → Past
+fedAll s l [] = record { answers = []; session = s; canvas = l }
+fedAll s l (c ∷ cs) =
+    let x : Fed × List ℕ = fedBy s l (c .bytes) (c .allowance) in
+    let later : Past = fedAll (x .0 .session) (x .1) cs in
+    record { answers = x .0 .answer ∷ later .answers; session = later .session; canvas = later .canvas }
+
+-- the same of the definition, on a canvas of so many bytes
+pub record PastMeant : Type 0 where
+  pub answers : List (calls.Answer sessions.End)
+  pub session : calls.Session sessions.Phase
+
+unfoldable pub fedAllMeant : Palette → calls.Session sessions.Phase → ℕ → List Ask → PastMeant
+fedAllMeant p m size [] = record { answers = []; session = m }
+fedAllMeant p m size (c ∷ cs) =
+    let y : calls.Fed sessions.Phase sessions.End = calls.feedDcs p m size (c .allowance) (c .bytes) in
+    let later : PastMeant = fedAllMeant p (y .session) size cs in
+    record { answers = y .answer ∷ later .answers; session = later .session }
+
+-- ---- a caller that presents what was left unread (document 01, 'Ink')
+
+-- how a call came to its end, as its answer tells
+unfoldable pub howTold : calls.Answer sessions.End → How
+howTold (calls.told consumed ink calls.needsMore) = readAll
+howTold (calls.told consumed ink calls.stoppedForInk) = stopped
+howTold (calls.told consumed ink (calls.ended e)) = halted
+howTold (calls.refused n) = refusedBy n
+
+-- the counts that it tells; a refusal tells none
+unfoldable pub consumedTold : calls.Answer sessions.End → ℕ
+consumedTold (calls.told consumed ink status) = consumed
+consumedTold (calls.refused n) = 0
+
+unfoldable pub inkTold : calls.Answer sessions.End → ℕ
+inkTold (calls.told consumed ink status) = ink
+inkTold (calls.refused n) = 0
+
+-- what a caller holds: a session and its canvas
+abbrev pub Held : Type 0
+Held = Session × List ℕ
+
+-- where a caller stands after a feed of what it presented, with the answer's meaning
+unfoldable pub afterFeed : Caller Held → List ℕ → Held → calls.Answer sessions.End → Caller Held
+unfolding howTold consumedTold inkTold
+afterFeed c presented held x =
+    record {
+      state = held;
+      unread = drop (consumedTold x) presented;
+      consumed = c .consumed + consumedTold x;
+      ink = c .ink + inkTold x;
+      how = howTold x;
+    }
+
+unfoldable pub called : Caller Held → Turn → Caller Held
+unfolding afterFeed
+called c t =
+    let presented : List ℕ = c .unread ++ pieceOf t in
+    let x : Fed × List ℕ = fedBy (c .state .0) (c .state .1) presented (allowanceOf t) in
+    afterFeed c presented (x .0 .session, x .1) (answerMeant (x .0 .answer))
+
+unfoldable pub callsOf : Caller Held → List Turn → Caller Held
+unfolding called
+callsOf c [] = c
+callsOf c (t ∷ ts) = callsOf (called c t) ts
+
+-- each call is one that may be made after the answer before it, with an allowance of at least A
+unfoldable pub properCalls : ℕ → Caller Held → List Turn → Bool
+unfolding called
+properCalls A c [] = true
+properCalls A c (t ∷ ts) = leb A (allowanceOf t) && (mayCall t (c .how) && properCalls A (called c t) ts)

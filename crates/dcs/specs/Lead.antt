@@ -47,19 +47,18 @@ leadByte places.Start h b = startByte h b
 leadByte places.Introduced h b = introducedByte h b
 leadByte places.Header h b = headerByte h b
 
-unfoldable pub leadAt : Place → Parameters → ℕ → Led → Lead
+abbrev pub leadAt : Place → Parameters → ℕ → Led → Lead
 leadAt t h n led = record { place = t; header = h; consumed = n; led = led }
 
 -- `q` is consumed, a refused byte is not
 unfoldable pub leadOn : Led → Step → ℕ → (ℕ → Place → Parameters → Lead) → Lead
-unfolding leadAt
 leadOn On s n later = later (n + 1) (s .place) (s .header)
 leadOn Begins s n later = leadAt (s .place) (s .header) (n + 1) Begins
 leadOn (Refused r) s n later = leadAt (s .place) (s .header) n (Refused r)
 
 -- the bytes that are left, after `n` bytes
 unfoldable pub leadFrom : List ℕ → ℕ → Place → Parameters → Lead
-unfolding leadByte leadOn leadAt
+unfolding leadByte leadOn
 leadFrom [] n t h = leadAt t h n On
 leadFrom (b ∷ bs) n t h =
     let s : Step = leadByte t h b in

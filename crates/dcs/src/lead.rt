@@ -1,6 +1,6 @@
 // What stands before a payload: the introducer and the header.
 ghost use mathlib.Core.Path.{_≡_};
-ghost use Rattle.dcs.specs.Lead.{startByte, introducedByte, headerByte, leadByte, leadFrom};
+ghost use Rattle.dcs.specs.Lead.{startByte, introducedByte, headerByte, leadByte, leadAt, leadFrom};
 use frame::Refusal;
 use numbers::Parameters;
 use numbers::ends_payload;
@@ -117,6 +117,17 @@ fn lead_byte(place: Place, header: Parameters, byte: u8) -> Step
     }
 }
 
+fn lead_at(place: Place, header: Parameters, consumed: usize, led: Led) -> Lead
+    ensures { λ r. ⌜ r ≡ leadAt place header consumed led ⌝ }
+{
+    Lead {
+        place,
+        header,
+        consumed,
+        led,
+    }
+}
+
 // Reads bytes until `q`, a refusal, or the last of them.
 pub fn read_lead(place: Place, header: Parameters, bytes: &[u8]) -> Lead
     ensures { λ r. ⌜ r ≡ leadFrom (now (bytes .entry)) 0 place header ⌝ }
@@ -134,27 +145,12 @@ pub fn read_lead(place: Place, header: Parameters, bytes: &[u8]) -> Lead
                 consumed = consumed + 1;
             }
             Led::Begins => {
-                return Lead {
-                    place: here,
-                    header: values,
-                    consumed: consumed + 1,
-                    led,
-                };
+                return lead_at(here, values, consumed + 1, led);
             }
             Led::Refused(_) => {
-                return Lead {
-                    place: here,
-                    header: values,
-                    consumed,
-                    led,
-                };
+                return lead_at(here, values, consumed, led);
             }
         }
     }
-    Lead {
-        place: here,
-        header: values,
-        consumed,
-        led: Led::On,
-    }
+    lead_at(here, values, consumed, Led::On)
 }

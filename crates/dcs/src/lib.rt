@@ -5,7 +5,7 @@ pub mod lead;
 ghost use mathlib.Core.Path.{_≡_};
 ghost use Prim.Native.Nat.{_≤_};
 ghost use lib.ListN.{length, drop};
-ghost use Rattle.dcs.specs.Session.{givenAt, settingsFrom, openedBy, movedTo, overAs, escapedBy, closedBy, fedPayload, fedLead, fedBy, finishedBy};
+ghost use Rattle.dcs.specs.Session.{givenAt, settingsFrom, openedBy, sessionOf, movedTo, overAs, escapedBy, closedBy, fedPayload, fedLead, fedBy, finishedBy};
 use colours::Palette;
 use frame::Limits;
 use frame::Refusal;
@@ -110,6 +110,22 @@ fn settings_from(header: Parameters) -> Settings
     }
 }
 
+fn session_of(inner: payload::Session, header: Parameters, phase: Phase) -> Session
+    ensures { λ r. ⌜ r ≡ sessionOf inner header phase ⌝ }
+{
+    Session {
+        payload: inner,
+        header,
+        phase,
+    }
+}
+
+fn answered(answer: Answer, session: Session) -> Fed
+    ensures { λ r. ⌜ r ≡ record { answer = answer; session = session } ⌝ }
+{
+    Fed { answer, session }
+}
+
 fn moved(session: Session, phase: Phase) -> Session
     ensures { λ r. ⌜ r ≡ movedTo session phase ⌝ }
 {
@@ -191,38 +207,24 @@ fn feed_payload(
 {
     let inner = session.payload;
     let header = session.header;
-    let fed = payload::feed(inner, canvas, &bytes[from..], allowance);
-    let answer = fed.answer;
-    let after = fed.session;
-    let read = Session {
-        payload: after,
-        header,
-        phase: Phase::Within,
-    };
+    let call = payload::feed(inner, canvas, &bytes[from..], allowance);
+    let answer = call.answer;
+    let read = session_of(call.session, header, Phase::Within);
     match answer {
-        payload::Answer::More { consumed, ink } => Fed {
-            answer: Answer::More {
-                consumed: from + consumed,
-                ink,
-            },
-            session: read,
-        },
-        payload::Answer::Stopped { consumed, ink } => Fed {
-            answer: Answer::Stopped {
-                consumed: from + consumed,
-                ink,
-            },
-            session: read,
-        },
+        payload::Answer::More { consumed, ink } => {
+            let at = from + consumed;
+            answered(Answer::More { consumed: at, ink }, read)
+        }
+        payload::Answer::Stopped { consumed, ink } => {
+            let at = from + consumed;
+            answered(Answer::Stopped { consumed: at, ink }, read)
+        }
         payload::Answer::Ended {
             consumed,
             ink,
             byte: _,
         } => close(read, bytes, from + consumed, ink),
-        payload::Answer::Refused(refusal) => Fed {
-            answer: Answer::Refused(refusal),
-            session: read,
-        },
+        payload::Answer::Refused(refusal) => answered(Answer::Refused(refusal), read),
     }
 }
 
@@ -243,31 +245,19 @@ fn feed_lead(
     let here = lead.place;
     let led = lead.led;
     match led {
-        Led::On => Fed {
-            answer: Answer::More { consumed, ink: 0 },
-            session: Session {
-                payload: inner,
-                header,
-                phase: Phase::Before(here),
-            },
-        },
+        Led::On => {
+            let session = session_of(inner, header, Phase::Before(here));
+            answered(Answer::More { consumed, ink: 0 }, session)
+        }
         Led::Begins => {
             let begun = begin::begin(inner, settings_from(header), canvas);
-            let session = Session {
-                payload: begun,
-                header,
-                phase: Phase::Within,
-            };
+            let session = session_of(begun, header, Phase::Within);
             feed_payload(session, canvas, bytes, consumed, allowance)
         }
-        Led::Refused(refusal) => Fed {
-            answer: Answer::Refused(refusal),
-            session: Session {
-                payload: begin::fail(inner),
-                header,
-                phase: Phase::Before(here),
-            },
-        },
+        Led::Refused(refusal) => {
+            let session = session_of(begin::fail(inner), header, Phase::Before(here));
+            answered(Answer::Refused(refusal), session)
+        }
     }
 }
 

@@ -20,7 +20,8 @@ use Rattle.payload.specs.declared.Session.{Session}
 use Rattle.payload.specs.History.{answerMeant, Stands, Feeds, howTold, consumedTold}
 use Rattle.payload.specs.Session.{fedBy}
 use Rattle.payload.proofs.Answer as AnswerType
-use Rattle.payload.proofs.Standing.{feed-stands, stands-long}
+use Rattle.payload.proofs.Feedings.{feed-stands}
+use Rattle.payload.proofs.Judgements.{stands-long}
 use Rattle.oneshot.proofs.StandLaws.{allowance, Lives, fedRun, plain, plain-stopped, fed-how, fed-session, fed-stopped, stop-consumes, stop-onward}
 
 -- ---- what is left of a part

@@ -34,7 +34,9 @@ use Rattle.payload.specs.History.{parametersMeant, settingMeant, answerMeant, r
 use Rattle.payload.specs.Judge.{openable}
 use Rattle.payload.specs.Session.{backgroundFor, sessionFor, openedBy, fedBy, finishedBy}
 use Rattle.payload.proofs.Answer as AnswerType
-use Rattle.payload.proofs.Standing.{ready-stands, finish-stands, stands-long}
+use Rattle.payload.proofs.Finishings.{finish-stands}
+use Rattle.payload.proofs.Judgements.{stands-long}
+use Rattle.payload.proofs.Openings.{ready-stands}
 use Rattle.oneshot.specs.OneShot.{paletteAfter, readOutcome, readPart, finishMeant, readMeant}
 use Rattle.oneshot.proofs.StandLaws.{allowance, Lives, finish-lives, plain, plain-refused, plain-read}
 use Rattle.payload.specs.declared.Life.the-variants as life

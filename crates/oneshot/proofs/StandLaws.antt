@@ -14,7 +14,9 @@ use Rattle.meaning.proofs.CallLaws.{StoppedAt, call-stopped-at, onward, call-on
 use Rattle.meaning.proofs.Demand3.{payload-rests, payload-halts, payload-caps}
 use Rattle.payload.specs.declared.Session.{Session}
 use Rattle.payload.specs.History.{howTold, Stands}
-use Rattle.payload.proofs.Standing.{fed-meant, finished-meant, stands-fit}
+use Rattle.payload.proofs.Feedings.{fed-meant}
+use Rattle.payload.proofs.Finishings.{finished-meant}
+use Rattle.payload.proofs.Judgements.{stands-fit}
 
 -- the allowance of each feed
 abbrev pub allowance : ℕ

@@ -26,7 +26,8 @@ use Rattle.payload.specs.declared.Fed.{Fed}
 use Rattle.payload.specs.declared.Session.{Session}
 use Rattle.payload.specs.Session.{fedBy}
 use Rattle.payload.specs.History.{answerMeant, Stands, Feeds, howTold, consumedTold, inkTold, Held, afterFeed, called, callsOf, properCalls}
-use Rattle.payload.proofs.Standing.{call-parameters, live-agrees, fed-meant, feed-stands, stands-long, stands-fit}
+use Rattle.payload.proofs.Judgements.{stands-long, stands-fit}
+use Rattle.payload.proofs.Feedings.{call-parameters, live-agrees, fed-meant, feed-stands}
 
 -- ---- what a call's answer tells
 

@@ -22,7 +22,10 @@ use Rattle.payload.specs.declared.Settings.{Settings}
 use Rattle.payload.specs.Judge.{openable}
 use Rattle.payload.specs.Session.{openedBy, fedBy, finishedBy}
 use Rattle.payload.specs.History.{parametersMeant, limitsMeant, settingMeant, answerMeant, Stands, Feeds, Finishes, Past, fedAll, PastMeant, fedAllMeant, Held, callsOf, properCalls}
-use Rattle.payload.proofs.Standing.{ready-stands, feed-stands, finish-stands, finished-meant, stands-shows, stands-long, stands-fit}
+use Rattle.payload.proofs.Openings.{ready-stands}
+use Rattle.payload.proofs.Judgements.{stands-shows, stands-long, stands-fit}
+use Rattle.payload.proofs.Feedings.{feed-stands}
+use Rattle.payload.proofs.Finishings.{finish-stands, finished-meant}
 use Rattle.payload.proofs.Callers.{sessionAt, CallerStands, calls-stand}
 
 -- ---- any calls
@@ -43,6 +46,24 @@ history-stands {opening} {s} {l} {m} k (c ∷ cs) =
     (feed-stands k (c .bytes) (c .allowance)) in
     let later = history-stands (f .session) cs in
     record { answers = ap₂ _∷_ (f .answer) (later .answers); session = later .session }
+
+-- so after any calls the canvas shows the drawing of the definition's state
+pub history-shows : {opening : List ℕ} {s : Session} {l : List ℕ} {m : calls.Session Reading} → Stands opening s l m → (cs : List Ask)
+    → fedAll s l cs .canvas ≡ calls.payloadShown (fedAllMeant m (length opening) cs .session) opening
+history-shows k cs = stands-shows (history-stands k cs .session)
+
+-- and a finish then is the definition's
+pub history-finishes : {opening : List ℕ} {s : Session} {l : List ℕ} {m : calls.Session Reading} → Stands opening s l m → (cs : List Ask) (owner : Palette)
+    → Finishes (calls.payloadShownAtFinish (fedAllMeant m (length opening) cs .session) opening) owner (fedAll s l cs .canvas)
+    (finishedBy (fedAll s l cs .session) owner (fedAll s l cs .canvas)) (calls.finishPayload (fedAllMeant m (length opening) cs .session) (length opening))
+history-finishes {opening} {s} {l} {m} k cs owner =
+    let after = history-stands k cs .session in
+    subst
+    (λ (n : ℕ).
+    Finishes (calls.payloadShownAtFinish (fedAllMeant m (length opening) cs .session) opening) owner (fedAll s l cs .canvas)
+    (finishedBy (fedAll s l cs .session) owner (fedAll s l cs .canvas)) (calls.finishPayload (fedAllMeant m (length opening) cs .session) n))
+    (stands-long after)
+    (finish-stands after owner)
 
 -- ---- demands 2 and 3 of the code: a session that was opened, and a caller that presents what was left unread
 

@@ -1,6 +1,9 @@
 pub mod JudgeLaws
 pub mod SessionLaws
 pub mod BeginLaws
-pub mod Standing
+pub mod Openings
+pub mod Judgements
+pub mod Feedings
+pub mod Finishings
 pub mod Callers
 pub mod History

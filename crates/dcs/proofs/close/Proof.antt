@@ -1,61 +1,44 @@
-use Rattle.dcs.proofs.SessionLaws.{endings-laws}
 use borrow.Author.Needs.{needs}
+use Rattle.dcs.proofs.SessionLaws.{endings-laws}
 use Rattle.dcs.proofs.close.Statement.{statement}
 use Rattle.dcs.proofs.close.Tie as tie
-use Rattle.dcs.proofs.close.Reads as reads
-use Rattle.dcs.proofs.close.Lts as lts
-use Rattle.dcs.proofs.end.Reads as end-reads
-use Rattle.dcs.proofs.feed_escaped.Reads as feed-escaped-reads
 
--- src/lib.rt:159:9
 returns : tie.Need-returns
 returns c = search (needs, endings-laws)
 
--- src/lib.rt:164:16
 shared-slice-read-byte : tie.Need-shared-slice-read-byte
 shared-slice-read-byte c = search needs
 
--- src/lib.rt:165:16
 add-next : tie.Need-add-next
 add-next c = search needs
 
--- src/lib.rt:167:9
 feed-escaped-requires : tie.Need-feed-escaped-requires
 feed-escaped-requires c κs = search needs
 
--- src/lib.rt:167:9
 returns-2 : tie.Need-returns-2
 returns-2 c = search (needs, endings-laws)
 
--- src/lib.rt:170:9
 end-requires : tie.Need-end-requires
 end-requires c κs = search needs
 
--- src/lib.rt:170:9
 returns-3 : tie.Need-returns-3
 returns-3 c = search (needs, endings-laws)
 
--- src/lib.rt:173:9
 end-requires-2 : tie.Need-end-requires-2
 end-requires-2 c κs = search needs
 
--- src/lib.rt:173:9
 returns-4 : tie.Need-returns-4
 returns-4 c = search (needs, endings-laws)
 
--- src/lib.rt:176:9
 end-requires-3 : tie.Need-end-requires-3
 end-requires-3 c κs = search needs
 
--- src/lib.rt:176:9
 returns-5 : tie.Need-returns-5
 returns-5 c = search (needs, endings-laws)
 
--- src/lib.rt:178:5
 end-requires-4 : tie.Need-end-requires-4
 end-requires-4 c κs = search needs
 
--- src/lib.rt:155:1
 returns-6 : tie.Need-returns-6
 returns-6 c = search (needs, endings-laws)
 

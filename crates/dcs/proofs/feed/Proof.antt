@@ -1,83 +1,59 @@
-use Rattle.dcs.proofs.SessionLaws.{feedings}
 use borrow.Author.Needs.{needs}
+use Rattle.dcs.proofs.SessionLaws.{feedings}
 use Rattle.dcs.proofs.feed.Statement.{statement}
 use Rattle.dcs.proofs.feed.Tie as tie
-use Rattle.dcs.proofs.feed.Reads as reads
-use Rattle.dcs.proofs.feed.Lts as lts
-use Rattle.dcs.proofs.end.Reads as end-reads
-use Rattle.dcs.proofs.feed_escaped.Reads as feed-escaped-reads
-use Rattle.dcs.proofs.feed_lead.Reads as feed-lead-reads
-use Rattle.dcs.proofs.feed_payload.Reads as feed-payload-reads
-use Rattle.payload.proofs.judge.feed_refusal.Reads as feed-refusal-reads
 
--- src/lib.rt:262:39
 feed-refusal-requires : tie.Need-feed-refusal-requires
 feed-refusal-requires c κs = search needs
 
--- src/lib.rt:262:28
 enum-known-refusal : tie.Need-enum-known-refusal
 enum-known-refusal c = search needs
 
--- src/lib.rt:263:9
 returns : tie.Need-returns
 returns c = search (needs, feedings)
 
 enum-told : tie.Need-enum-told
 enum-told c = search needs
 
--- src/lib.rt:270:23
 enum-known-phase : tie.Need-enum-known-phase
 enum-known-phase c = search needs
 
--- src/lib.rt:270:33
 feed-lead-requires : tie.Need-feed-lead-requires
 feed-lead-requires c κs = search needs
 
--- src/lib.rt:271:48
 enum-told-2 : tie.Need-enum-told-2
 enum-told-2 c = search needs
 
--- src/lib.rt:271:26
 feed-payload-requires : tie.Need-feed-payload-requires
 feed-payload-requires c κs = search needs
 
--- src/lib.rt:272:27
 enum-told-3 : tie.Need-enum-told-3
 enum-told-3 c = search needs
 
--- src/lib.rt:272:27
 feed-escaped-requires : tie.Need-feed-escaped-requires
 feed-escaped-requires c κs = search needs
 
--- src/lib.rt:273:21
 enum-known-phase-2 : tie.Need-enum-known-phase-2
 enum-known-phase-2 c = search needs
 
--- src/lib.rt:273:32
 end-requires : tie.Need-end-requires
 end-requires c κs = search needs
 
--- src/lib.rt:258:1
 same-length : tie.Need-same-length
 same-length c = search needs
 
--- src/lib.rt:258:1
 returns-2 : tie.Need-returns-2
 returns-2 c = search (needs, feedings)
 
--- src/lib.rt:258:1
 same-length-2 : tie.Need-same-length-2
 same-length-2 c = search needs
 
--- src/lib.rt:258:1
 returns-3 : tie.Need-returns-3
 returns-3 c = search (needs, feedings)
 
--- src/lib.rt:258:1
 returns-4 : tie.Need-returns-4
 returns-4 c = search (needs, feedings)
 
--- src/lib.rt:258:1
 returns-5 : tie.Need-returns-5
 returns-5 c = search (needs, feedings)
 

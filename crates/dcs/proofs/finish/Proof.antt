@@ -1,44 +1,32 @@
-use Rattle.dcs.proofs.SessionLaws.{finishings}
 use borrow.Author.Needs.{needs}
+use Rattle.dcs.proofs.SessionLaws.{finishings}
 use Rattle.dcs.proofs.finish.Statement.{statement}
 use Rattle.dcs.proofs.finish.Tie as tie
-use Rattle.dcs.proofs.finish.Reads as reads
-use Rattle.dcs.proofs.finish.Lts as lts
-use Rattle.payload.proofs.finish.Reads as finish-reads
-use Rattle.payload.proofs.judge.finish_refusal.Reads as finish-refusal-reads
 
--- src/lib.rt:281:39
 finish-refusal-requires : tie.Need-finish-refusal-requires
 finish-refusal-requires c κs = search needs
 
--- src/lib.rt:281:28
 enum-known-refusal : tie.Need-enum-known-refusal
 enum-known-refusal c = search needs
 
--- src/lib.rt:282:9
 returns : tie.Need-returns
 returns c = search (needs, finishings)
 
 enum-told : tie.Need-enum-told
 enum-told c = search needs
 
--- src/lib.rt:289:46
 enum-told-2 : tie.Need-enum-told-2
 enum-told-2 c = search needs
 
--- src/lib.rt:289:9
 finish-requires : tie.Need-finish-requires
 finish-requires c κs = search needs
 
--- src/lib.rt:289:9
 same-length : tie.Need-same-length
 same-length c = search needs
 
--- src/lib.rt:289:9
 returns-2 : tie.Need-returns-2
 returns-2 c = search (needs, finishings)
 
--- src/lib.rt:277:1
 returns-3 : tie.Need-returns-3
 returns-3 c = search (needs, finishings)
 

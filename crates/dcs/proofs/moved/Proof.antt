@@ -2,10 +2,7 @@ use borrow.Author.Needs.{needs}
 use Rattle.dcs.proofs.SessionLaws.{endings-laws}
 use Rattle.dcs.proofs.moved.Statement.{statement}
 use Rattle.dcs.proofs.moved.Tie as tie
-use Rattle.dcs.proofs.moved.Reads as reads
-use Rattle.dcs.proofs.moved.Lts as lts
 
--- src/lib.rt:113:1
 returns : tie.Need-returns
 returns c = search (needs, endings-laws)
 

@@ -1,46 +1,32 @@
-use Rattle.dcs.proofs.LeadLaws.{leading}
 use borrow.Author.Needs.{needs}
+use Rattle.dcs.proofs.LeadLaws.{leading}
 use Rattle.dcs.proofs.lead.lead_byte.Statement.{statement}
 use Rattle.dcs.proofs.lead.lead_byte.Tie as tie
-use Rattle.dcs.proofs.lead.lead_byte.Reads as reads
-use Rattle.dcs.proofs.lead.lead_byte.Lts as lts
-use Rattle.dcs.proofs.lead.header_byte.Reads as header-byte-reads
-use Rattle.dcs.proofs.lead.introduced_byte.Reads as introduced-byte-reads
-use Rattle.dcs.proofs.lead.start_byte.Reads as start-byte-reads
 
--- src/lead.rt:114:25
 enum-told : tie.Need-enum-told
 enum-told c = search needs
 
--- src/lead.rt:114:25
 start-byte-requires : tie.Need-start-byte-requires
 start-byte-requires c κs = search needs
 
--- src/lead.rt:115:30
 enum-told-2 : tie.Need-enum-told-2
 enum-told-2 c = search needs
 
--- src/lead.rt:115:30
 introduced-byte-requires : tie.Need-introduced-byte-requires
 introduced-byte-requires c κs = search needs
 
--- src/lead.rt:116:26
 enum-told-3 : tie.Need-enum-told-3
 enum-told-3 c = search needs
 
--- src/lead.rt:116:26
 header-byte-requires : tie.Need-header-byte-requires
 header-byte-requires c κs = search needs
 
--- src/lead.rt:110:1
 returns : tie.Need-returns
 returns c = search (needs, leading)
 
--- src/lead.rt:110:1
 returns-2 : tie.Need-returns-2
 returns-2 c = search (needs, leading)
 
--- src/lead.rt:110:1
 returns-3 : tie.Need-returns-3
 returns-3 c = search (needs, leading)
 

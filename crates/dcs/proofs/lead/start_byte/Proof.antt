@@ -2,18 +2,13 @@ use borrow.Author.Needs.{needs}
 use Rattle.dcs.proofs.LeadLaws.{introducers}
 use Rattle.dcs.proofs.lead.start_byte.Statement.{statement}
 use Rattle.dcs.proofs.lead.start_byte.Tie as tie
-use Rattle.dcs.proofs.lead.start_byte.Reads as reads
-use Rattle.dcs.proofs.lead.start_byte.Lts as lts
 
--- src/lead.rt:42:9
 returns : tie.Need-returns
 returns c = search (needs, introducers)
 
--- src/lead.rt:49:9
 returns-2 : tie.Need-returns-2
 returns-2 c = search (needs, introducers)
 
--- src/lead.rt:38:1
 returns-3 : tie.Need-returns-3
 returns-3 c = search (needs, introducers)
 

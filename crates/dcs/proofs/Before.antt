@@ -1,0 +1,156 @@
+-- Before the payload: introducer and header lead code and definition to the same place, or to the payload.
+use Prim.Native.Nat.{ℕ, _+_}
+use native.Mathlib.Nat.{add-zero}
+use mathlib.Core.Bool.{true, false}
+use mathlib.Core.Option.{Option, none}
+use mathlib.Core.List.{List, [], _∷_}
+use mathlib.Core.Path.{_≡_, refl, sym, ap, ap₂, subst, _∙_}
+use borrow.Author.Tests.{le-leb}
+use lib.ListN.{length, drop}
+use lib.Seq.{drop-drop}
+use Rattle.numbers.specs.declared.Parameters.{Parameters}
+use Rattle.numbers.proofs.Laws.{cond-yes}
+use Rattle.colours.specs.declared.Palette.{Palette}
+use Rattle.canvas.specs.Picture.{span}
+use Rattle.canvas.specs.Paint.{painted}
+use Rattle.canvas.proofs.Bytes.{length-painted}
+use Rattle.frame.specs.declared.Limits.{Limits}
+use Rattle.meaning.specs.Calls as calls
+use Rattle.meaning.specs.Drawing.{Setting}
+use Rattle.meaning.specs.Payload as meant
+use Rattle.meaning.specs.Reader.{Step, Run, still, after, call}
+use Rattle.meaning.specs.Sessions as sessions
+use Rattle.agreement.proofs.Feed.{atEnd, turnedDown}
+use Rattle.payload.specs.declared.Life.the-variants as lives
+use Rattle.payload.specs.declared.Session as payloadSession
+use Rattle.payload.specs.declared.Settings.{Settings}
+use Rattle.payload.specs.declared.judge.Judged.the-variants as judged
+use Rattle.payload.specs.Begin.{noSettings, withBackground, begunSession, begunBy, failedOf}
+use Rattle.payload.specs.Judge.{openable, misfitting, fitting, feedJudged}
+use Rattle.payload.specs.Session as coded
+use Rattle.payload.specs.History as payload
+use Rattle.payload.proofs.SessionLaws.{pixel-there}
+use Rattle.payload.proofs.Openings as openings
+use Rattle.dcs.specs.declared.Fed.{Fed}
+use Rattle.dcs.specs.declared.Phase.{Phase}
+use Rattle.dcs.specs.declared.Phase.the-variants as phases
+use Rattle.dcs.specs.declared.Session.{Session}
+use Rattle.dcs.specs.declared.lead.Lead.{Lead}
+use Rattle.dcs.specs.declared.lead.Led.{Led}
+use Rattle.dcs.specs.declared.lead.Led.the-variants as leds
+use Rattle.dcs.specs.declared.lead.Place.{Place}
+use Rattle.dcs.specs.declared.lead.Step as leadStep
+use Rattle.dcs.specs.Lead.{leadAt, leadOn, leadFrom}
+use Rattle.dcs.specs.Session.{sessionOf, settingsFrom, fedPayload, ledTo}
+use Rattle.dcs.specs.History.{answerMeant, SamePlace, atStart, atIntroduced, inHeader, heldAt, before, refused, Feeds}
+use Rattle.dcs.proofs.Runs.{call-dry, call-refuses, after-one}
+use Rattle.dcs.proofs.Leading.{LeadAgrees, goesOn, begins, turnsDown, byte-leads}
+use Rattle.dcs.proofs.Within.{payload-feeds}
+
+module _ (l : Limits) (stride : ℕ) (p : Palette) (opening : List ℕ) where
+  abbrev setting : Setting
+  setting = payload.settingMeant l stride (length opening)
+
+  -- the definition's session in a phase, and its call
+  abbrev here : sessions.Phase → calls.Session sessions.Phase
+  here x = heldAt l stride (length opening) x false
+
+  abbrev dcsCall : ℕ → sessions.Phase → List ℕ → Run sessions.Phase
+  dcsCall = call (sessions.dcsStep setting p) (sessions.dcsRested setting)
+
+  abbrev answered : sessions.Phase → Run sessions.Phase → calls.Fed sessions.Phase sessions.End
+  answered x = calls.answered calls.dcsEnd (here x)
+
+  -- the payload session before `q`
+  abbrev pub waiting : payloadSession.Session
+  waiting = coded.sessionFor l stride (length opening) noSettings p lives.Live
+
+  -- what it is at `q`, with the canvas
+  begun-ready : (o : Settings) → openable l stride (length opening) ≡ true
+      → begunBy waiting o opening ≡ (coded.sessionFor l stride (length opening) o p lives.Live, painted (span 0 1) (coded.backgroundFor p (o .p2)) opening)
+  unfolding begunBy begunSession withBackground coded.sessionFor coded.groundFor
+  begun-ready o opens =
+      ap (λ (c : List ℕ). (coded.sessionFor l stride (length opening) o p lives.Live, c))
+      (cond-yes _ _ (le-leb 4 (length opening) (pixel-there l stride (length opening) refl opens)))
+
+  -- it passes what the waiting session passed
+  fine-begun : (o : Settings) (a : ℕ) → feedJudged waiting (length opening) a ≡ judged.Fine
+      → feedJudged (coded.sessionFor l stride (length opening) o p lives.Live) (length (painted (span 0 1) (coded.backgroundFor p (o .p2)) opening)) a ≡ judged.Fine
+  unfolding feedJudged misfitting fitting coded.sessionFor coded.groundFor coded.blankFrame
+  fine-begun o a e =
+      subst (λ (n : ℕ). feedJudged (coded.sessionFor l stride (length opening) o p lives.Live) n a ≡ judged.Fine)
+      (sym (length-painted (span 0 1) (coded.backgroundFor p (o .p2)) opening)) e
+
+  -- before the payload there is no end and no visible area, and finishing is 8
+  pub place-open : {t : Place} {h : Parameters} {x : sessions.Phase} → SamePlace t h x → calls.dcsEnd x ≡ none
+  unfolding calls.dcsEnd
+  place-open (atStart r) = refl
+  place-open (atIntroduced r) = refl
+  place-open (inHeader r) = refl
+
+  pub place-area : {t : Place} {h : Parameters} {x : sessions.Phase} → SamePlace t h x → calls.visibleArea (calls.drawingOf x) ≡ record { width = 0; height = 0 }
+  unfolding calls.drawingOf calls.visibleArea
+  place-area (atStart r) = refl
+  place-area (atIntroduced r) = refl
+  place-area (inHeader r) = refl
+
+  pub place-unfinished : {t : Place} {h : Parameters} {x : sessions.Phase} → SamePlace t h x → sessions.finishDcs setting x ≡ meant.turnedDown 8
+  unfolding sessions.finishDcs
+  place-unfinished (atStart r) = refl
+  place-unfinished (atIntroduced r) = refl
+  place-unfinished (inHeader r) = refl
+
+  module _ (opens : openable l stride (length opening) ≡ true) (h₀ : Parameters) (t₀ : Phase) (x₀ : sessions.Phase) (whole : List ℕ) (a : ℕ) (fine : feedJudged waiting (length opening) a ≡ judged.Fine) where
+    abbrev pub Leads : Lead → Run sessions.Phase → Type 0
+    Leads z q = Feeds l stride p opening (ledTo (z .led) z (sessionOf waiting h₀ t₀) opening whole a) (answered x₀ q)
+
+    lead-begins : (t : Place) (h : Parameters) (n : ℕ) (bs : List ℕ) → drop n whole ≡ bs
+        → Leads (leadAt t h n leds.Begins) (after n 0 (dcsCall a (sessions.within (sessions.opened (payload.parametersMeant (settingsFrom h)) p)) bs))
+    unfolding ledTo sessions.opened
+    lead-begins t h n bs e =
+        subst
+        (λ (us : List ℕ).
+        Leads (leadAt t h n leds.Begins) (after n 0 (dcsCall a (sessions.within (sessions.opened (payload.parametersMeant (settingsFrom h)) p)) us)))
+        e
+        (subst
+        (λ (b : payloadSession.Session × List ℕ).
+        Feeds l stride p opening (fedPayload (sessionOf (b .0) h phases.Within) (b .1) (drop n whole) n a)
+        (answered x₀ (after n 0 (dcsCall a (sessions.within (sessions.opened (payload.parametersMeant (settingsFrom h)) p)) (drop n whole)))))
+        (sym (begun-ready (settingsFrom h) opens))
+        (payload-feeds l stride p opening (openings.ready-stands l stride (settingsFrom h) p opening opens) refl h x₀ n a (drop n whole) (fine-begun (settingsFrom h) a fine)))
+
+    -- one byte, where the later ones are known
+    byte-feeds : (n b : ℕ) (bs : List ℕ) (x : sessions.Phase) {s : leadStep.Step} {y : Step sessions.Phase} → drop n whole ≡ b ∷ bs → LeadAgrees p s y → sessions.dcsStep setting p x b ≡ y
+        → ((t : Place) (h : Parameters) (z : sessions.Phase) → SamePlace t h z → Leads (leadFrom bs (n + 1) t h) (after (n + 1) 0 (dcsCall a z bs)))
+        → Leads (leadOn (s .led) s n (λ n′ t′ h′. leadFrom bs n′ t′ h′)) (after n 0 (dcsCall a x (b ∷ bs)))
+    unfolding leadOn ledTo failedOf coded.sessionWith coded.sessionFor after still answerMeant calls.answered calls.sessionAfter
+    byte-feeds n b bs x {s} at (goesOn {x = z} e same) step later =
+        subst (λ (w : Led). Leads (leadOn w s n (λ n′ t′ h′. leadFrom bs n′ t′ h′)) (after n 0 (dcsCall a x (b ∷ bs)))) (sym e)
+        (subst (Leads (leadFrom bs (n + 1) (s .place) (s .header)))
+        (sym (ap (after n 0) (call-dry (sessions.dcsStep setting p) (sessions.dcsRested setting) a x b bs step) ∙ after-one n 0 (dcsCall a z bs)))
+        (later (s .place) (s .header) z same))
+    byte-feeds n b bs x {s} at (begins {o = o} e same) step later =
+        subst (λ (w : Led). Leads (leadOn w s n (λ n′ t′ h′. leadFrom bs n′ t′ h′)) (after n 0 (dcsCall a x (b ∷ bs)))) (sym e)
+        (subst (Leads (leadAt (s .place) (s .header) (n + 1) leds.Begins))
+        (sym
+        (ap (after n 0) (call-dry (sessions.dcsStep setting p) (sessions.dcsRested setting) a x b bs step)
+        ∙ after-one n 0 (dcsCall a (sessions.within (sessions.opened o p)) bs)
+        ∙ ap (λ (q : meant.Parameters). after (n + 1) 0 (dcsCall a (sessions.within (sessions.opened q p)) bs)) same))
+        (lead-begins (s .place) (s .header) (n + 1) bs (sym (drop-drop 1 n whole) ∙ ap (drop 1) at)))
+    byte-feeds n b bs x {s} at (turnsDown {x = z} {n = m} why e number same) step later =
+        subst (λ (w : Led). Leads (leadOn w s n (λ n′ t′ h′. leadFrom bs n′ t′ h′)) (after n 0 (dcsCall a x (b ∷ bs)))) (sym e)
+        (subst (Leads (leadAt (s .place) (s .header) n (leds.Refused why)))
+        (sym (ap (after n 0) (call-refuses (sessions.dcsStep setting p) (sessions.dcsRested setting) a x b bs step)))
+        (record { answer = ap calls.refused number; session = refused same }))
+
+    pub lead-feeds : (bs : List ℕ) (t : Place) (h : Parameters) (x : sessions.Phase) → SamePlace t h x → (n : ℕ) → drop n whole ≡ bs
+        → Leads (leadFrom bs n t h) (after n 0 (dcsCall a x bs))
+    unfolding leadFrom ledTo call after still answerMeant calls.answered calls.tells calls.sessionAfter
+    lead-feeds [] t h x same n e =
+        record {
+          answer = ap₂ (λ (m : ℕ) (o : Option sessions.End). calls.told m 0 (calls.atEnd o)) (sym (add-zero n)) (sym (place-open same));
+          session = before opens same;
+        }
+    lead-feeds (b ∷ bs) t h x same n e =
+        byte-feeds n b bs x e (byte-leads setting p b same) refl
+        (λ t′ h′ x′ k. lead-feeds bs t′ h′ x′ k (n + 1) (sym (drop-drop 1 n whole) ∙ ap (drop 1) e))

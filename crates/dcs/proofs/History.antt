@@ -1,0 +1,136 @@
+-- Any calls of the code, the canvas given back each time as it was left, are the definition's; and so demands 2 and 3 hold of the code.
+use Prim.Native.Nat.{ℕ, _+_, _-_, _*_, _/_, _≤_}
+use mathlib.Core.Bool.{true, false}
+use mathlib.Core.Option.{none, some}
+use mathlib.Core.List.{List, [], _∷_, map}
+use mathlib.Core.Path.{_≡_, refl, sym, ap, ap₂, _∙_, subst}
+use lib.ListN.{length}
+use Rattle.numbers.proofs.Reading.{read-none}
+use Rattle.colours.specs.declared.Palette.{Palette}
+use Rattle.frame.specs.declared.Limits.{Limits}
+use Rattle.meaning.specs.Calls as calls
+use Rattle.meaning.specs.Drawing.{Setting}
+use Rattle.meaning.specs.Histories.{Ask}
+use Rattle.meaning.specs.OneShot.{missing, oneShot}
+use Rattle.meaning.specs.Payload as meant
+use Rattle.meaning.specs.Reader.{How, stopped, refusedBy, isRefused, readFrom, Turn, stream, pieces, Caller, ranBy, ready}
+use Rattle.meaning.specs.Sequence.{sequencePayload, sequenceInk}
+use Rattle.meaning.specs.Sessions.{End, Phase, start, dcsStep}
+use Rattle.meaning.proofs.Demand3.{dcs-calls, dcs-outcome, dcs-finishes, dcs-refused, dcs-all-ink}
+use Rattle.payload.specs.Begin.{reservedBy}
+use Rattle.payload.specs.History.{settingMeant, limitsMeant, Finishes}
+use Rattle.payload.specs.Judge.{openable}
+use Rattle.dcs.specs.declared.Session.{Session}
+use Rattle.dcs.specs.Session.{openedBy, fedBy, finishedBy}
+use Rattle.dcs.specs.History.{answerMeant, atStart, heldAt, Stands, before, Feeds, Past, fedAll, PastMeant, fedAllMeant, Held, callsOf, properCalls}
+use Rattle.dcs.proofs.Standing.{feed-stands, finish-stands, finished-meant, stands-shows, stands-long, stands-fit}
+use Rattle.dcs.proofs.Callers.{endTold, refused-told, CallerStands, calls-stand}
+
+-- ---- any calls
+
+-- the answers mean the definition's, and session and canvas stand for its session
+pub record Passes (l : Limits) (stride : ℕ) (p : Palette) (opening : List ℕ) (x : Past) (y : PastMeant) : Type 0 where
+  pub answers : map answerMeant (x .answers) ≡ y .answers
+  pub session : Stands l stride p opening (x .session) (x .canvas) (y .session)
+
+-- any calls of the code are the definition's
+pub history-stands : (l : Limits) (stride : ℕ) (p : Palette) (opening : List ℕ) {s : Session} {c : List ℕ} {m : calls.Session Phase} → Stands l stride p opening s c m → (cs : List Ask)
+    → Passes l stride p opening (fedAll s c cs) (fedAllMeant p m (length opening) cs)
+unfolding fedAll fedAllMeant
+history-stands l stride p opening k [] = record { answers = refl; session = k }
+history-stands l stride p opening {s} {c} {m} k (a ∷ later) =
+    let f : Feeds l stride p opening (fedBy s c (a .bytes) (a .allowance)) (calls.feedDcs p m (length opening) (a .allowance) (a .bytes)) =
+    subst (λ (n : ℕ). Feeds l stride p opening (fedBy s c (a .bytes) (a .allowance)) (calls.feedDcs p m n (a .allowance) (a .bytes))) (stands-long l stride p opening k)
+    (feed-stands l stride p opening k (a .bytes) (a .allowance)) in
+    let rest = history-stands l stride p opening (f .session) later in
+    record { answers = ap₂ _∷_ (f .answer) (rest .answers); session = rest .session }
+
+-- ---- demands 2 and 3 of the code: a session that was opened, and a caller that presents what was left unread
+
+module _ (l : Limits) (stride : ℕ) (p : Palette) (opening : List ℕ) (opens : openable l stride (length opening) ≡ true) where
+  -- what the opening gives
+  abbrev pub opened : Caller Held
+  opened = ready (openedBy l stride p (length opening) .session, opening)
+
+  abbrev pub setting : Setting
+  setting = settingMeant l stride (length opening)
+
+  start-stands : CallerStands l stride p opening opened (ready start)
+  unfolding ready openedBy reservedBy isRefused endTold calls.dcsEnd
+  start-stands =
+      record {
+        session = rw opens (before opens (atStart (read-none 3)));
+        how = refl;
+        unread = λ _. refl;
+        consumed = λ _. refl;
+        ink = λ _. refl;
+      }
+
+  module _ (A : ℕ) (ts : List Turn) (enough : 6 * l .width ≤ A) (ok : properCalls A opened ts ≡ true) where
+    -- where the caller stands after its calls: its session, its canvas, and what the answers told
+    abbrev pub now : Caller Held
+    now = callsOf opened ts
+
+    abbrev pub session : Session
+    session = now .state .0
+
+    abbrev pub canvas : List ℕ
+    canvas = now .state .1
+
+    roomy : 6 * setting .limits .width ≤ A
+    unfolding settingMeant limitsMeant calls.settingFor
+    roomy = enough
+
+    -- the definition's caller, which may make the same calls and stands where the code's does
+    abbrev pub there : Caller Phase
+    there = calls.dcsTurns setting p ts
+
+    pub stood : CallerStands l stride p opening now there
+    stood = calls-stand l stride p opening A roomy start-stands ts ok .0
+
+    proper-there : calls.properDcs setting p A ts ≡ true
+    proper-there = calls-stand l stride p opening A roomy start-stands ts ok .1
+
+    -- what the answers told is what the definition's caller came to
+    going-there : (now .how ≡ stopped → ⊥) → there .how ≡ stopped → ⊥
+    unfolding endTold
+    going-there going e = going (stood .how ∙ ap (λ (h : How). endTold h (calls.dcsEnd (there .state))) e)
+
+    -- Demand 3, its first sentence: the calls are at most the pieces and I / (A - 6W + 1), where I is the ink of the whole stream
+    pub calls-bounded : length ts ≤ pieces ts + sequenceInk setting p (stream ts) / (A - 6 * l .width + 1)
+    unfolding settingMeant limitsMeant calls.settingFor
+    calls-bounded = dcs-calls setting p A ts roomy proper-there
+
+    -- The canvas shows the drawing of the session's state, and before `q` nothing is written.
+    pub canvas-shows : canvas ≡ calls.shown stride (calls.drawingOf (there .state)) opening
+    unfolding calls.dcsShown settingMeant calls.settingFor
+    canvas-shows = stands-shows l stride p opening (stood .session)
+
+    -- However the stream was split, unless the last call stopped, the session has come to what reading the stream at once comes to.
+    pub whole-state : (now .how ≡ stopped → ⊥) → readFrom (dcsStep setting p) start (stream ts) ≡ ranBy there
+    whole-state going = dcs-outcome setting p A ts proper-there (going-there going)
+
+    -- Demand 2, and the second sentence of demand 3: at an end a finish answers what reading the whole stream at once does.
+    pub whole-finishes : (now .how ≡ stopped → ⊥) → isRefused (now .how) ≡ false → {e : End} → calls.dcsEnd (there .state) ≡ some e → (owner : Palette)
+        → Finishes (calls.shown stride (calls.drawingAtFinish setting (there .state)) opening) owner canvas (finishedBy session owner canvas) (oneShot setting p (stream ts))
+    unfolding calls.dcsShownAtFinish settingMeant calls.settingFor calls.firstOf calls.misfits
+    whole-finishes going fine e owner =
+        let m : calls.Session Phase = heldAt l stride (length opening) (there .state) (isRefused (there .how)) in
+        let live : isRefused (there .how) ≡ false = sym (refused-told (there .how) (calls.dcsEnd (there .state))) ∙ sym (ap isRefused (stood .how)) ∙ fine in
+        let answer : calls.finishDcsSession m (length canvas) ≡ oneShot setting p (stream ts) =
+        ap (calls.finishDcsSession m) (stands-long l stride p opening (stood .session))
+        ∙ finished-meant l stride p opening m (length opening) {o = none} (rw (live, stands-fit l stride p opening (stood .session)) refl)
+        ∙ dcs-finishes setting p A ts proper-there (going-there going) e in
+        subst (Finishes (calls.shown stride (calls.drawingAtFinish setting (there .state)) opening) owner canvas (finishedBy session owner canvas)) answer
+        (finish-stands l stride p opening owner (stood .session))
+
+    -- A refusal is what introducer and header are refused with, or what reading the whole at once answers.
+    pub whole-refused : {n : ℕ} → there .how ≡ refusedBy n
+        → (n ≤ 3 → sequencePayload (stream ts) ≡ missing n) × (2 ≤ n → oneShot setting p (stream ts) ≡ meant.turnedDown n)
+    whole-refused e = dcs-refused setting p A ts proper-there e
+
+    -- Demand 3, its third sentence: the ink that the calls told adds up to I.
+    pub whole-ink : (now .how ≡ stopped → ⊥) → isRefused (now .how) ≡ false → now .ink ≡ sequenceInk setting p (stream ts)
+    whole-ink going fine =
+        stood .ink (sym (refused-told (there .how) (calls.dcsEnd (there .state))) ∙ sym (ap isRefused (stood .how)) ∙ fine)
+        ∙ dcs-all-ink setting p A ts proper-there (going-there going)

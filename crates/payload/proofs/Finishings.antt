@@ -1,0 +1,131 @@
+-- A finish of the code is the definition's.
+use Prim.Native.Nat.{ℕ, _-_}
+use mathlib.Core.Bool.{Bool, false, cond}
+use mathlib.Core.Option.{Option, none, some}
+use mathlib.Core.List.{List, [], _∷_}
+use mathlib.Core.Path.{_≡_, refl, sym, ap, ap₂, _∙_, subst}
+use lib.Dec.{eqb}
+use lib.ListN.{length}
+use Rattle.colours.specs.declared.Palette.{Palette}
+use Rattle.canvas.specs.Picture.{areaOf, fits}
+use Rattle.canvas.proofs.Covers.{by-test}
+use Rattle.frame.specs.declared.Frame.{Frame}
+use Rattle.frame.specs.declared.Ground.{Ground}
+use Rattle.frame.specs.declared.Outcome.{Outcome}
+use Rattle.frame.specs.declared.Outcome.the-variants as outcomes
+use Rattle.frame.specs.declared.Raster.{Raster}
+use Rattle.frame.specs.declared.Refusal.the-variants as refusals
+use Rattle.frame.specs.Commands.{Ended, ended}
+use Rattle.frame.specs.Step.{settledStep}
+use Rattle.meaning.specs.Calls as calls
+use Rattle.meaning.specs.Drawing as drawing
+use Rattle.meaning.specs.Payload as meant
+use Rattle.meaning.specs.Sessions.{Reading, settled, finishReading}
+use Rattle.agreement.specs.Same as same
+use Rattle.meaning.proofs.AreaLaws.{not-too-large}
+use Rattle.agreement.proofs.Feed.{turnedDown}
+use Rattle.agreement.proofs.Settle.{same-fact}
+use Rattle.agreement.proofs.Finish.{Finishing, reporting, declining, finish-agrees}
+use Rattle.payload.specs.declared.Finished.{Finished}
+use Rattle.payload.specs.declared.Finishing.the-variants as finishes
+use Rattle.payload.specs.declared.Given.{Given}
+use Rattle.payload.specs.declared.Session.{Session}
+use Rattle.payload.specs.declared.Settings.{Settings}
+use Rattle.payload.specs.declared.judge.Judged.{Judged}
+use Rattle.payload.specs.declared.judge.Judged.the-variants as judged
+use Rattle.payload.specs.Judge.{isFailed, finishJudged, oversize, finalJudged}
+use Rattle.payload.specs.Session.{ratioFor, reportedAs, turnedAway, pictured, finishedIf, finishedIn, finishedLive, finishedAs, finishedBy}
+use Rattle.payload.proofs.JudgeLaws.{passes}
+use Rattle.payload.specs.History.{givenMeant, parametersMeant, ratioMeant, reportMeant, Stands, Finishes, pictures, declines}
+use Rattle.payload.proofs.Openings.{clear-meant}
+use Rattle.payload.proofs.Judgements.{judgedMeant, misfit, failed-test, finish-judged}
+
+ratio-meant : (r : Raster) (g : Given) → ratioMeant (ratioFor r g) ≡ same.ratioFrom (givenMeant g) (r .ratio)
+unfolding ratioMeant ratioFor same.ratioFrom
+ratio-meant r g = by-test (eqb (r .ratio) 0) (λ e. rw e refl) (λ e. rw e refl)
+
+-- the report of the code means the definition's
+report-meant : (f : Frame) (o : Settings) (p : Palette) → reportMeant (reportedAs f o) p ≡ same.reportFrom (parametersMeant o) f p
+unfolding reportMeant reportedAs same.reportFrom parametersMeant
+report-meant f o p =
+    ap₂
+    (λ (x : meant.Ratio) (t : Bool).
+    record {
+      size = areaOf (f .sheet .width) (f .sheet .height);
+      ratio = x;
+      clear = t;
+      extent = areaOf (f .sheet .right) (f .sheet .bottom);
+      palette = p;
+    })
+    (ratio-meant (f .raster) (o .p1))
+    (clear-meant (o .p2))
+
+-- a size that stands for a sound drawing's is not 10
+final-fine : {s : drawing.Setting} {opening : List ℕ} {d : drawing.Drawing} {g : Ground} {f : Frame} {p : Palette} {l : List ℕ} → same.SameDrawing s opening d g f p l
+    → finalJudged (f .sheet) g ≡ judged.Fine
+unfolding finalJudged oversize same.frameOf same.sheetOf same.groundOf meant.tooLarge drawing.pixelsOf
+final-fine h =
+    same-fact (λ g f p l. finalJudged (f .sheet) g ≡ judged.Fine) h
+    (ap (λ (t : Bool). cond t (judged.Refused refusals.FinalSize) judged.Fine) (not-too-large (h .sound .fits)))
+
+module _ {opening : List ℕ} {s : Session} {l : List ℕ} {m : calls.Session Reading} (k : Stands opening s l m) (owner : Palette) where
+  -- the pending command's end
+  last : Ended
+  last = ended (s .frame) (s .ground) (s .palette)
+
+  -- a report: the drawing with the pending command carried out is on the canvas
+  live-pictures : last .stepped .outcome ≡ outcomes.Settled
+      → same.SameDrawing (m .setting) opening (settled (m .setting) (m .state) .drawing) (s .ground) (last .stepped .frame) (last .palette)
+      (settledStep (s .frame) (s .ground) (s .palette) l .canvas)
+      → finishedLive s owner l
+      ≡ (record { answer = finishes.Picture (reportedAs (last .stepped .frame) (s .settings)); palette = last .palette }, calls.payloadShownAtFinish m opening)
+  unfolding last finishedLive finishedIn finishedIf pictured settledStep calls.payloadShownAtFinish calls.shown same.canvasOf
+  live-pictures e d =
+      ap (λ (o : Outcome). finishedIn o s owner (last .stepped .frame) (last .palette) l) e
+      ∙ ap (λ (j : Judged). finishedIf j s owner (last .stepped .frame) (last .palette) l) (final-fine d)
+      ∙ ap
+      (λ (c : List ℕ). (record { answer = finishes.Picture (reportedAs (last .stepped .frame) (s .settings)); palette = last .palette }, c))
+      (d .canvas)
+
+  live-finishes : {x : meant.Finished} → Finishing (m .setting) opening (m .state) (s .ground) x (settledStep (s .frame) (s .ground) (s .palette) l)
+      → Finishes (calls.payloadShownAtFinish m opening) owner l (finishedLive s owner l) x
+  unfolding last settledStep finishedLive finishedIn turnedAway
+  live-finishes (reporting {answer} e rep d) =
+      subst (λ (y : Finished × List ℕ). Finishes (calls.payloadShownAtFinish m opening) owner l y (meant.finished answer)) (sym (live-pictures e d))
+      (subst
+      (λ (r : meant.Report).
+      Finishes (calls.payloadShownAtFinish m opening) owner l
+      (record { answer = finishes.Picture (reportedAs (last .stepped .frame) (s .settings)); palette = last .palette }, calls.payloadShownAtFinish m opening)
+      (meant.finished r))
+      (report-meant (last .stepped .frame) (s .settings) (last .palette)
+      ∙ ap (λ (o : meant.Parameters). same.reportFrom o (last .stepped .frame) (last .palette)) (sym (k .parameters))
+      ∙ sym rep)
+      pictures)
+  live-finishes (declining {n = n} why number e kept d) =
+      subst (λ (y : Finished × List ℕ). Finishes (calls.payloadShownAtFinish m opening) owner l y (meant.turnedDown n))
+      (ap (λ (o : Outcome). finishedIn o s owner (last .stepped .frame) (last .palette) l) (sym e))
+      (subst (λ (i : ℕ). Finishes (calls.payloadShownAtFinish m opening) owner l (record { answer = finishes.Refused why; palette = owner }, l) (meant.turnedDown i)) number (declines why))
+
+-- a finish by its refusal
+pub finished-meant : (m : calls.Session Reading) (size : ℕ) {o : Option ℕ}
+    → calls.firstOf (record { holds = m .failed; number = 9 } ∷ record { holds = calls.misfits (λ (r : Reading). r .drawing .area) m size; number = 12 } ∷ []) ≡ o
+    → calls.finishPayload m size
+    ≡ elim o as (λ _. meant.Finished) [ none ↦ finishReading (m .setting) (m .state) | some n ↦ meant.turnedDown n ]
+unfolding calls.finishPayload calls.finishSession
+finished-meant m size e =
+    ap (λ (o : Option ℕ). elim o as (λ _. meant.Finished) [ none ↦ finishReading (m .setting) (m .state) | some n ↦ meant.turnedDown n ]) e
+
+-- a finish of the code is the definition's
+pub finish-stands : {opening : List ℕ} {s : Session} {l : List ℕ} {m : calls.Session Reading} → Stands opening s l m → (owner : Palette)
+    → Finishes (calls.payloadShownAtFinish m opening) owner l (finishedBy s owner l) (calls.finishPayload m (length l))
+unfolding finishedBy finishedAs turnedAway judgedMeant misfit finishJudged
+finish-stands {opening} {s} {l} {m} k owner = go (finishJudged s (length l)) refl
+  where
+    go : (j : Judged) → finishJudged s (length l) ≡ j → Finishes (calls.payloadShownAtFinish m opening) owner l (finishedAs j s owner l) (calls.finishPayload m (length l))
+    go judged.Fine e =
+        let live : m .failed ≡ false = sym (failed-test k (length l)) ∙ passes refusals.Failed (isFailed (s .life)) _ e .0 in
+        subst (Finishes (calls.payloadShownAtFinish m opening) owner l (finishedLive s owner l)) (sym (finished-meant m (length l) (sym (finish-judged k (length l)) ∙ ap judgedMeant e)))
+        (live-finishes k owner (finish-agrees (record { drawing = k .drawing; begun = k .begun live })))
+    go (judged.Refused n) e =
+        subst (Finishes (calls.payloadShownAtFinish m opening) owner l (record { answer = finishes.Refused n; palette = owner }, l))
+        (sym (finished-meant m (length l) (sym (finish-judged k (length l)) ∙ ap judgedMeant e))) (declines n)
