@@ -1,3 +1,4 @@
+pub mod NumberLaws
 pub mod SizeLaws
 pub mod CommandLaws
 pub mod StepLaws

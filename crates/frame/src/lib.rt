@@ -1,11 +1,13 @@
 // A frame while its payload is read: the Rust's FrameDecoder, palette and canvas apart. The session above owns both and lends
-// them. Inner: nothing here is for a caller of the reader.
+// them. Inner: of this crate a caller of the reader has use for its limits, its refusals and their numbers alone.
 pub mod commands;
 pub mod process;
 mod renew;
 pub mod sizes;
 pub mod step;
 
+ghost use mathlib.Core.Path.{_≡_};
+ghost use Rattle.frame.specs.Numbers.{numberOf};
 use numbers::Parameters;
 
 // The limits of a session: a picture's width and height, a repeat, and a picture's pixels.
@@ -40,6 +42,28 @@ pub enum Refusal {
     Canvas,
     Allowance,
     Buffer,
+}
+
+// Document 01's number of a refusal.
+pub fn number(refusal: Refusal) -> u8
+    ensures { λ r. ⌜ r ≡ numberOf refusal ⌝ }
+{
+    match refusal {
+        Refusal::Introducer => 1,
+        Refusal::HeaderEnded => 2,
+        Refusal::HeaderByte => 3,
+        Refusal::Repeat => 4,
+        Refusal::Size => 5,
+        Refusal::Pixels => 6,
+        Refusal::Room => 7,
+        Refusal::Unfinished => 8,
+        Refusal::Failed => 9,
+        Refusal::FinalSize => 10,
+        Refusal::Opening => 11,
+        Refusal::Canvas => 12,
+        Refusal::Allowance => 13,
+        Refusal::Buffer => 14,
+    }
 }
 
 // Where the next sixel goes, how often, and in which colour.

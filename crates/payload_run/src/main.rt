@@ -31,28 +31,9 @@ fn say_number(n: usize) {
     io::print_decimal(STDOUT_FILENO, n as u64);
 }
 
-fn number(refusal: Refusal) -> usize {
-    match refusal {
-        Refusal::Introducer => 1,
-        Refusal::HeaderEnded => 2,
-        Refusal::HeaderByte => 3,
-        Refusal::Repeat => 4,
-        Refusal::Size => 5,
-        Refusal::Pixels => 6,
-        Refusal::Room => 7,
-        Refusal::Unfinished => 8,
-        Refusal::Failed => 9,
-        Refusal::FinalSize => 10,
-        Refusal::Opening => 11,
-        Refusal::Canvas => 12,
-        Refusal::Allowance => 13,
-        Refusal::Buffer => 14,
-    }
-}
-
 fn say_refusal(refusal: Refusal) {
     say(b"refused ");
-    say_number(number(refusal));
+    say_number(frame::number(refusal) as usize);
     say(b"\n");
 }
 
