@@ -1,0 +1,169 @@
+// Carries an order out and says what it came to, but for the canvas's checksum.
+use crate::order::Order;
+use crate::order::Setting;
+use crate::rooms;
+use crate::rooms::first;
+use crate::rooms::held;
+use crate::say;
+use crate::sessions;
+use crate::state::State;
+use canvas::Copied;
+use colours::Palette;
+use frame::Refusal;
+use payload::Settings;
+
+fn new_canvas(mut state: State, canvas: &mut [u8], length: usize) -> State {
+    let room = canvas.len();
+    let end = held(length, room);
+    rooms::fill(&mut canvas[..end], 251);
+    say::number(b"canvas ", length);
+    state.length = length;
+    state.lent = length;
+    state
+}
+
+fn lend(mut state: State, lent: usize) -> State {
+    say::number(b"lend ", lent);
+    state.lent = lent;
+    state
+}
+
+fn open_payload(mut state: State, lent: &mut [u8], setting: Setting, settings: Settings) -> State {
+    let after = sessions::open_payload(state.sessions, state.palette, lent, setting, settings);
+    state.sessions = after;
+    state
+}
+
+fn open_dcs(mut state: State, length: usize, setting: Setting) -> State {
+    let after = sessions::open_dcs(state.sessions, state.palette, length, setting);
+    state.sessions = after;
+    state
+}
+
+fn feed(mut state: State, lent: &mut [u8], bytes: &[u8], allowance: usize) -> State {
+    let after = sessions::feed(state.sessions, lent, bytes, allowance);
+    state.sessions = after;
+    state
+}
+
+fn finish(mut state: State, lent: &mut [u8]) -> State {
+    let palette = sessions::finish(state.sessions, state.palette, lent);
+    let after = state.sessions.without();
+    state.palette = palette;
+    state.sessions = after;
+    state
+}
+
+fn abort(mut state: State) -> State {
+    let palette = sessions::abort(state.sessions, state.palette);
+    let after = state.sessions.without();
+    state.palette = palette;
+    state.sessions = after;
+    state
+}
+
+fn read_whole(owner: Palette, lent: &mut [u8], setting: Setting, bytes: &[u8]) -> Palette {
+    let limits = setting.limits;
+    let stride = setting.stride;
+    let part = oneshot::payload_part(limits, stride, lent.len(), bytes).len();
+    let finished = oneshot::read(limits, stride, owner, lent, bytes);
+    let answer = finished.answer;
+    say::finishing(answer);
+    say::number(b" part ", part);
+    finished.palette
+}
+
+fn one_shot(mut state: State, lent: &mut [u8], setting: Setting, bytes: &[u8]) -> State {
+    if state.sessions.is_open() {
+        say::words(b"busy");
+        return state;
+    }
+    let palette = read_whole(state.palette, lent, setting, bytes);
+    state.palette = palette;
+    state
+}
+
+fn say_copied(answer: Copied) {
+    match answer {
+        Copied::Done => say::words(b"copied"),
+        Copied::Misfit => say::refusal(Refusal::Canvas),
+        Copied::Short => say::refusal(Refusal::Buffer),
+    }
+}
+
+fn copy_to(lent: &[u8], stride: usize, width: usize, height: usize, out: &mut [u8]) {
+    rooms::fill(out, 241);
+    let answer = canvas::copy_picture(lent, stride, width, height, out);
+    say_copied(answer);
+    say::checksum(answers::checksum(out));
+}
+
+fn copy(lent: &[u8], stride: usize, width: usize, height: usize, length: usize) {
+    let mut buffer = rooms::room();
+    let end = held(length, rooms::ROOM);
+    copy_to(lent, stride, width, height, &mut buffer[..end]);
+}
+
+// The checksum of the registers, each as four bytes.
+fn registers_sum(palette: Palette) -> u32 {
+    let colors = palette.table();
+    let mut sum = 1;
+    for index in 0..256 {
+        sum = answers::with_bytes(sum, &colours::rgb_bytes(&colors, index));
+    }
+    sum
+}
+
+fn say_palette(palette: Palette) {
+    say::words(b"palette");
+    say::checksum(registers_sum(palette));
+}
+
+fn reset(mut state: State) -> State {
+    if state.sessions.is_open() {
+        say::words(b"busy");
+        return state;
+    }
+    let palette = state.palette.reset();
+    say::words(b"reset");
+    state.palette = palette;
+    state
+}
+
+// All orders but `canvas`, on what is lent.
+fn obey_lent(order: Order, state: State, lent: &mut [u8], bytes: &[u8]) -> State {
+    match order {
+        Order::Bad => state,
+        Order::Canvas(_) => state,
+        Order::Lend(length) => lend(state, length),
+        Order::Payload { setting, settings } => open_payload(state, lent, setting, settings),
+        Order::Dcs(setting) => open_dcs(state, lent.len(), setting),
+        Order::Feed { allowance, count } => feed(state, lent, first(bytes, count), allowance),
+        Order::Finish => finish(state, lent),
+        Order::Abort => abort(state),
+        Order::OneShot { setting, count } => one_shot(state, lent, setting, first(bytes, count)),
+        Order::Copy {
+            stride,
+            width,
+            height,
+            length,
+        } => {
+            copy(lent, stride, width, height, length);
+            state
+        }
+        Order::Palette => {
+            say_palette(state.palette);
+            state
+        }
+        Order::Reset => reset(state),
+    }
+}
+
+pub(crate) fn obey(order: Order, state: State, canvas: &mut [u8], bytes: &[u8]) -> State {
+    if let Order::Canvas(length) = order {
+        return new_canvas(state, canvas, length);
+    }
+    let room = canvas.len();
+    let lent = held(state.lent, room);
+    obey_lent(order, state, &mut canvas[..lent], bytes)
+}

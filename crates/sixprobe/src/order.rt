@@ -1,0 +1,197 @@
+// What a line orders, judged by its form alone and by the room there is.
+use crate::fields::Value;
+use crate::fields::Parameter;
+use crate::fields::bytes_at;
+use crate::fields::count;
+use crate::fields::field;
+use crate::fields::is_word;
+use crate::fields::number_at;
+use crate::fields::parameter_at;
+use crate::lines::LINE_ROOM;
+use crate::rooms::ROOM;
+use frame::Limits;
+use payload::Settings;
+
+// The limits and the stride of an opening.
+pub(crate) struct Setting {
+    pub(crate) limits: Limits,
+    pub(crate) stride: usize,
+}
+
+pub(crate) enum Order {
+    Bad,
+    Canvas(usize),
+    Lend(usize),
+    Payload { setting: Setting, settings: Settings },
+    Dcs(Setting),
+    // `count` is how many bytes the line had.
+    Feed { allowance: usize, count: usize },
+    Finish,
+    Abort,
+    OneShot { setting: Setting, count: usize },
+    Copy { stride: usize, width: usize, height: usize, length: usize },
+    Palette,
+    Reset,
+}
+
+// Reads a line, its bytes into `bytes`, for a canvas of `length` bytes. The number of fields leaves few words to ask for.
+pub(crate) fn read(line: &[u8], length: usize, bytes: &mut [u8]) -> Order {
+    if LINE_ROOM <= line.len() {
+        return Order::Bad;
+    }
+    match count(line) {
+        1 => alone(line),
+        2 => with_length(line, length),
+        3 => feed(line, bytes),
+        5 => copy(line),
+        6 => dcs(line),
+        7 => one_shot(line, bytes),
+        8 => payload(line),
+        _ => Order::Bad,
+    }
+}
+
+fn begins(line: &[u8], word: &[u8]) -> bool {
+    is_word(field(line, 0), word)
+}
+
+fn alone(line: &[u8]) -> Order {
+    if begins(line, b"finish") {
+        return Order::Finish;
+    }
+    if begins(line, b"abort") {
+        return Order::Abort;
+    }
+    if begins(line, b"palette") {
+        return Order::Palette;
+    }
+    if begins(line, b"reset") {
+        return Order::Reset;
+    }
+    Order::Bad
+}
+
+// A new canvas has to have room, and what is lent has to be there.
+fn with_length(line: &[u8], length: usize) -> Order {
+    let Value::Of(asked) = number_at(line, 1) else {
+        return Order::Bad;
+    };
+    if begins(line, b"canvas") && asked <= ROOM {
+        return Order::Canvas(asked);
+    }
+    if begins(line, b"lend") && asked <= length {
+        return Order::Lend(asked);
+    }
+    Order::Bad
+}
+
+fn feed(line: &[u8], bytes: &mut [u8]) -> Order {
+    if !begins(line, b"feed") {
+        return Order::Bad;
+    }
+    let Value::Of(allowance) = number_at(line, 1) else {
+        return Order::Bad;
+    };
+    let Value::Of(count) = bytes_at(line, 2, bytes) else {
+        return Order::Bad;
+    };
+    Order::Feed { allowance, count }
+}
+
+fn copy(line: &[u8]) -> Order {
+    if !begins(line, b"copy") {
+        return Order::Bad;
+    }
+    let Value::Of(stride) = number_at(line, 1) else {
+        return Order::Bad;
+    };
+    let Value::Of(width) = number_at(line, 2) else {
+        return Order::Bad;
+    };
+    let Value::Of(height) = number_at(line, 3) else {
+        return Order::Bad;
+    };
+    let Value::Of(length) = number_at(line, 4) else {
+        return Order::Bad;
+    };
+    if ROOM < length {
+        return Order::Bad;
+    }
+    Order::Copy {
+        stride,
+        width,
+        height,
+        length,
+    }
+}
+
+enum Asked {
+    Bad,
+    Of(Setting),
+}
+
+// W, H, R, M and S, the first five fields after the word.
+fn opening(line: &[u8]) -> Asked {
+    let Value::Of(width) = number_at(line, 1) else {
+        return Asked::Bad;
+    };
+    let Value::Of(height) = number_at(line, 2) else {
+        return Asked::Bad;
+    };
+    let Value::Of(repeats) = number_at(line, 3) else {
+        return Asked::Bad;
+    };
+    let Value::Of(pixels) = number_at(line, 4) else {
+        return Asked::Bad;
+    };
+    let Value::Of(stride) = number_at(line, 5) else {
+        return Asked::Bad;
+    };
+    let limits = Limits {
+        width,
+        height,
+        repeats,
+        pixels,
+    };
+    Asked::Of(Setting { limits, stride })
+}
+
+fn dcs(line: &[u8]) -> Order {
+    if !begins(line, b"dcs") {
+        return Order::Bad;
+    }
+    let Asked::Of(setting) = opening(line) else {
+        return Order::Bad;
+    };
+    Order::Dcs(setting)
+}
+
+fn one_shot(line: &[u8], bytes: &mut [u8]) -> Order {
+    if !begins(line, b"oneshot") {
+        return Order::Bad;
+    }
+    let Asked::Of(setting) = opening(line) else {
+        return Order::Bad;
+    };
+    let Value::Of(count) = bytes_at(line, 6, bytes) else {
+        return Order::Bad;
+    };
+    Order::OneShot { setting, count }
+}
+
+fn payload(line: &[u8]) -> Order {
+    if !begins(line, b"payload") {
+        return Order::Bad;
+    }
+    let Asked::Of(setting) = opening(line) else {
+        return Order::Bad;
+    };
+    let Parameter::Of(p1) = parameter_at(line, 6) else {
+        return Order::Bad;
+    };
+    let Parameter::Of(p2) = parameter_at(line, 7) else {
+        return Order::Bad;
+    };
+    let settings = Settings { p1, p2 };
+    Order::Payload { setting, settings }
+}
