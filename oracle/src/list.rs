@@ -22,12 +22,7 @@ pub fn records(name: &str, hand: &str, share: u64) -> Vec<u8> {
     }
     let written = hand_written(hand);
     let mut decoder = SixelDecoder::new();
-    // The registers are as another kind of session left them: a payload session then starts from the standard ones, so that
-    // the payload sessions can be replayed by themselves.
-    let mut foreign = false;
-    for (at, mut case) in written.iter().cloned().chain(made(name, share)).enumerate() {
-        let plain = matches!(case.entry, Entry::Payload(_));
-        case.reset |= plain && foreign;
+    for (at, case) in written.iter().cloned().chain(made(name, share)).enumerate() {
         let before = decoder.clone();
         let answer = run(&mut decoder, &case);
         let pixels = answer.size[0] * answer.size[1];
@@ -35,8 +30,6 @@ pub fn records(name: &str, hand: &str, share: u64) -> Vec<u8> {
             decoder = before;
             continue;
         }
-        let start = if case.reset { SixelDecoder::new() } else { before };
-        foreign = foreign && !case.reset || !plain && answer.registers != start.registers();
         out.extend(record::session(&case, &answer, at < written.len() && pixels <= SHOWN));
     }
     out

@@ -1,13 +1,13 @@
 // What stands at a place of the file. A place past its end holds nothing, and no byte equals that.
 
-pub fn is_byte(stored: &[u8], at: usize, byte: u8) -> bool {
+pub(crate) fn is_byte(stored: &[u8], at: usize, byte: u8) -> bool {
     if at < stored.len() {
         return stored[at] == byte;
     }
     false
 }
 
-pub fn is_rgb(stored: &[u8], at: usize, rgb: [u8; 3]) -> bool {
+pub(crate) fn is_rgb(stored: &[u8], at: usize, rgb: [u8; 3]) -> bool {
     if stored.len() < 3 {
         return false;
     }

@@ -84,7 +84,7 @@ fn registers(stored: &[u8], from: usize, start: Tally) -> Tally
     tally
 }
 
-pub fn all(stored: &[u8]) -> Tally {
+pub(crate) fn all(stored: &[u8]) -> Tally {
     let none = Tally {
         compared: 0,
         differing: 0,

@@ -10,7 +10,7 @@ fn with_lightness(start: u32, hue: i32, lightness: i32) -> u32 {
     sum
 }
 
-pub fn checksum(hue: i32) -> u32 {
+pub(crate) fn checksum(hue: i32) -> u32 {
     let mut sum = 1;
     for lightness in 0..101u32 {
         sum = with_lightness(sum, hue, lightness as i32);

@@ -1,15 +1,20 @@
 // Replays the Rust's answers, stored in the file `answers`: blocks of records, each a case and what the Rust said of it.
-// Payload sessions are put to the reader, on one owner's palette from record to record; colours and the ratios of P1 are
-// compared. Of DCS sessions and one-shot readings, whose readers are yet to come, the records themselves are checked.
+// Payload sessions, DCS sessions and one-shot readings are put to the reader, on one owner's palette from record to record;
+// colours and the ratios of P1 are compared.
 ghost use Prim.Native.Nat.{_-_, _≤_};
 
+mod calls;
+mod fields;
+mod reader;
+mod reading;
 mod record;
+mod report;
+mod seen;
 mod session;
 mod trial;
 
 use colours::Palette;
 use libc::STDOUT_FILENO;
-use record::Owner;
 use record::Verdict;
 
 const BLOCK: usize = 65_536;
@@ -26,10 +31,9 @@ const ROOM: usize = 2_097_160;
 // What has been replayed so far.
 struct Tally {
     payload: u64,
-    left_out: u64,
     dcs: u64,
     one_shot: u64,
-    compared: u64,
+    plain: u64,
     differing: u64,
     faults: u64,
 }
@@ -41,25 +45,21 @@ fn more(count: u64) -> u64 {
 impl Tally {
     fn with(mut self, verdict: Verdict) -> Tally {
         match verdict {
-            Verdict::Replayed(is_same) => {
+            Verdict::Payload(is_same) => {
                 self.payload = more(self.payload);
                 self.judged(is_same)
             }
-            Verdict::Compared(is_same) => {
-                self.compared = more(self.compared);
+            Verdict::Dcs(is_same) => {
+                self.dcs = more(self.dcs);
                 self.judged(is_same)
             }
-            Verdict::LeftOut => {
-                self.left_out = more(self.left_out);
-                self
-            }
-            Verdict::Dcs => {
-                self.dcs = more(self.dcs);
-                self
-            }
-            Verdict::OneShot => {
+            Verdict::OneShot(is_same) => {
                 self.one_shot = more(self.one_shot);
-                self
+                self.judged(is_same)
+            }
+            Verdict::Plain(is_same) => {
+                self.plain = more(self.plain);
+                self.judged(is_same)
             }
             Verdict::Faulty => {
                 self.faults = more(self.faults);
@@ -76,17 +76,16 @@ impl Tally {
     }
 
     fn cases(self) -> u64 {
-        let payload = std::num::wrapping_add_u64(self.payload, self.left_out);
-        let sessions = std::num::wrapping_add_u64(payload, self.dcs);
+        let sessions = std::num::wrapping_add_u64(self.payload, self.dcs);
         let readings = std::num::wrapping_add_u64(sessions, self.one_shot);
-        std::num::wrapping_add_u64(readings, self.compared)
+        std::num::wrapping_add_u64(readings, self.plain)
     }
 }
 
 // The tally and the owner's palette, carried from record to record.
 struct State {
     tally: Tally,
-    owner: Owner,
+    owner: Palette,
 }
 
 impl State {
@@ -134,7 +133,7 @@ fn replay_record(record: &[u8], buffer: &mut [u8], before: State) -> State {
     let owner = before.owner;
     let step = record::judge(record, buffer, owner);
     let verdict = step.verdict;
-    let after = step.owner;
+    let after = step.palette;
     State {
         tally: tally.with(verdict),
         owner: after,
@@ -197,21 +196,16 @@ fn next_block(fd: i32, number: u32, buffer: &mut [u8], state: State) -> Turn {
 }
 
 fn at_first() -> State {
-    let palette = Palette::standard();
     State {
         tally: Tally {
             payload: 0,
-            left_out: 0,
             dcs: 0,
             one_shot: 0,
-            compared: 0,
+            plain: 0,
             differing: 0,
             faults: 0,
         },
-        owner: Owner {
-            palette,
-            is_known: true,
-        },
+        owner: Palette::standard(),
     }
 }
 
@@ -233,15 +227,11 @@ fn print_count(words: &[u8], count: u64) {
     io::write_all(STDOUT_FILENO, b"\n");
 }
 
-fn report(tally: Tally) {
+fn print_tally(tally: Tally) {
     print_count(b"payload sessions, replayed: ", tally.payload);
-    print_count(
-        b"payload sessions on registers that a session not yet replayed has left, record checked: ",
-        tally.left_out,
-    );
-    print_count(b"DCS sessions, record checked: ", tally.dcs);
-    print_count(b"one-shot readings, record checked: ", tally.one_shot);
-    print_count(b"colours and ratios, compared: ", tally.compared);
+    print_count(b"DCS sessions, replayed: ", tally.dcs);
+    print_count(b"one-shot readings, replayed: ", tally.one_shot);
+    print_count(b"colours and ratios, compared: ", tally.plain);
     print_count(b"faults of the list: ", tally.faults);
     io::write_all(STDOUT_FILENO, b"cases ");
     io::print_decimal(STDOUT_FILENO, tally.cases());
@@ -260,6 +250,6 @@ fn main() {
         return;
     }
     let mut buffer = room();
-    report(replay_list(fd, &mut buffer));
+    print_tally(replay_list(fd, &mut buffer));
     libc::close(fd);
 }

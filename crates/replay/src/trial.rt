@@ -1,10 +1,19 @@
-// A payload session's record compared with the reader: on a canvas that fits exactly, on one that is a column and a row larger,
-// and, where there is a picture, on one that is a row short and on one that is a column short.
-use crate::record::byte_at;
-use crate::record::registers_sum;
-use crate::session::Picture;
+// A record compared with the reader: on a canvas that fits exactly, on one that is a column and a row larger, and, where there
+// is a picture, on one that is a row short and on one that is a column short.
+use crate::fields::ONE_SHOT;
+use crate::fields::byte_at;
+use crate::fields::has_picture;
+use crate::fields::height_of;
+use crate::fields::kind_of;
+use crate::fields::width_of;
+use crate::reading;
+use crate::report::Picture;
+use crate::seen::Shown;
+use crate::seen::fill;
+use crate::seen::look;
+use crate::seen::registers_sum;
+use crate::session;
 use crate::session::Ran;
-use crate::session::run;
 use colours::Palette;
 ghost use Prim.Native.Nat.{_≤_};
 
@@ -14,17 +23,6 @@ const LONGEST: usize = 262_144;
 // An allowance that no ink exceeds.
 const ENDLESS: usize = 0xffff_ffff_ffff_ffff;
 
-// Byte `i` of a canvas before a session: never 0 nor 255, one of which is the fourth byte of each pixel.
-fn pattern(i: usize) -> u8 {
-    (1 + i % 251) as u8
-}
-
-fn fill(canvas: &mut [u8]) {
-    for i in 0..canvas.len() {
-        canvas[i] = pattern(i);
-    }
-}
-
 // A canvas's shape, and what a call may ink.
 struct Plan {
     stride: usize,
@@ -32,37 +30,10 @@ struct Plan {
     allowance: usize,
 }
 
-// What a canvas holds after a session: the checksum of the visible rows, and whether all else is as it was.
-struct Shown {
-    sum: u32,
-    is_rest_kept: bool,
-}
-
-fn is_inside(pixel: usize, stride: usize, width: usize, height: usize) -> bool {
-    if stride == 0 {
-        return false;
-    }
-    pixel % stride < width && pixel / stride < height
-}
-
-fn look(canvas: &[u8], stride: usize, width: usize, height: usize) -> Shown {
-    let mut sum = 1;
-    let mut is_rest_kept = true;
-    for i in 0..canvas.len() {
-        if is_inside(i / 4, stride, width, height) {
-            sum = answers::with_byte(sum, canvas[i]);
-        } else if canvas[i] != pattern(i) {
-            is_rest_kept = false;
-        }
-    }
-    Shown { sum, is_rest_kept }
-}
-
-// The width or height at a place, at least 1.
-fn side_at(record: &[u8], at: usize) -> usize
+// A canvas's side for a picture's: at least 1.
+fn side_for(side: usize) -> usize
     ensures { λ r. ⌜ r ≤ 262144 ⌝ }
 {
-    let side = answers::number_at(record, at) as usize;
     if side == 0 {
         return 1;
     }
@@ -77,11 +48,18 @@ struct Trial {
     shown: Shown,
 }
 
+fn run(record: &[u8], canvas: &mut [u8], plan: Plan, owner: Palette) -> Ran {
+    if kind_of(record) == ONE_SHOT {
+        return reading::run(record, canvas, plan.stride, owner);
+    }
+    session::run(record, canvas, plan.stride, plan.allowance, owner)
+}
+
 fn on_canvas(record: &[u8], canvas: &mut [u8], plan: Plan, owner: Palette) -> Trial {
     fill(canvas);
-    let ran = run(record, canvas, plan.stride, plan.allowance, owner);
-    let width = side_at(record, 48);
-    let height = side_at(record, 52);
+    let ran = run(record, canvas, plan, owner);
+    let width = width_of(record);
+    let height = height_of(record);
     Trial {
         ran,
         shown: look(canvas, plan.stride, width, height),
@@ -113,10 +91,6 @@ fn try_on(record: &[u8], buffer: &mut [u8], plan: Plan, owner: Palette) -> Trial
     on_canvas(record, &mut buffer[..length], plan, owner)
 }
 
-fn has_picture(record: &[u8]) -> bool {
-    byte_at(record, 10) != 0
-}
-
 // The outcome of the calls: refusal, status, and bytes consumed.
 fn do_calls_agree(record: &[u8], ran: Ran) -> bool {
     let count = ran.count;
@@ -135,8 +109,8 @@ fn does_report_agree(record: &[u8], picture: Picture) -> bool {
     }
     picture.ratio == byte_at(record, 10)
         && picture.background == byte_at(record, 11)
-        && picture.width == answers::number_at(record, 48) as usize
-        && picture.height == answers::number_at(record, 52) as usize
+        && picture.width == width_of(record)
+        && picture.height == height_of(record)
         && picture.right == answers::number_at(record, 56) as usize
         && picture.bottom == answers::number_at(record, 60) as usize
 }
@@ -186,8 +160,8 @@ fn is_short_refused(record: &[u8], buffer: &mut [u8], plan: Plan, owner: Palette
 // The canvas that a record's picture fits exactly, with the least allowance.
 fn exact_plan(record: &[u8]) -> Plan {
     Plan {
-        stride: side_at(record, 48),
-        rows: side_at(record, 52),
+        stride: side_for(width_of(record)),
+        rows: side_for(height_of(record)),
         allowance: 6 * (answers::number_at(record, 12) as usize),
     }
 }
@@ -195,8 +169,8 @@ fn exact_plan(record: &[u8]) -> Plan {
 // One column and one row more, and any ink.
 fn larger_plan(record: &[u8]) -> Plan {
     Plan {
-        stride: side_at(record, 48) + 1,
-        rows: side_at(record, 52) + 1,
+        stride: side_for(width_of(record)) + 1,
+        rows: side_for(height_of(record)) + 1,
         allowance: ENDLESS,
     }
 }
@@ -237,7 +211,7 @@ fn are_shorter_refused(record: &[u8], buffer: &mut [u8], owner: Palette) -> bool
 }
 
 // Whether the reader does what the record says, and the owner's palette after it.
-pub struct Judged {
+pub(crate) struct Judged {
     pub is_same: bool,
     pub palette: Palette,
 }
@@ -253,7 +227,7 @@ fn verdict(record: &[u8], exact: Trial, larger: Trial, are_refused: bool) -> Jud
     Judged { is_same, palette }
 }
 
-pub fn judge(record: &[u8], buffer: &mut [u8], owner: Palette) -> Judged {
+pub(crate) fn judge(record: &[u8], buffer: &mut [u8], owner: Palette) -> Judged {
     let exact = try_on(record, buffer, exact_plan(record), owner);
     let larger = try_on(record, buffer, larger_plan(record), owner);
     let are_refused = are_shorter_refused(record, buffer, owner);

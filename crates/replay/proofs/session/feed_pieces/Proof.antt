@@ -14,23 +14,26 @@ Inv-loop «record» canvas₀ allowance count calls₀ at₀ piece₀ canvas cal
 abbrev μ-loop : tie.MeasureT-loop
 μ-loop «record» canvas₀ allowance count calls₀ at₀ piece₀ canvas calls at piece = count - piece
 
-number-at-requires : tie.Need-number-at-requires Inv-loop μ-loop
-number-at-requires c κs = search needs
+pieces-of-requires : tie.Need-pieces-of-requires Inv-loop μ-loop
+pieces-of-requires c κs = search needs
 
-cast-place-after : tie.Need-cast-place-after Inv-loop μ-loop
-cast-place-after c = search needs
-
-mul-place-after : tie.Need-mul-place-after Inv-loop μ-loop
-mul-place-after c = search needs
-
-place-after-requires : tie.Need-place-after-requires Inv-loop μ-loop
-place-after-requires c κs = search needs
+first-byte-requires : tie.Need-first-byte-requires Inv-loop μ-loop
+first-byte-requires c κs = search needs
 
 loop-holds : tie.Need-loop-holds Inv-loop μ-loop
 loop-holds c = search needs
 
-piece-length-requires : tie.Need-piece-length-requires Inv-loop μ-loop
-piece-length-requires c κs = search needs
+cast-length-at : tie.Need-cast-length-at Inv-loop μ-loop
+cast-length-at c = search needs
+
+mul-length-at : tie.Need-mul-length-at Inv-loop μ-loop
+mul-length-at c = search needs
+
+add-length-at : tie.Need-add-length-at Inv-loop μ-loop
+add-length-at c = search needs
+
+length-at-requires : tie.Need-length-at-requires Inv-loop μ-loop
+length-at-requires c κs = search needs
 
 add-feed-piece : tie.Need-add-feed-piece Inv-loop μ-loop
 add-feed-piece c = search needs
@@ -54,7 +57,7 @@ returns : tie.Need-returns Inv-loop μ-loop
 returns c = search needs
 
 add-at : tie.Need-add-at Inv-loop μ-loop
-add-at c = omega (arith, c .before .before .before .before .before .before .before .piece-length .ensures, c .before .before .before .before .before .before .before .before .before .loop .inv)
+add-at c = omega (arith, c .before .before .before .before .before .before .before .length-at .ensures, c .before .before .before .before .before .before .before .before .before .loop .inv)
 
 add-piece : tie.Need-add-piece Inv-loop μ-loop
 add-piece c = omega (arith, c .before .before .before .before .before .before .before .before .loop-test .taken, c .before .before .before .before .before .before .before .before .before .loop .inv)
@@ -77,12 +80,13 @@ feed-pieces-spec =
     (tie.spec
     Inv-loop
     μ-loop
-    number-at-requires
-    cast-place-after
-    mul-place-after
-    place-after-requires
+    pieces-of-requires
+    first-byte-requires
     loop-holds
-    piece-length-requires
+    cast-length-at
+    mul-length-at
+    add-length-at
+    length-at-requires
     add-feed-piece
     sub-feed-piece
     part-feed-piece-start

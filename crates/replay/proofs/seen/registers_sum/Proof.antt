@@ -1,9 +1,9 @@
--- `replay::record::registers_sum` is safe and ends.
+-- `replay::seen::registers_sum` is safe and ends.
 -- Assumes nothing.
 use Prim.Native.Nat.{_-_, _≤_}
 use borrow.Author.Needs.{needs}
-use Rattle.replay.proofs.record.registers_sum.Statement.{statement}
-use Rattle.replay.proofs.record.registers_sum.Tie as tie
+use Rattle.replay.proofs.seen.registers_sum.Statement.{statement}
+use Rattle.replay.proofs.seen.registers_sum.Tie as tie
 
 abbrev Inv-loop : tie.InvT-loop
 Inv-loop colors sum₀ index₀ sum index = index ≤ 256

@@ -1,12 +1,12 @@
--- `replay::trial::fill` is safe and ends, and keeps the length.
+-- `replay::seen::fill` is safe and ends, and keeps the length.
 -- Assumes nothing.
 use mathlib.Core.Path.{_≡_}
 use Prim.Native.Nat.{_-_, _≤_}
 use native.Mathlib.Omega.{arith}
 use lib.ListN.{length, length-set}
 use borrow.Author.Needs.{needs}
-use Rattle.replay.proofs.trial.fill.Statement.{statement}
-use Rattle.replay.proofs.trial.fill.Tie as tie
+use Rattle.replay.proofs.seen.fill.Statement.{statement}
+use Rattle.replay.proofs.seen.fill.Tie as tie
 
 abbrev Inv-loop : tie.InvT-loop
 Inv-loop canvas₀ i₀ i-end canvas i = (i ≤ i-end) × (i-end ≡ length canvas) × (length canvas ≡ length canvas₀)

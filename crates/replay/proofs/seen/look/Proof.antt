@@ -1,11 +1,11 @@
--- `replay::trial::look` is safe and ends.
+-- `replay::seen::look` is safe and ends.
 -- Assumes nothing.
 use mathlib.Core.Path.{_≡_}
 use Prim.Native.Nat.{_-_, _≤_}
 use lib.ListN.{length}
 use borrow.Author.Needs.{needs}
-use Rattle.replay.proofs.trial.look.Statement.{statement}
-use Rattle.replay.proofs.trial.look.Tie as tie
+use Rattle.replay.proofs.seen.look.Statement.{statement}
+use Rattle.replay.proofs.seen.look.Tie as tie
 
 abbrev Inv-loop : tie.InvT-loop
 Inv-loop canvas stride width height sum₀ is-rest-kept₀ i₀ i-end sum is-rest-kept i = (i ≤ i-end) × (i-end ≡ length canvas)
