@@ -27,13 +27,14 @@ pub fn feed_dcs(
 ) -> dcs::Answer
     ensures { λ r. ⌜ (record { answer = r; session = now (session .exit) }, now (canvas .exit)) ≡ dcs.fedBy (now (session .entry)) (now (canvas .entry)) (now (bytes .entry)) allowance ⌝ }
 {
-    let fed = dcs::feed(*session, canvas, bytes, allowance);
-    *session = fed.session;
-    fed.answer
+    let read = dcs::feed(*session, canvas, bytes, allowance);
+    *session = read.session;
+    read.answer
 }
 
-// Puts a payload session in a place and lends it to feed_payload: for callers that hold none by reference.
-pub fn place_payload(
+// Puts a payload session in a place of its own and lends it to feed_payload. Nothing in its promise is lent but the slices, so
+// whoever calls it needs no proof by hand.
+pub fn place_and_feed_payload(
     session: payload::Session,
     canvas: &mut [u8],
     bytes: &[u8],
@@ -49,8 +50,8 @@ pub fn place_payload(
     }
 }
 
-// Puts a DCS session in a place and lends it to feed_dcs.
-pub fn place_dcs(
+// Puts a DCS session in a place of its own and lends it to feed_dcs.
+pub fn place_and_feed_dcs(
     session: dcs::Session,
     canvas: &mut [u8],
     bytes: &[u8],

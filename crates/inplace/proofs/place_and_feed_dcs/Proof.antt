@@ -7,14 +7,14 @@ use Rattle.inplace.proofs.Placed.{meets}
 use Rattle.inplace.proofs.Sessions.{dcs}
 use Rattle.inplace.proofs.feed_dcs.Symbol as feed
 use Rattle.inplace.proofs.feed_dcs.Met as feed-thm
-use Rattle.inplace.proofs.place_dcs as here
-use Rattle.inplace.proofs.place_dcs.Key as key
-use Rattle.inplace.proofs.place_dcs.Statement as stated
-use Rattle.inplace.proofs.place_dcs.Code as code
+use Rattle.inplace.proofs.place_and_feed_dcs as here
+use Rattle.inplace.proofs.place_and_feed_dcs.Key as key
+use Rattle.inplace.proofs.place_and_feed_dcs.Statement as stated
+use Rattle.inplace.proofs.place_and_feed_dcs.Code as code
 
-pub place-dcs-spec : {M : Type 1} → stated.statement M
+pub place-and-feed-dcs-spec : {M : Type 1} → stated.statement M
 unfolding code.routine tablesOf
-place-dcs-spec 𝓤 H 𝓜 𝓖 𝓡 =
+place-and-feed-dcs-spec 𝓤 H 𝓜 𝓖 𝓡 =
     entered 𝓤 H (tripleOf 𝓤 H (𝓖 .A) here.signature (here.spec 𝓤 H (𝓖 .A) (𝓜 .mem) (𝓡 .run)))
     (tables 𝓤 H 𝓜 𝓡 code.env .C) (tables 𝓤 H 𝓜 𝓡 code.env .Λ) key.name code.function (code.unfolded 𝓤 H 𝓜 𝓡)
     (meets dcs feed.name 𝓤 H (𝓖 .A) (givenOf 𝓤 H 𝓜 𝓖) (tablesOf 𝓤 H 𝓜 (tables 𝓤 H 𝓜 𝓡 code.env))
