@@ -1,0 +1,4 @@
+pub mod Feeding
+pub mod Lent
+pub mod Placed
+pub mod Sessions
