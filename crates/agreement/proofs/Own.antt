@@ -11,7 +11,7 @@ use Rattle.meaning.specs.Drawing.{Setting, Outcome, drawAll, inkOfAll}
 use Rattle.meaning.specs.Reader.{Step, next, halt, refuse}
 use Rattle.meaning.specs.Sessions.{Reading, settled, rested, endedAt, wentOn, readByte, payloadStep}
 use Rattle.meaning.proofs.AreaLaws.{drawOn, drawOn-none, drawOn-some, drawAll-append}
-use Rattle.meaning.proofs.InkLaws.{settled-strokes}
+use Rattle.meaning.proofs.InkLaws.{wentOn-rested}
 use Rattle.agreement.proofs.Data.{cond-same}
 
 -- some commands before what a byte scans to
@@ -44,20 +44,6 @@ own-after at b before = go (eqb b bang) (eqb b hash) (eqb b quote) (eqb b dollar
     go false false false false false true = refl
     go false false false false false false = none-more _
 
--- a byte goes on from the drawing with the begun command carried out as it does from the one before
-wentOn-rested : (s : Setting) (r : Reading) (c k : Scanned) (out : Outcome) → k .begun ≡ c .begun → wentOn r c out ≡ wentOn (rested s r) k out
-unfolding wentOn rested
-wentOn-rested s r c k out e = ap₂ went (sym e) (sym (ap inkOfAll (settled-strokes s r)))
-  where
-    went : Option Begun → ℕ → Step Reading
-    went begun old =
-        elim (out .refusal) [
-          | none ↦
-              next (record { parameters = r .parameters; passed = suc (r .passed); begun = begun; drawing = out .drawing; over = none })
-              (inkOfAll (out .drawing .strokes) - old)
-          | some n ↦ refuse (record { parameters = r .parameters; passed = r .passed; begun = none; drawing = out .drawing; over = none }) n
-        ]
-
 -- what the begun command leaves where it is refused
 unfoldable pub turnedAt : Setting → Reading → Reading
 turnedAt s r = record { parameters = r .parameters; passed = r .passed; begun = none; drawing = settled s r .drawing; over = none }
@@ -89,7 +75,7 @@ module _ (s : Setting) (r : Reading) (b : ℕ) (going : r .over ≡ none) (unski
       settling-step s r b going unskipped untaken
       ∙ ap₂ (cond (ends b)) (ap ended e)
       (ap (wentOn r alone) (drawOn-none s (settled s r) (alone .ended) e)
-      ∙ wentOn-rested s r alone alone (drawAll s (alone .ended) (settled s r .drawing)) refl)
+      ∙ sym (wentOn-rested s r alone alone (drawAll s (alone .ended) (settled s r .drawing)) refl))
       ∙ sym (settling-step s (rested s r) b going unskipped refl)
     where
       alone : Scanned

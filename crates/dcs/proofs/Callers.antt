@@ -59,6 +59,26 @@ refused-told halted none = refl
 refused-told halted (some e) = refl
 refused-told (refusedBy n) o = refl
 
+-- an end is told exactly where there is one, and the call neither stopped nor was refused
+pub told-end : (h : How) (o : Option End) → endTold h o ≡ halted → (h ≡ stopped → ⊥) × (isRefused h ≡ false) × ((e : End) × (o ≡ some e))
+unfolding isRefused endTold
+told-end readAll none z = absurd (let never : _≡_ {A = ℕ} 0 1 = cc in omega arith)
+told-end readAll (some e) z = (λ q. let never : _≡_ {A = ℕ} 0 1 = cc in omega arith, refl, (e, refl))
+told-end stopped o z = absurd (let never : _≡_ {A = ℕ} 0 1 = cc in omega arith)
+told-end halted none z = absurd (let never : _≡_ {A = ℕ} 0 1 = cc in omega arith)
+told-end halted (some e) z = (λ q. let never : _≡_ {A = ℕ} 0 1 = cc in omega arith, refl, (e, refl))
+told-end (refusedBy n) o z = absurd (let never : _≡_ {A = ℕ} 0 1 = cc in omega arith)
+
+-- and a refusal where the call was refused
+pub told-refusal : (h : How) (o : Option End) {n : ℕ} → endTold h o ≡ refusedBy n → h ≡ refusedBy n
+unfolding endTold
+told-refusal readAll none z = z
+told-refusal readAll (some e) z = cc
+told-refusal stopped o z = z
+told-refusal halted none z = cc
+told-refusal halted (some e) z = z
+told-refusal (refusedBy m) o z = z
+
 -- an answered call tells how it ended and its counts, and leaves its state
 record Tells (m : calls.Session Phase) (q : Run Phase) (y : calls.Fed Phase End) : Type 0 where
   how : howTold (y .answer) ≡ endTold (q .how) (calls.dcsEnd (q .state))

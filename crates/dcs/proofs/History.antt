@@ -1,30 +1,32 @@
 -- Any calls of the code, the canvas given back each time as it was left, are the definition's; and so demands 2 and 3 hold of the code.
 use Prim.Native.Nat.{ℕ, _+_, _-_, _*_, _/_, _≤_}
 use mathlib.Core.Bool.{true, false}
-use mathlib.Core.Option.{none, some}
+use mathlib.Core.Option.{Option, none}
 use mathlib.Core.List.{List, [], _∷_, map}
 use mathlib.Core.Path.{_≡_, refl, sym, ap, ap₂, _∙_, subst}
 use lib.ListN.{length}
+use Rattle.numbers.proofs.Laws.{cond-yes}
 use Rattle.numbers.proofs.Reading.{read-none}
 use Rattle.colours.specs.declared.Palette.{Palette}
 use Rattle.frame.specs.declared.Limits.{Limits}
 use Rattle.meaning.specs.Calls as calls
-use Rattle.meaning.specs.Drawing.{Setting}
+use Rattle.meaning.specs.Drawing.{Setting, Drawing}
 use Rattle.meaning.specs.Histories.{Ask}
-use Rattle.meaning.specs.OneShot.{missing, oneShot}
+use Rattle.meaning.specs.OneShot.{missing, findPayload, oneShot}
 use Rattle.meaning.specs.Payload as meant
-use Rattle.meaning.specs.Reader.{How, stopped, refusedBy, isRefused, readFrom, Turn, stream, pieces, Caller, ranBy, ready}
+use Rattle.meaning.specs.Reader.{How, stopped, halted, refusedBy, isRefused, readFrom, Turn, stream, pieces, Caller, ranBy, ready}
 use Rattle.meaning.specs.Sequence.{sequencePayload, sequenceInk}
-use Rattle.meaning.specs.Sessions.{End, Phase, start, dcsStep}
+use Rattle.meaning.specs.Sessions.{Phase, start, dcsStep}
+use Rattle.meaning.proofs.DcsSoFar.{dcs-finish-drawing, dcs-refused-drawn}
 use Rattle.meaning.proofs.Demand3.{dcs-calls, dcs-outcome, dcs-finishes, dcs-refused, dcs-all-ink}
 use Rattle.payload.specs.Begin.{reservedBy}
 use Rattle.payload.specs.History.{settingMeant, limitsMeant, Finishes}
-use Rattle.payload.specs.Judge.{openable}
+use Rattle.payload.specs.Judge.{inRange, limitsFit, openable}
 use Rattle.dcs.specs.declared.Session.{Session}
 use Rattle.dcs.specs.Session.{openedBy, fedBy, finishedBy}
 use Rattle.dcs.specs.History.{answerMeant, atStart, heldAt, Stands, before, Feeds, Past, fedAll, PastMeant, fedAllMeant, Held, callsOf, properCalls}
 use Rattle.dcs.proofs.Standing.{feed-stands, finish-stands, finished-meant, stands-shows, stands-long, stands-fit}
-use Rattle.dcs.proofs.Callers.{endTold, refused-told, CallerStands, calls-stand}
+use Rattle.dcs.proofs.Callers.{endTold, refused-told, told-end, told-refusal, CallerStands, calls-stand}
 
 -- ---- any calls
 
@@ -44,6 +46,24 @@ history-stands l stride p opening {s} {c} {m} k (a ∷ later) =
     (feed-stands l stride p opening k (a .bytes) (a .allowance)) in
     let rest = history-stands l stride p opening (f .session) later in
     record { answers = ap₂ _∷_ (f .answer) (rest .answers); session = rest .session }
+
+-- so after any calls the canvas shows the drawing of the definition's state
+pub history-shows : (l : Limits) (stride : ℕ) (p : Palette) (opening : List ℕ) {s : Session} {c : List ℕ} {m : calls.Session Phase} → Stands l stride p opening s c m → (cs : List Ask)
+    → fedAll s c cs .canvas ≡ calls.dcsShown (fedAllMeant p m (length opening) cs .session) opening
+history-shows l stride p opening k cs = stands-shows l stride p opening (history-stands l stride p opening k cs .session)
+
+-- and a finish then is the definition's
+pub history-finishes : (l : Limits) (stride : ℕ) (p : Palette) (opening : List ℕ) {s : Session} {c : List ℕ} {m : calls.Session Phase} → Stands l stride p opening s c m → (cs : List Ask) (owner : Palette)
+    → Finishes (calls.dcsShownAtFinish (fedAllMeant p m (length opening) cs .session) opening) owner (fedAll s c cs .canvas)
+    (finishedBy (fedAll s c cs .session) owner (fedAll s c cs .canvas)) (calls.finishDcsSession (fedAllMeant p m (length opening) cs .session) (length opening))
+history-finishes l stride p opening {s} {c} {m} k cs owner =
+    let after = history-stands l stride p opening k cs .session in
+    subst
+    (λ (n : ℕ).
+    Finishes (calls.dcsShownAtFinish (fedAllMeant p m (length opening) cs .session) opening) owner (fedAll s c cs .canvas)
+    (finishedBy (fedAll s c cs .session) owner (fedAll s c cs .canvas)) (calls.finishDcsSession (fedAllMeant p m (length opening) cs .session) n))
+    (stands-long l stride p opening after)
+    (finish-stands l stride p opening owner after)
 
 -- ---- demands 2 and 3 of the code: a session that was opened, and a caller that presents what was left unread
 
@@ -77,7 +97,7 @@ module _ (l : Limits) (stride : ℕ) (p : Palette) (opening : List ℕ) (opens :
     abbrev pub canvas : List ℕ
     canvas = now .state .1
 
-    roomy : 6 * setting .limits .width ≤ A
+    pub roomy : 6 * setting .limits .width ≤ A
     unfolding settingMeant limitsMeant calls.settingFor
     roomy = enough
 
@@ -88,13 +108,16 @@ module _ (l : Limits) (stride : ℕ) (p : Palette) (opening : List ℕ) (opens :
     pub stood : CallerStands l stride p opening now there
     stood = calls-stand l stride p opening A roomy start-stands ts ok .0
 
-    proper-there : calls.properDcs setting p A ts ≡ true
+    pub proper-there : calls.properDcs setting p A ts ≡ true
     proper-there = calls-stand l stride p opening A roomy start-stands ts ok .1
 
     -- what the answers told is what the definition's caller came to
     going-there : (now .how ≡ stopped → ⊥) → there .how ≡ stopped → ⊥
     unfolding endTold
     going-there going e = going (stood .how ∙ ap (λ (h : How). endTold h (calls.dcsEnd (there .state))) e)
+
+    pub fine-there : isRefused (now .how) ≡ false → isRefused (there .how) ≡ false
+    fine-there fine = sym (refused-told (there .how) (calls.dcsEnd (there .state))) ∙ sym (ap isRefused (stood .how)) ∙ fine
 
     -- Demand 3, its first sentence: the calls are at most the pieces and I / (A - 6W + 1), where I is the ink of the whole stream
     pub calls-bounded : length ts ≤ pieces ts + sequenceInk setting p (stream ts) / (A - 6 * l .width + 1)
@@ -110,27 +133,44 @@ module _ (l : Limits) (stride : ℕ) (p : Palette) (opening : List ℕ) (opens :
     pub whole-state : (now .how ≡ stopped → ⊥) → readFrom (dcsStep setting p) start (stream ts) ≡ ranBy there
     whole-state going = dcs-outcome setting p A ts proper-there (going-there going)
 
-    -- Demand 2, and the second sentence of demand 3: at an end a finish answers what reading the whole stream at once does.
-    pub whole-finishes : (now .how ≡ stopped → ⊥) → isRefused (now .how) ≡ false → {e : End} → calls.dcsEnd (there .state) ≡ some e → (owner : Palette)
-        → Finishes (calls.shown stride (calls.drawingAtFinish setting (there .state)) opening) owner canvas (finishedBy session owner canvas) (oneShot setting p (stream ts))
+    -- what reading the whole stream at once leaves on the canvas
+    abbrev pub picture : List ℕ
+    picture = calls.oneShotShown (limitsMeant l) stride (length opening) p (stream ts) opening
+
+    picture-shown : {d : Option Drawing} → d ≡ calls.drawingFound setting p (findPayload (stream ts)) → calls.shown stride d opening ≡ picture
+    unfolding calls.oneShotShown settingMeant openable limitsFit inRange calls.opens calls.limitsHold calls.ranges limitsMeant
+    picture-shown e = ap (λ (d : Option Drawing). calls.shown stride d opening) e ∙ sym (cond-yes _ _ opens)
+
+    -- Demand 2, and the second sentence of demand 3: once an end is told, a finish answers what reading the whole stream at once does, and
+    -- leaves that picture.
+    pub whole-finishes : now .how ≡ halted → (owner : Palette)
+        → Finishes picture owner canvas (finishedBy session owner canvas) (oneShot setting p (stream ts))
     unfolding calls.dcsShownAtFinish settingMeant calls.settingFor calls.firstOf calls.misfits
-    whole-finishes going fine e owner =
+    whole-finishes told owner =
         let m : calls.Session Phase = heldAt l stride (length opening) (there .state) (isRefused (there .how)) in
-        let live : isRefused (there .how) ≡ false = sym (refused-told (there .how) (calls.dcsEnd (there .state))) ∙ sym (ap isRefused (stood .how)) ∙ fine in
+        let ended = told-end (there .how) (calls.dcsEnd (there .state)) (sym (stood .how) ∙ told) in
+        let live : isRefused (there .how) ≡ false = ended .1 in
         let answer : calls.finishDcsSession m (length canvas) ≡ oneShot setting p (stream ts) =
         ap (calls.finishDcsSession m) (stands-long l stride p opening (stood .session))
         ∙ finished-meant l stride p opening m (length opening) {o = none} (rw (live, stands-fit l stride p opening (stood .session)) refl)
-        ∙ dcs-finishes setting p A ts proper-there (going-there going) e in
-        subst (Finishes (calls.shown stride (calls.drawingAtFinish setting (there .state)) opening) owner canvas (finishedBy session owner canvas)) answer
-        (finish-stands l stride p opening owner (stood .session))
+        ∙ dcs-finishes setting p A ts proper-there (ended .0) (ended .2 .1) in
+        subst (λ (shown : List ℕ). Finishes shown owner canvas (finishedBy session owner canvas) (oneShot setting p (stream ts)))
+        (picture-shown (dcs-finish-drawing setting p A ts roomy proper-there (ended .0) (ended .2 .1)))
+        (subst (Finishes (calls.shown stride (calls.drawingAtFinish setting (there .state)) opening) owner canvas (finishedBy session owner canvas)) answer
+        (finish-stands l stride p opening owner (stood .session)))
 
-    -- A refusal is what introducer and header are refused with, or what reading the whole at once answers.
-    pub whole-refused : {n : ℕ} → there .how ≡ refusedBy n
+    -- A refusal is what introducer and header are refused with, or what reading the whole at once answers; the canvas shows what came before it.
+    pub whole-refused : {n : ℕ} → now .how ≡ refusedBy n
         → (n ≤ 3 → sequencePayload (stream ts) ≡ missing n) × (2 ≤ n → oneShot setting p (stream ts) ≡ meant.turnedDown n)
-    whole-refused e = dcs-refused setting p A ts proper-there e
+        × (canvas ≡ calls.shown stride (calls.drawingFound setting p (sequencePayload (stream ts))) opening)
+    whole-refused told =
+        let e = told-refusal (there .how) (calls.dcsEnd (there .state)) (sym (stood .how) ∙ told) in
+        let numbers = dcs-refused setting p A ts proper-there e in (
+          numbers .0,
+          numbers .1,
+          canvas-shows ∙ ap (λ (d : Option Drawing). calls.shown stride d opening) (dcs-refused-drawn setting p A ts roomy proper-there e),
+        )
 
     -- Demand 3, its third sentence: the ink that the calls told adds up to I.
     pub whole-ink : (now .how ≡ stopped → ⊥) → isRefused (now .how) ≡ false → now .ink ≡ sequenceInk setting p (stream ts)
-    whole-ink going fine =
-        stood .ink (sym (refused-told (there .how) (calls.dcsEnd (there .state))) ∙ sym (ap isRefused (stood .how)) ∙ fine)
-        ∙ dcs-all-ink setting p A ts proper-there (going-there going)
+    whole-ink going fine = stood .ink (fine-there fine) ∙ dcs-all-ink setting p A ts proper-there (going-there going)

@@ -8,3 +8,4 @@ pub mod Before
 pub mod Standing
 pub mod Callers
 pub mod History
+pub mod SoFar

@@ -13,10 +13,10 @@ use Rattle.meaning.specs.Commands.{ofValues}
 use Rattle.colours.specs.declared.Palette.{Palette}
 use Rattle.meaning.specs.Drawing.{Setting}
 use Rattle.meaning.specs.Reader.{Step, next, halt, refuse, How, readAll, stopped, halted, refusedBy, isRefused, Run, still, after, follow, readFrom}
-use Rattle.meaning.specs.Sessions.{Reading, opened, payloadStep, End, Phase, start, introduced, header, within, afterEscape, over, HeaderByte, goesOn, settles, wrong, headerByte, startStep, introducedStep, headerStep, endStep, withinStep, escapeStep, dcsStep}
+use Rattle.meaning.specs.Sessions.{Reading, opened, settled, payloadStep, End, Phase, start, introduced, header, within, afterEscape, over, HeaderByte, goesOn, settles, wrong, headerByte, startStep, introducedStep, headerStep, endStep, withinStep, escapeStep, dcsStep}
 use Rattle.meaning.specs.OneShot.{Found, found, missing, headerFrom, findPayload}
 use Rattle.meaning.specs.Sequence.{Introducer, c1, escaped, afterFirstEscape, sequencePayload, inPayload, readEnd, framed, howWithout}
-use Rattle.meaning.specs.Calls.{dcsEnd}
+use Rattle.meaning.specs.Calls.{dcsEnd, drawingSettled}
 use Rattle.meaning.proofs.RunLaws.{after-zero, after-after, read-as}
 use Rattle.meaning.proofs.CallLaws.{drop-one-more}
 use Rattle.meaning.proofs.AreaLaws.{cond-case, Before}
@@ -213,6 +213,16 @@ kept-over t (within r) h q = cc
 kept-over t (afterEscape r) h q = cc
 kept-over t (over f r) h q = cc
 
+-- and the drawing is that reading's
+kept-settled : (s : Setting) (t : Reading) (u : Phase) → Kept t u → drawingSettled s u ≡ some (settled s t .drawing)
+unfolding drawingSettled
+kept-settled s t start h = absurd h
+kept-settled s t introduced h = absurd h
+kept-settled s t (header bs) h = absurd h
+kept-settled s t (within r) h = ap (λ (x : Reading). some (settled s x .drawing)) h
+kept-settled s t (afterEscape r) h = ap (λ (x : Reading). some (settled s x .drawing)) h
+kept-settled s t (over e r) h = ap (λ (x : Reading). some (settled s x .drawing)) h
+
 -- an end is not none
 pub no-end : {e : End} → none ≡ some e → ⊥
 no-end z = let never : _≡_ {A = ℕ} 0 1 = cc in omega arith
@@ -264,6 +274,19 @@ module _ (s : Setting) (p : Palette) (q : Run Reading) (bs : List ℕ) where
       go stopped z = absurd (no-end z)
       go halted z = (refl, kept-over (q .state) _ (end-closes s p (q .state) (drop (q .consumed) bs) .kept) z)
       go (refusedBy m) z = absurd (no-end z)
+
+  -- where it is not refused, its drawing is the payload's, with the pending command carried out
+  pub framed-settled : isRefused (framed s p q bs .how) ≡ false
+      → (isRefused (q .how) ≡ false) × (drawingSettled s (framed s p q bs .state) ≡ some (settled s (q .state) .drawing))
+  unfolding framed inPayload ranTo after isRefused drawingSettled
+  framed-settled = go (q .how)
+    where
+      go : (h : How) → isRefused (framed s p (ranTo h) bs .how) ≡ false
+          → (isRefused h ≡ false) × (drawingSettled s (framed s p (ranTo h) bs .state) ≡ some (settled s (q .state) .drawing))
+      go readAll fine = (refl, refl)
+      go stopped fine = (refl, refl)
+      go halted fine = (refl, kept-settled s (q .state) (readEnd s p (q .state) (drop (q .consumed) bs) .state) (end-closes s p (q .state) (drop (q .consumed) bs) .kept))
+      go (refusedBy n) fine = absurd (true≢false fine)
 
   -- the ink is the payload's
   pub framed-ink : framed s p q bs .ink ≡ q .ink

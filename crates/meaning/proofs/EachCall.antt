@@ -20,7 +20,7 @@ use Rattle.meaning.proofs.PayloadLaws.{outcome-settled, readPayload, re
 use Rattle.meaning.proofs.Demand3.{payload-rests, payload-halts, payload-caps, dcs-rests, dcs-halts, dcs-caps, payload-whole, payload-outcome, payload-all-ink, payload-consumed}
 
 -- before the payload there is no drawing
-no-drawing : (t : Phase) → Before t → drawingOf t ≡ none
+pub no-drawing : (t : Phase) → Before t → drawingOf t ≡ none
 unfolding drawingOf
 no-drawing start h = refl
 no-drawing introduced h = refl

@@ -140,7 +140,7 @@ inked-none y (halt u) e = tt
 inked-none y (refuse u n) e = tt
 
 -- after the begun command was carried out a byte goes on as it would have before
-wentOn-rested : (s : Setting) (r : Reading) (c k : Scanned) (out : Outcome) → k .begun ≡ c .begun
+pub wentOn-rested : (s : Setting) (r : Reading) (c k : Scanned) (out : Outcome) → k .begun ≡ c .begun
     → wentOn (rested s r) k out ≡ wentOn r c out
 unfolding wentOn rested
 wentOn-rested s r c k out e = ap₂ went e (ap inkOfAll (settled-strokes s r))
@@ -250,7 +250,7 @@ abbrev pub Halts : {S : Type 0} → (S → Type 0) → Step S → Type 0
 Halts H = OnStep (λ u i. Unit {0}) H (λ u n. Unit {0})
 
 -- a byte that goes on does not halt
-wentOn-halts : (H : Reading → Type 0) (r : Reading) (c : Scanned) (out : Outcome) → Halts H (wentOn r c out)
+pub wentOn-halts : (H : Reading → Type 0) (r : Reading) (c : Scanned) (out : Outcome) → Halts H (wentOn r c out)
 unfolding wentOn
 wentOn-halts H r c out = option-case (Halts H) (out .refusal) (λ _. tt) (λ n _. tt)
 

@@ -16,5 +16,6 @@ pub mod DcsParts
 pub mod DcsLaws
 pub mod Demand3
 pub mod EachCall
+pub mod DcsSoFar
 pub mod Trials
 pub mod Examples

@@ -9,9 +9,9 @@ use borrow.Author.Tests.{le-leb}
 use lib.Dec.{leb}
 use lib.ListN.{length, take, drop, take-append-drop}
 use lib.Seq.{take-at, drop-length}
-use Rattle.meaning.specs.Reader.{Step, next, How, readAll, stopped, halted, refusedBy, isRefused, isOngoing, Run, still, after, continued, follow, readFrom, thenRead, call, Turn, pieceOf, allowanceOf, stream, Caller, ready, having, turn, turns, proper, RestLaw, HaltLaw, CapLaw}
-use Rattle.meaning.proofs.RunLaws.{read-append, read-all}
-use Rattle.meaning.proofs.CallLaws.{called, StoppedAt, call-plain, call-reads, call-stopped-at}
+use Rattle.meaning.specs.Reader.{Step, next, halt, refuse, How, readAll, stopped, halted, refusedBy, isRefused, isOngoing, Run, still, after, continued, follow, readFrom, thenRead, call, Turn, pieceOf, allowanceOf, stream, Caller, ready, having, turn, turns, proper, RestLaw, HaltLaw, CapLaw}
+use Rattle.meaning.proofs.RunLaws.{read-append, read-as, read-all}
+use Rattle.meaning.proofs.CallLaws.{take-one-more, called, StoppedAt, call-plain, call-reads, call-stopped-at}
 use Rattle.meaning.proofs.CallerLaws.{not-refused, proper-parts}
 use Rattle.meaning.proofs.HistoryLaws.{StaysHalted, halts-again}
 
@@ -191,3 +191,37 @@ module _ {S : Type 0} (step : S → ℕ → Step S) (rest : S → S) (rest-law :
   pub caller-so-far : (ts : List Turn) → proper step rest A (ready s) ts ≡ true → isOngoing (turns step rest (ready s) ts .how) ≡ true
       → SoFar step rest s (stream ts) (turns step rest (ready s) ts)
   caller-so-far ts = turns-so-far [] (ready s) ts (ready-so-far step rest s)
+
+-- ---- reading that came to an end
+
+-- before the byte at which a run ended it had read all, as many bytes and as much ink
+pub record HaltedAt {S : Type 0} (step : S → ℕ → Step S) (s : S) (xs : List ℕ) (r : Run S) : Type 0 where
+  pub last : S
+  pub byte : ℕ
+  pub before : readFrom step s (take (r .consumed) xs) ≡ record { state = last; consumed = r .consumed; ink = r .ink; how = readAll }
+  pub halts : step last byte ≡ halt (r .state)
+
+pub halted-at : {S : Type 0} (step : S → ℕ → Step S) (s : S) (xs : List ℕ) → readFrom step s xs .how ≡ halted
+    → HaltedAt step s xs (readFrom step s xs)
+unfolding readFrom still after follow
+halted-at step s [] e = absurd (let never : _≡_ {A = ℕ} 0 1 = cc in omega arith)
+halted-at {S} step s (b ∷ bs) e = go (step s b) refl (λ t. halted-at step t bs) e
+  where
+    on : S → ℕ → Run S
+    on t i = after 1 i (readFrom step t bs)
+
+    go : (x : Step S) → step s b ≡ x → ((t : S) → readFrom step t bs .how ≡ halted → HaltedAt step t bs (readFrom step t bs))
+        → follow x on .how ≡ halted → HaltedAt step s (b ∷ bs) (follow x on)
+    go (next t i) q later e =
+        let h : HaltedAt step t bs (readFrom step t bs) = later t e in
+        record {
+          last = h .last;
+          byte = h .byte;
+          before =
+              ap (readFrom step s) (take-one-more (readFrom step t bs .consumed) b bs)
+              ∙ read-as step s b (take (readFrom step t bs .consumed) bs) q
+              ∙ ap (after 1 i) (h .before);
+          halts = h .halts;
+        }
+    go (halt t) q later e = record { last = s; byte = b; before = refl; halts = q }
+    go (refuse t n) q later e = absurd (let never : _≡_ {A = ℕ} 0 1 = cc in omega arith)

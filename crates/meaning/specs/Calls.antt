@@ -167,6 +167,15 @@ drawingAtFinish s (within r) = some (r .drawing)
 drawingAtFinish s (afterEscape r) = some (r .drawing)
 drawingAtFinish s (over e r) = some (settled s r .drawing)
 
+-- the drawing of a DCS sequence with its pending command carried out, wherever it stands
+unfoldable pub drawingSettled : Setting → Phase → Option Drawing
+drawingSettled s start = none
+drawingSettled s introduced = none
+drawingSettled s (header bs) = none
+drawingSettled s (within r) = some (settled s r .drawing)
+drawingSettled s (afterEscape r) = some (settled s r .drawing)
+drawingSettled s (over e r) = some (settled s r .drawing)
+
 -- After an opening and after every call the canvas shows the drawing of the session's state; a payload session opens with the blank drawing,
 -- which is pixel (0,0) in the background, and a DCS session has none before `q`.
 -- After a call that read all its bytes the pending command is not yet carried out; after a stop or an end it is.
