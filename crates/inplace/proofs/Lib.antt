@@ -1,4 +1,5 @@
 pub mod Feeding
+pub mod Passed
 pub mod Lent
 pub mod Placed
 pub mod Sessions

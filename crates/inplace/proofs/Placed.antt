@@ -20,7 +20,7 @@ use types.SemTy.{Body}
 use types.Tokens.{lft-new, lft-end}
 use sound.WpLaws.{FmC, fmOf, WpFn-mono}
 use denote.RattleType.{Denots, owns}
-use denote.Memory.{mem, cellAt, partAt, partOf, pointee}
+use denote.Memory.{mem, cellAt, partOf, pointee}
 use denote.Laws.{Is, shows}
 use denote.Lend.{lends-ref, ref-back}
 use denote.Plain.{uint-vals, uint-tells}
@@ -38,10 +38,12 @@ use denote.Triple.Spec.{Meets}
 use denote.Triple.Statement.{Triple}
 use denote.Triple.Call.{calls-at}
 use denote.Triple.Clauses.{Lasts, ensured, lasts, closing}
+use denote.Triple.Weaken.{weaken}
 use denote.Triple.Walked.{says, Stays, stay-none, stay-none-slice, gave-slice, walkOf, goes-none, goes-none-slice, goes-gave-slice, ends-at, walked, walk-meets}
 use denote.Exit.{yes}
 use denote.Signature.{plain}
-use Rattle.inplace.proofs.Feeding.{Feeding, Session, Answer, Returned, fed-type, session-ty, answer-ty, fed-ty, session-val, answer-val, fed-laws, fed-plain, by-value, in-place, said-by-value, said-in-place, InPlace, session-last, session-silent, Passed, canvas-val, bytes-val, passed-rows, passed, passed-vals, bytes-own, Tokens, keeps-bytes, exit-own, at-exit}
+use Rattle.inplace.proofs.Feeding.{Feeding, Session, Answer, Returned, fed-type, session-ty, answer-ty, fed-ty, session-val, answer-val, fed-laws, fed-plain, by-value, in-place, said-by-value, said-in-place, InPlace, session-last, session-silent, Promise, Follows, promising}
+use Rattle.inplace.proofs.Passed.{Passed, canvas-val, bytes-val, passed-rows, passed, passed-vals, bytes-own, Tokens, keeps-bytes, exit-own, at-exit}
 
 -- the code, which calls the feed over the lent session by the name k
 abbrev pub function : Feeding → Name → Fn
@@ -177,11 +179,13 @@ module _ (f : Feeding) {M : Type 1} (𝓤 : URA M) (H : Heap 𝓤) (A : Atoms �
         move ! (14 ∷ 15 ∷ []) $ free1 ! $ move ! (12 ∷ 13 ∷ []) $ free1 ! $ move ! (10 ∷ 11 ∷ []) $ free1 ! $ move ! (8 ∷ 9 ∷ []) $ free1 ! $ move ! (6 ∷ 7 ∷ []) $ free1 ! $ free0 ! $
         keep ! (1 ∷ 3 ∷ 5 ∷ []) $ by ! (exits a (zs .0) (zs .1 .0) e l (known-answer f a w is) is-s)))))))))))))))))))))
 
--- so the code does what the feed by value says, where the feed over the lent session does what it says
+-- so the code keeps what the feed by value says, and each promise that follows from it, where the feed over the lent session keeps what it says
 pub meets : (f : Feeding) (k : Name) {M : Type 1} (𝓤 : URA M) (H : Heap 𝓤) (A : Atoms 𝓤) → Given 𝓤 H A → (𝓣 : Tables 𝓤 H) → Triple 𝓤 (𝓣 .C k) (InPlace f 𝓤 H A)
-    → Meets 𝓤 H A (by-value f .signature) (WpFn 𝓤 H (𝓣 .C) (𝓣 .Λ) (function f k)) (closing 𝓤 H A (by-value f) (said-by-value f 𝓤))
-meets f k 𝓤 H A W 𝓣 known =
-    walk-meets 𝓤 H A (by-value f) (stayed f) W
+    → (E : Promise 𝓤 (by-value f) (said-by-value f 𝓤)) → Follows 𝓤 (by-value f) (said-by-value f 𝓤) E
+    → Meets 𝓤 H A (by-value f .signature) (WpFn 𝓤 H (𝓣 .C) (𝓣 .Λ) (function f k)) (closing 𝓤 H A (by-value f) (promising 𝓤 (by-value f) (said-by-value f 𝓤) E))
+meets f k 𝓤 H A W 𝓣 known E shows =
+    weaken 𝓤 H A (by-value f) W (said-by-value f 𝓤) E shows (WpFn 𝓤 H (𝓣 .C) (𝓣 .Λ) (function f k)) (WpFn-mono 𝓤 H (W .laws) 𝓣 (function f k))
+    (walk-meets 𝓤 H A (by-value f) (stayed f) W
     (goes-none 𝓤 H A W 2 (λ _. Session f) yes (λ κs s w. session-silent f s w), (goes-gave-slice 𝓤 H A W 2 0 tt (plain (λ _. u8)), (goes-none-slice 𝓤 H A W 2 (1 ∷ []) tt (plain (λ _. u8)) yes, (goes-none 𝓤 H A W 2 (λ _. usize) yes (λ κs x w. refl), tt))))
     (said-by-value f 𝓤) (WpFn 𝓤 H (𝓣 .C) (𝓣 .Λ) (function f k)) (WpFn-mono 𝓤 H (W .laws) 𝓣 (function f k))
     (walked 𝓤 H A (by-value f) (stayed f) (said-by-value f 𝓤) (WpFn 𝓤 H (𝓣 .C) (𝓣 .Λ) (function f k))
@@ -199,4 +203,4 @@ meets f k 𝓤 H A W 𝓣 known =
       canvas-room = are .1 .0 .0 .1;
       bytes-room = are .1 .1 .0 .0 .1;
       fits = are .1 .1 .1 .0 .1;
-    }) k (𝓣 .C) (𝓣 .Λ) (fmOf 𝓤 H (W .laws) 𝓣) known)))
+    }) k (𝓣 .C) (𝓣 .Λ) (fmOf 𝓤 H (W .laws) 𝓣) known))))
