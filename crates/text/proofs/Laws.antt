@@ -1,6 +1,6 @@
 -- Laws of writing at a cursor, and of decimal digits.
 -- Assumes nothing.
-use mathlib.Core.Path.{_≡_, refl, sym, ap, _∙_}
+use mathlib.Core.Path.{_≡_, refl, sym, ap, ap₂, _∙_}
 use mathlib.Core.List.{List, [], _∷_, _++_}
 use mathlib.Core.Bool.{Bool, true, false, cond}
 use Prim.Native.Nat.{ℕ, zero, suc, _+_, _*_, _/_, _%_, _^_, _<_, _≤_}
@@ -8,8 +8,8 @@ use native.Mathlib.Nat.{pow-suc}
 use native.Mathlib.Numerals.{add-one}
 use native.Mathlib.Omega.{arith}
 use lib.Dec.{ltb}
-use lib.ListN.{length, drop, getD, set, drop-of-length-le}
-use lib.Seq.{drop-cons}
+use lib.ListN.{length, take, drop, getD, set, length-set, drop-of-length-le}
+use lib.Seq.{drop-cons, sets, sets-eq}
 use borrow.Author.Tests.{lt-ltb, le-ltb, ltb-false}
 use Rattle.text.specs.Text.{putByte, put, digits, decimal, hexDigit, hex}
 
@@ -29,12 +29,33 @@ unfolding put
 put-append [] ys there = refl
 put-append (x ∷ xs) ys there = put-append xs ys (putByte x there)
 
+put-sets : (xs : List ℕ) (at : ℕ) (out : List ℕ) → at + length xs ≤ length out → put xs (at, out) ≡ (at + length xs, sets out at xs)
+unfolding put
+put-sets [] at out h = let same : at ≡ at + 0 = omega arith in ap (λ (n : ℕ). (n, out)) same
+put-sets (x ∷ xs) at out h =
+    let here : at < length out = omega arith in
+    let more : at + 1 + length xs ≤ length (set out at x) = simp length-set (omega arith) in
+    let count : at + 1 + length xs ≡ at + suc (length xs) = omega arith in
+    ap (put xs) (sym (room x at out here)) ∙ put-sets xs (at + 1) (set out at x) more
+    ∙ ap₂ (λ (n m : ℕ). (n, sets (set out at x) m xs)) count (add-one at)
+
+-- where there is room for all of a text, its bytes stand from the cursor on, and the cursor stands after them
+pub put-room : (xs : List ℕ) (at : ℕ) (out : List ℕ) → at + length xs ≤ length out
+    → put xs (at, out) ≡ (at + length xs, take at out ++ xs ++ drop (at + length xs) out)
+put-room xs at out h = put-sets xs at out h ∙ ap (λ (l : List ℕ). (at + length xs, l)) (sets-eq xs out at h)
+
 -- one byte is a text
 pub put-one : (byte : ℕ) (before : ℕ × List ℕ) {after : ℕ × List ℕ} → after ≡ putByte byte before → after ≡ put (byte ∷ []) before
 unfolding put
 put-one byte before e = e
 
--- text after text
+-- a byte, then text
+pub put-next : (byte : ℕ) (rest : List ℕ) (before : ℕ × List ℕ) {between after : ℕ × List ℕ} → between ≡ putByte byte before
+    → after ≡ put rest between → after ≡ put (byte ∷ rest) before
+unfolding put
+put-next byte rest before e f = f ∙ ap (put rest) e
+
+-- text, then text
 pub put-then : (xs ys : List ℕ) (before : ℕ × List ℕ) {between after : ℕ × List ℕ} → between ≡ put xs before → after ≡ put ys between
     → after ≡ put (xs ++ ys) before
 put-then xs ys before e f = f ∙ ap (put ys) e ∙ sym (put-append xs ys before)
