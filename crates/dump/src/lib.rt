@@ -1,4 +1,6 @@
 // What the program `sixdump` prints of a sequence, written into a lent buffer: a picture's fields and its rows, or a refusal.
+pub mod outcome;
+
 ghost use mathlib.Core.Path.{_≡_};
 ghost use Prim.Native.Nat.{_+_, _*_, _<_, _≤_};
 ghost use lib.ListN.{length};
