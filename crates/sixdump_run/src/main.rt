@@ -133,6 +133,9 @@ fn ends(canvas: &mut [u8]) {
         canvas,
     );
     try_input(b"interrupted by 85\n", b"\x90q~\x85", canvas);
+}
+
+fn late_and_early(canvas: &mut [u8]) {
     try_input(b"bytes after the end\n", b"\x1bPq~\x1b\\more", canvas);
     try_input(b"an early end\n", b"\x1bPq~", canvas);
     try_input(b"an early end after 1B\n", b"\x1bPq~\x1b", canvas);
@@ -192,6 +195,7 @@ fn small() {
 fn main() {
     let mut canvas = canvas_room();
     ends(&mut canvas);
+    late_and_early(&mut canvas);
     fields(&mut canvas);
     bands(&mut canvas);
     refusals(&mut canvas);

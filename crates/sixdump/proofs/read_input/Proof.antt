@@ -1,50 +1,42 @@
+-- `sixdump::read_input` is safe and ends. The measure is the number of turns that are left. Assumes nothing.
+use mathlib.Core.Path.{_≡_, refl, _∙_}
+use native.Mathlib.Omega.{arith}
+use lib.ListN.{length}
 use Rattle.sixdump.proofs.read_input.Statement.{statement}
 use Rattle.sixdump.proofs.read_input.Tie as tie
-use Rattle.sixdump.proofs.read_input.Reads as reads
-use Rattle.sixdump.proofs.read_input.Lts as lts
-use Rattle.sixdump.proofs.next_piece.Reads as next-piece-reads
 
 abbrev Inv-loop : tie.InvT-loop
-Inv-loop canvas₀ reader₀ turns₀ canvas reader turns = ?
+Inv-loop canvas₀ reader₀ turns₀ canvas reader turns = length canvas ≡ length canvas₀
 
 abbrev μ-loop : tie.MeasureT-loop
-μ-loop canvas₀ reader₀ turns₀ canvas reader turns = ?
+μ-loop canvas₀ reader₀ turns₀ canvas reader turns = turns
 
--- src/main.rt:70:5
 loop-holds : tie.Need-loop-holds Inv-loop μ-loop
-loop-holds c = ?
+loop-holds c = refl
 
--- src/main.rt:71:13
 next-piece-requires : tie.Need-next-piece-requires Inv-loop μ-loop
-next-piece-requires c κs = ?
+next-piece-requires c κs = tt
 
--- src/main.rt:74:13
 same-length : tie.Need-same-length Inv-loop μ-loop
-same-length c = ?
+same-length c = c .before .before .before .before .before .next-piece .kept .1 .0 ∙ c .before .before .before .before .before .before .before .before .loop .inv
 
--- src/main.rt:74:13
 returns : tie.Need-returns Inv-loop μ-loop
-returns c = ?
+returns c = tt
 
--- src/main.rt:76:9
 sub-turns : tie.Need-sub-turns Inv-loop μ-loop
-sub-turns c = ?
+sub-turns c = omega (arith, c .before .before .before .before .before .before .before .loop-test .taken)
 
--- src/main.rt:70:5
 loop-less : tie.Need-loop-less Inv-loop μ-loop
-loop-less c = ?
+loop-less c = omega (arith, c .before .before .before .before .before .before .before .loop-test .taken)
 
--- src/main.rt:70:5
 loop-again : tie.Need-loop-again Inv-loop μ-loop
-loop-again c = ?
+loop-again c = c .before .before .before .before .before .next-piece .kept .1 .0 ∙ c .before .before .before .before .before .before .before .before .loop .inv
 
--- src/main.rt:67:1
 same-length-2 : tie.Need-same-length-2 Inv-loop μ-loop
-same-length-2 c = ?
+same-length-2 c = c .before .loop .inv
 
--- src/main.rt:67:1
 returns-2 : tie.Need-returns-2 Inv-loop μ-loop
-returns-2 c = ?
+returns-2 c = tt
 
 pub read-input-spec : {M : Type 1} → statement M
 read-input-spec =
