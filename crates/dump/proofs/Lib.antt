@@ -1,0 +1,3 @@
+pub mod LineLaws
+pub mod OutcomeLaws
+pub mod RowLaws

@@ -1,0 +1,151 @@
+-- Laws of opening a reader, of one call and of the finish: one for each way through a function.
+use Prim.Native.Nat.{ℕ, _+_, _-_, _*_, _≤_, _<_, min}
+use mathlib.Core.Bool.{Bool, true, false, cond}
+use mathlib.Core.List.{List, [], _∷_}
+use mathlib.Core.Path.{_≡_, refl, sym, ap, ap₂, _∙_}
+use native.Mathlib.Omega.{arith}
+use denote.Enum.Declared.{tagOf}
+use types.Run.{OneOf, miss}
+use Rattle.colours.specs.declared.Palette.{Palette}
+use Rattle.frame.specs.declared.Limits.{Limits}
+use Rattle.frame.specs.declared.Refusal.{Refusal}
+use Rattle.frame.specs.declared.Refusal.the-variants as refusals
+use Rattle.meaning.specs.Calls.{ranges, limitsHold, opens, settingFor}
+use Rattle.agreement.proofs.Finish.{opens-bounded}
+use Rattle.payload.specs.declared.Finished.{Finished}
+use Rattle.payload.specs.declared.Finishing.the-variants as finishes
+use Rattle.payload.specs.declared.Opened as payloadOpened
+use Rattle.payload.specs.declared.Opening.{Opening}
+use Rattle.payload.specs.declared.Opening.the-variants as openings
+use Rattle.payload.specs.declared.Life.the-variants as lives
+use Rattle.payload.specs.Begin.{noSettings, reservedBy}
+use Rattle.payload.specs.History.{limitsMeant}
+use Rattle.payload.specs.Judge.{inRange, limitsFit, openable}
+use Rattle.payload.specs.Session.{sessionFor, turnedAway}
+use Rattle.dcs.specs.declared.Answer.{Answer}
+use Rattle.dcs.specs.declared.Answer.the-variants as answers
+use Rattle.dcs.specs.declared.Ending.{Ending}
+use Rattle.dcs.specs.declared.Fed.{Fed}
+use Rattle.dcs.specs.declared.Opened.{Opened}
+use Rattle.dcs.specs.declared.Session.{Session}
+use Rattle.dcs.specs.Session as dcs
+use Rattle.pieces.specs.declared.Called.{Called}
+use Rattle.pieces.specs.declared.Counts.{Counts}
+use Rattle.pieces.specs.declared.Reader.{Reader}
+use Rattle.pieces.specs.declared.Standing.{Standing}
+use Rattle.pieces.specs.declared.Standing.the-variants as standings
+use Rattle.pieces.specs.Pieces.{beganAs, openedAs, openedBy, heldSum, countedAs, afterCall, calledAs, calledBy, finishedAs, finishedBy}
+use Rattle.pieces.proofs.Standing as StandingType
+
+-- ---- counts
+
+pub counted-as : {x y z : ℕ} (c : Counts) (consumed ink : ℕ) → x ≡ heldSum (c .consumed) consumed → y ≡ heldSum (c .ink) ink → z ≡ heldSum (c .calls) 1
+    → _≡_ {A = Counts} (record { consumed = x; ink = y; calls = z }) (countedAs c consumed ink)
+unfolding countedAs
+counted-as c consumed ink x y z = rw (x, y, z) refl
+
+pub after-as : {k : Counts} (r : Reader) (s : Session) (t : Standing) (consumed ink : ℕ) → k ≡ countedAs (r .counts) consumed ink
+    → _≡_ {A = Reader} (record { session = s; standing = t; allowance = r .allowance; counts = k }) (afterCall r s t consumed ink)
+unfolding afterCall
+after-as r s t consumed ink e = ap (λ (k : Counts). record { session = s; standing = t; allowance = r .allowance; counts = k }) e
+
+-- ---- opening
+
+pub began-as : (s : Session) (t : Standing) (a : ℕ)
+    → _≡_ {A = Reader} (record { session = s; standing = t; allowance = a; counts = record { consumed = 0; ink = 0; calls = 0 } }) (beganAs s t a)
+unfolding beganAs
+began-as s t a = refl
+
+-- an opening that succeeds has its numbers in their ranges
+pub opening-ready : (l : Limits) (stride : ℕ) (p : Palette) (size : ℕ) → dcs.openedBy l stride p size .answer ≡ openings.Ready → openable l stride size ≡ true
+unfolding dcs.openedBy reservedBy
+opening-ready l stride p size = go (openable l stride size)
+  where
+    ready : payloadOpened.Opened
+    ready = record { answer = openings.Ready; session = sessionFor l stride size noSettings p lives.Live }
+
+    refused : payloadOpened.Opened
+    refused = record { answer = openings.Refused refusals.Opening; session = sessionFor l stride size noSettings p lives.Failed }
+
+    go : (t : Bool) → cond t ready refused .answer ≡ openings.Ready → t ≡ true
+    go true e = refl
+    go false e = let never : _≡_ {A = ℕ} 0 1 = cc in absurd (omega arith)
+
+pub openable-width : (l : Limits) (stride size : ℕ) → openable l stride size ≡ true → l .width ≤ 1000000
+unfolding openable limitsFit inRange opens limitsHold ranges limitsMeant settingFor
+openable-width l stride size e = opens-bounded (limitsMeant l) stride size e .width
+
+module _ {o : Opened} (l : Limits) (stride : ℕ) (p : Palette) (size : ℕ) (e : o ≡ dcs.openedBy l stride p size) where
+  pub ready-width : o .answer ≡ openings.Ready → l .width ≤ 1000000
+  ready-width k = openable-width l stride size (opening-ready l stride p size (sym (ap (λ (x : Opened). x .answer) e) ∙ k))
+
+  opens-as : {a : Opening} {r : Reader} → o .answer ≡ a → r ≡ openedAs a (o .session) (l .width) → r ≡ openedBy l stride p size
+  unfolding openedBy
+  opens-as k h =
+      h
+      ∙ ap (λ (a : Opening). openedAs a (o .session) (l .width)) (sym k)
+      ∙ ap (λ (x : Opened). openedAs (x .answer) (x .session) (l .width)) e
+
+  pub opens-ready : {r : Reader} → o .answer ≡ openings.Ready → r ≡ beganAs (o .session) standings.Reading (6 * l .width) → r ≡ openedBy l stride p size
+  unfolding openedAs
+  opens-ready k h = opens-as k h
+
+  pub opens-refused : {n : Refusal} {r : Reader} → o .answer ≡ openings.Refused n → r ≡ beganAs (o .session) (standings.Refused n) 0 → r ≡ openedBy l stride p size
+  unfolding openedAs
+  opens-refused k h = opens-as k h
+
+pub ruleset openings-laws = (opens-ready, opens-refused)
+
+-- ---- one call
+
+module _ (r : Reader) (canvas bytes : List ℕ) {f : Fed} {after : List ℕ} (fed : (f, after) ≡ dcs.fedBy (r .session) canvas bytes (r .allowance)) where
+  calls : {a : Answer} {c : Called} → f .answer ≡ a → c ≡ calledAs a (f .session) r → (c, after) ≡ calledBy r canvas bytes
+  unfolding calledBy
+  calls e h =
+      ap (λ (c : Called). (c, after)) (h ∙ ap (λ (a : Answer). calledAs a (f .session) r) (sym e))
+      ∙ ap (λ (x : Fed × List ℕ). (calledAs (x .0 .answer) (x .0 .session) r, x .1)) fed
+
+  module _ {k : Reader} {c : Called} where
+    pub calls-more : {n i : ℕ} → f .answer ≡ answers.More n i → k ≡ afterCall r (f .session) standings.Reading n i → c ≡ record { reader = k; stopped = 0 }
+        → (c, after) ≡ calledBy r canvas bytes
+    unfolding calledAs
+    calls-more e h g = calls e (g ∙ ap (λ (k : Reader). record { reader = k; stopped = 0 }) h)
+
+    pub calls-stopped : {n i : ℕ} → f .answer ≡ answers.Stopped n i → k ≡ afterCall r (f .session) standings.Reading n i → c ≡ record { reader = k; stopped = n }
+        → (c, after) ≡ calledBy r canvas bytes
+    unfolding calledAs
+    calls-stopped {n} e h g = calls e (g ∙ ap (λ (k : Reader). record { reader = k; stopped = n }) h)
+
+    pub calls-ended : {n i : ℕ} {d : Ending} → f .answer ≡ answers.Ended n i d → k ≡ afterCall r (f .session) (standings.Ended d) n i → c ≡ record { reader = k; stopped = 0 }
+        → (c, after) ≡ calledBy r canvas bytes
+    unfolding calledAs
+    calls-ended e h g = calls e (g ∙ ap (λ (k : Reader). record { reader = k; stopped = 0 }) h)
+
+    pub calls-refused : {n : Refusal} → f .answer ≡ answers.Refused n → k ≡ afterCall r (f .session) (standings.Refused n) 0 0 → c ≡ record { reader = k; stopped = 0 }
+        → (c, after) ≡ calledBy r canvas bytes
+    unfolding calledAs
+    calls-refused e h g = calls e (g ∙ ap (λ (k : Reader). record { reader = k; stopped = 0 }) h)
+
+pub ruleset calls-laws = (calls-more, calls-stopped, calls-ended, calls-refused)
+
+-- ---- finishing
+
+not-refused : (r : Reader) (owner : Palette) (canvas : List ℕ) (t : Standing) → OneOf (0 ∷ 1 ∷ []) (tagOf StandingType.the-type t)
+    → dcs.finishedBy (r .session) owner canvas ≡ finishedAs t r owner canvas
+unfolding finishedAs
+not-refused r owner canvas standings.Reading h = refl
+not-refused r owner canvas (standings.Ended e) h = refl
+not-refused r owner canvas (standings.Refused n) h = absurd (miss (0 ∷ 1 ∷ []) 2 tt h)
+
+module _ (r : Reader) (owner : Palette) (canvas : List ℕ) where
+  pub finish-refused : {n : Refusal} → r .standing ≡ standings.Refused n
+      → _≡_ {A = Finished × List ℕ} (record { answer = finishes.Refused n; palette = owner }, canvas) (finishedBy r owner canvas)
+  unfolding finishedBy finishedAs turnedAway
+  finish-refused e = ap (λ (t : Standing). finishedAs t r owner canvas) (sym e)
+
+  pub finish-plain : {x : Finished} {after : List ℕ} → OneOf (0 ∷ 1 ∷ []) (tagOf StandingType.the-type (r .standing))
+      → (x, after) ≡ dcs.finishedBy (r .session) owner canvas → (x, after) ≡ finishedBy r owner canvas
+  unfolding finishedBy
+  finish-plain k h = h ∙ not-refused r owner canvas (r .standing) k
+
+pub ruleset finishings = (finish-refused, finish-plain)
