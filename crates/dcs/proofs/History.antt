@@ -77,7 +77,7 @@ module _ (l : Limits) (stride : ℕ) (p : Palette) (opening : List ℕ) (opens :
     abbrev pub canvas : List ℕ
     canvas = now .state .1
 
-    roomy : 6 * setting .limits .width ≤ A
+    pub roomy : 6 * setting .limits .width ≤ A
     unfolding settingMeant limitsMeant calls.settingFor
     roomy = enough
 
@@ -88,7 +88,7 @@ module _ (l : Limits) (stride : ℕ) (p : Palette) (opening : List ℕ) (opens :
     pub stood : CallerStands l stride p opening now there
     stood = calls-stand l stride p opening A roomy start-stands ts ok .0
 
-    proper-there : calls.properDcs setting p A ts ≡ true
+    pub proper-there : calls.properDcs setting p A ts ≡ true
     proper-there = calls-stand l stride p opening A roomy start-stands ts ok .1
 
     -- what the answers told is what the definition's caller came to

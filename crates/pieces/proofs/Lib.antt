@@ -1,2 +1,6 @@
 pub mod ReaderLaws
 pub mod TakeLaws
+pub mod Progress
+pub mod Turns
+pub mod Taking
+pub mod Promise

@@ -1,0 +1,306 @@
+-- A reader that takes pieces is a caller of document 01: it makes calls with the smallest allowance, presents what was left unread next, and adds up
+-- what the answers told.
+use Prim.Native.Nat.{ℕ, zero, suc, _+_, _*_, _≤_, _<_, min}
+use native.Mathlib.Omega.{arith}
+use mathlib.Core.Bool.{Bool, true, false, _&&_}
+use mathlib.Core.Option.{some}
+use mathlib.Core.List.{List, [], _∷_, _++_, append-nil, append-assoc}
+use mathlib.Core.Path.{_≡_, refl, sym, ap, _∙_, subst}
+use borrow.Author.Tests.{le-leb, eqb-true, eqb-false}
+use lib.Dec.{leb, eqb}
+use lib.ListN.{length, drop, length-drop}
+use Rattle.canvas.proofs.Covers.{and-both}
+use Rattle.meaning.proofs.Cases.{both}
+use Rattle.colours.specs.declared.Palette.{Palette}
+use Rattle.frame.specs.declared.Limits.{Limits}
+use Rattle.frame.specs.Numbers.{numberOf}
+use Rattle.meaning.specs.Calls as calls
+use Rattle.meaning.specs.Drawing.{Setting}
+use Rattle.meaning.specs.Reader.{Step, How, readAll, stopped, halted, refusedBy, Turn, fresh, again, pieceOf, allowanceOf, stream, pieces, Caller, mayCall, turn, turns}
+use Rattle.meaning.specs.Sessions.{Phase, dcsStep, dcsRested}
+use Rattle.payload.specs.History.{settingMeant}
+use Rattle.payload.specs.Judge.{openable}
+use Rattle.dcs.specs.declared.Answer.{Answer}
+use Rattle.dcs.specs.declared.Answer.the-variants as answers
+use Rattle.dcs.specs.declared.Ending.{Ending}
+use Rattle.dcs.specs.declared.Fed.{Fed}
+use Rattle.dcs.specs.declared.Session.{Session}
+use Rattle.dcs.specs.Session.{fedBy}
+use Rattle.dcs.specs.History.{endMeant, answerMeant, howTold, consumedTold, inkTold, Held, afterFeed, called, callsOf, properCalls}
+use Rattle.dcs.proofs.History as history
+use Rattle.pieces.specs.declared.Called.{Called}
+use Rattle.pieces.specs.declared.Reader.{Reader}
+use Rattle.pieces.specs.declared.Standing.{Standing}
+use Rattle.pieces.specs.declared.Standing.the-variants as standings
+use Rattle.pieces.specs.Pieces.{held, heldSum, countedAs, afterCall, calledAs, calledBy, takenFor}
+use Rattle.pieces.specs.Stream.{howStood}
+use Rattle.pieces.proofs.Progress.{stop-consumes, end-told}
+use Rattle.pieces.proofs.TakeLaws.{call-within, taken-last, taken-again}
+
+-- ---- lists of turns
+
+pub calls-append : (c : Caller Held) (ts us : List Turn) → callsOf c (ts ++ us) ≡ callsOf (callsOf c ts) us
+unfolding callsOf
+calls-append c [] us = refl
+calls-append c (t ∷ ts) us = calls-append (called c t) ts us
+
+pub proper-append : (A : ℕ) (c : Caller Held) (ts us : List Turn) → properCalls A c ts ≡ true → properCalls A (callsOf c ts) us ≡ true
+    → properCalls A c (ts ++ us) ≡ true
+unfolding callsOf properCalls
+proper-append A c [] us h k = k
+proper-append A c (t ∷ ts) us h k =
+    let outer = both (leb A (allowanceOf t)) _ h in
+    let inner = both (mayCall t (c .how)) _ (outer .1) in
+    and-both (outer .0) (and-both (inner .0) (proper-append A (called c t) ts us (inner .1) k))
+
+turns-append : {S : Type 0} (step : S → ℕ → Step S) (rest : S → S) (c : Caller S) (ts : List Turn) (t : Turn)
+    → turns step rest c (ts ++ t ∷ []) ≡ turn step rest (turns step rest c ts) t
+unfolding turns
+turns-append step rest c [] t = refl
+turns-append step rest c (u ∷ ts) t = turns-append step rest (turn step rest c u) ts t
+
+pub stream-append : (ts us : List Turn) → stream (ts ++ us) ≡ stream ts ++ stream us
+unfolding stream
+stream-append [] us = refl
+stream-append (t ∷ ts) us = ap (λ (bs : List ℕ). pieceOf t ++ bs) (stream-append ts us) ∙ sym (append-assoc (pieceOf t) (stream ts) (stream us))
+
+pub pieces-append : (ts us : List Turn) → pieces (ts ++ us) ≡ pieces ts + pieces us
+unfolding pieces
+pieces-append [] us = omega arith
+pieces-append (fresh z a ∷ ts) us = omega (arith, pieces-append ts us)
+pieces-append (again a ∷ ts) us = omega (arith, pieces-append ts us)
+
+length-more : (ts : List Turn) (t : Turn) → length (ts ++ t ∷ []) ≡ length ts + 1
+length-more [] t = refl
+length-more (u ∷ ts) t = omega (arith, length-more ts t)
+
+-- ---- counts
+
+held-sum : (n m k : ℕ) → n ≡ held m → heldSum n k ≡ held (m + k)
+unfolding heldSum held
+held-sum n m k e = omega arith
+
+-- ---- what an answer makes of a reader
+
+unfoldable stoodAt : Answer → Standing
+stoodAt (answers.More c i) = standings.Reading
+stoodAt (answers.Stopped c i) = standings.Reading
+stoodAt (answers.Ended c i e) = standings.Ended e
+stoodAt (answers.Refused n) = standings.Refused n
+
+answered-reader : (a : Answer) (s : Session) (r : Reader)
+    → calledAs a s r .reader ≡ afterCall r s (stoodAt a) (consumedTold (answerMeant a)) (inkTold (answerMeant a))
+unfolding calledAs stoodAt consumedTold inkTold answerMeant
+answered-reader (answers.More c i) s r = refl
+answered-reader (answers.Stopped c i) s r = refl
+answered-reader (answers.Ended c i e) s r = refl
+answered-reader (answers.Refused n) s r = refl
+
+-- a call that is a piece's last says how it came to its end; any other is a stop, after which the rest is unread
+last-how : (a : Answer) (s : Session) (r : Reader) → calledAs a s r .stopped ≡ 0 → (howTold (answerMeant a) ≡ stopped → 0 < consumedTold (answerMeant a))
+    → howTold (answerMeant a) ≡ howStood (stoodAt a)
+unfolding calledAs stoodAt howTold consumedTold answerMeant howStood
+last-how (answers.More c i) s r e pos = refl
+last-how (answers.Stopped c i) s r e pos = let more : 0 < c = pos refl in absurd (omega arith)
+last-how (answers.Ended c i d) s r e pos = refl
+last-how (answers.Refused n) s r e pos = refl
+
+stop-how : (a : Answer) (s : Session) (r : Reader) → (calledAs a s r .stopped ≡ 0 → ⊥)
+    → (howTold (answerMeant a) ≡ stopped) × (consumedTold (answerMeant a) ≡ calledAs a s r .stopped)
+unfolding calledAs howTold consumedTold answerMeant
+stop-how (answers.More c i) s r e = absurd (e refl)
+stop-how (answers.Stopped c i) s r e = (refl, refl)
+stop-how (answers.Ended c i d) s r e = absurd (e refl)
+stop-how (answers.Refused n) s r e = absurd (e refl)
+
+ended-answer : (a : Answer) {e : Ending} → stoodAt a ≡ standings.Ended e → (n : ℕ) × (i : ℕ) × (a ≡ answers.Ended n i e)
+unfolding stoodAt
+ended-answer (answers.More c i) h = absurd (let never : _≡_ {A = ℕ} 0 1 = cc in omega arith)
+ended-answer (answers.Stopped c i) h = absurd (let never : _≡_ {A = ℕ} 0 1 = cc in omega arith)
+ended-answer (answers.Ended c i d) {e} h = let same : d ≡ e = cc in (c, i, ap (answers.Ended c i) same)
+ended-answer (answers.Refused n) h = absurd (let never : _≡_ {A = ℕ} 0 1 = cc in omega arith)
+
+-- ---- a reader follows a caller
+
+module _ (l : Limits) (stride : ℕ) (p : Palette) (opening : List ℕ) (opens : openable l stride (length opening) ≡ true) where
+  -- the smallest allowance
+  abbrev pub smallest : ℕ
+  smallest = 6 * l .width
+
+  -- where the caller stands after its calls
+  abbrev pub now : List Turn → Caller Held
+  now ts = callsOf (history.opened l stride p opening opens) ts
+
+  abbrev pub setting : Setting
+  setting = settingMeant l stride (length opening)
+
+  -- the reader holds the caller's session, with the canvas as it was left, and its counts
+  pub record Keeps (ts : List Turn) (r : Reader) (lent : List ℕ) : Type 0 where
+    pub proper : properCalls smallest (history.opened l stride p opening opens) ts ≡ true
+    pub session : r .session ≡ now ts .state .0
+    pub canvas : lent ≡ now ts .state .1
+    pub allowance : r .allowance ≡ smallest
+    pub consumed : r .counts .consumed ≡ held (now ts .consumed)
+    pub ink : r .counts .ink ≡ held (now ts .ink)
+    pub calls : r .counts .calls ≡ held (length ts)
+
+  -- and it stands where the last answer said; an end is the definition's
+  pub record Follows (ts : List Turn) (r : Reader) (canvas : List ℕ) : Type 0 where
+    pub keeps : Keeps ts r canvas
+    pub how : now ts .how ≡ howStood (r .standing)
+    pub end : (e : Ending) → r .standing ≡ standings.Ended e → calls.dcsEnd (calls.dcsTurns setting p ts .state) ≡ some (endMeant e)
+
+  -- one call more
+  module _ {ts : List Turn} {r : Reader} {canvas : List ℕ} (k : Keeps ts r canvas) (t : Turn) (exact : allowanceOf t ≡ smallest)
+      (may : mayCall t (now ts .how) ≡ true) (bytes : List ℕ) (same : now ts .unread ++ pieceOf t ≡ bytes) where
+    abbrev more : List Turn
+    more = ts ++ t ∷ []
+
+    -- the code's call is the caller's
+    abbrev fed : Fed × List ℕ
+    fed = fedBy (now ts .state .0) (now ts .state .1) (now ts .unread ++ pieceOf t) (allowanceOf t)
+
+    fed-same : fedBy (r .session) canvas bytes (r .allowance) ≡ fed
+    fed-same =
+        ap (λ (s : Session). fedBy s canvas bytes (r .allowance)) (k .session)
+        ∙ ap (λ (c : List ℕ). fedBy (now ts .state .0) c bytes (r .allowance)) (k .canvas)
+        ∙ ap (λ (bs : List ℕ). fedBy (now ts .state .0) (now ts .state .1) bs (r .allowance)) (sym same)
+        ∙ ap (λ (a : ℕ). fedBy (now ts .state .0) (now ts .state .1) (now ts .unread ++ pieceOf t) a) (k .allowance ∙ sym exact)
+
+    abbrev answer : Answer
+    answer = fed .0 .answer
+
+    abbrev next : Reader
+    next = afterCall r (fed .0 .session) (stoodAt answer) (consumedTold (answerMeant answer)) (inkTold (answerMeant answer))
+
+    called-same : calledBy r canvas bytes ≡ (calledAs answer (fed .0 .session) r, fed .1)
+    unfolding calledBy
+    called-same = ap (λ (x : Fed × List ℕ). (calledAs (x .0 .answer) (x .0 .session) r, x .1)) fed-same
+
+    reader-same : calledBy r canvas bytes .0 .reader ≡ next
+    reader-same = ap (λ (x : Called × List ℕ). x .0 .reader) called-same ∙ answered-reader answer (fed .0 .session) r
+
+    count-same : calledBy r canvas bytes .0 .stopped ≡ calledAs answer (fed .0 .session) r .stopped
+    count-same = ap (λ (x : Called × List ℕ). x .0 .stopped) called-same
+
+    canvas-same : calledBy r canvas bytes .1 ≡ fed .1
+    canvas-same = ap (λ (x : Called × List ℕ). x .1) called-same
+
+    now-more : now more ≡ afterFeed (now ts) (now ts .unread ++ pieceOf t) (fed .0 .session, fed .1) (answerMeant answer)
+    unfolding callsOf called
+    now-more = calls-append (history.opened l stride p opening opens) ts (t ∷ [])
+
+    proper-more : properCalls smallest (history.opened l stride p opening opens) more ≡ true
+    unfolding properCalls
+    proper-more =
+        proper-append smallest (history.opened l stride p opening opens) ts (t ∷ []) (k .proper)
+        (and-both (le-leb smallest (allowanceOf t) (omega (arith, exact))) (and-both may refl))
+
+    next-keeps : Keeps more next (fed .1)
+    unfolding afterFeed afterCall countedAs
+    next-keeps =
+        record {
+          proper = proper-more;
+          session = sym (ap (λ (c : Caller Held). c .state .0) now-more);
+          canvas = sym (ap (λ (c : Caller Held). c .state .1) now-more);
+          allowance = k .allowance;
+          consumed = held-sum _ _ _ (k .consumed) ∙ ap held (sym (ap (λ (c : Caller Held). c .consumed) now-more));
+          ink = held-sum _ _ _ (k .ink) ∙ ap held (sym (ap (λ (c : Caller Held). c .ink) now-more));
+          calls = held-sum _ _ _ (k .calls) ∙ ap held (sym (length-more ts t));
+        }
+
+    pub call-keeps : Keeps more (calledBy r canvas bytes .0 .reader) (calledBy r canvas bytes .1)
+    call-keeps =
+        subst (λ (x : Reader). Keeps more x (calledBy r canvas bytes .1)) (sym reader-same)
+        (subst (λ (c : List ℕ). Keeps more next c) (sym canvas-same) next-keeps)
+
+    how-more : now more .how ≡ howTold (answerMeant answer)
+    unfolding afterFeed
+    how-more = ap (λ (c : Caller Held). c .how) now-more
+
+    -- a stop has consumed something
+    some-consumed : howTold (answerMeant answer) ≡ stopped → 0 < consumedTold (answerMeant answer)
+    unfolding called afterFeed
+    some-consumed e =
+        omega (arith, stop-consumes l stride p opening opens smallest ts (omega arith) (k .proper) t (omega (arith, exact)) may e)
+
+    -- a piece's last call
+    pub last-follows : calledBy r canvas bytes .0 .stopped ≡ 0 → Follows more (calledBy r canvas bytes .0 .reader) (calledBy r canvas bytes .1)
+    unfolding afterCall
+    last-follows e =
+        let stands : calledBy r canvas bytes .0 .reader .standing ≡ stoodAt answer = ap (λ (x : Reader). x .standing) reader-same in
+        record {
+          keeps = call-keeps;
+          how = how-more ∙ last-how answer (fed .0 .session) r (sym count-same ∙ e) some-consumed ∙ ap howStood (sym stands);
+          end = λ d h.
+              let told = ended-answer answer (sym stands ∙ h) in
+              ap (λ (c : Caller Phase). calls.dcsEnd (c .state)) (turns-append (dcsStep setting p) (dcsRested setting) _ ts t)
+              ∙ end-told l stride p opening opens smallest ts (omega arith) (k .proper) t (omega (arith, exact)) may (told .2);
+        }
+
+    -- a stop, after which the rest is presented again
+    pub stop-next : (calledBy r canvas bytes .0 .stopped ≡ 0 → ⊥)
+        → (now more .how ≡ stopped) × (now more .unread ≡ drop (calledBy r canvas bytes .0 .stopped) bytes)
+    unfolding afterFeed
+    stop-next e =
+        let told = stop-how answer (fed .0 .session) r (λ z. e (count-same ∙ z)) in (
+          how-more ∙ told .0,
+          ap (λ (c : Caller Held). c .unread) now-more
+          ∙ ap (λ (n : ℕ). drop n (now ts .unread ++ pieceOf t)) (told .1 ∙ sym count-same)
+          ∙ ap (drop (calledBy r canvas bytes .0 .stopped)) same,
+        )
+
+  -- ---- a piece
+
+  -- the calls of a piece: the first, and others with nothing new
+  pub record Took (ts : List Turn) (t : Turn) (x : Reader × List ℕ) : Type 0 where
+    pub others : List Turn
+    pub nothing : stream others ≡ []
+    pub none-fresh : pieces others ≡ 0
+    pub follows : Follows (ts ++ t ∷ others) (x .0) (x .1)
+
+  pub took : (n : ℕ) {ts : List Turn} {r : Reader} {canvas : List ℕ} → Keeps ts r canvas → (t : Turn) → allowanceOf t ≡ smallest
+      → mayCall t (now ts .how) ≡ true → (bytes : List ℕ) → now ts .unread ++ pieceOf t ≡ bytes → length bytes < n → Took ts t (takenFor n r canvas bytes)
+  unfolding mayCall pieceOf stream pieces allowanceOf
+  took zero k t exact may bytes same h = absurd (omega arith)
+  took (suc n) {ts} {r} {canvas} k t exact may bytes same h =
+      go (λ may′ same′ less. took n (call-keeps k t exact may bytes same) (again smallest) refl may′ rest same′ less) (eqb count 0) refl
+    where
+      count : ℕ
+      count = calledBy r canvas bytes .0 .stopped
+
+      rest : List ℕ
+      rest = drop count bytes
+
+      reader : Reader
+      reader = calledBy r canvas bytes .0 .reader
+
+      after : List ℕ
+      after = calledBy r canvas bytes .1
+
+      more : List Turn
+      more = ts ++ t ∷ []
+
+      go : (mayCall (again smallest) (now more .how) ≡ true → now more .unread ++ pieceOf (again smallest) ≡ rest → length rest < n
+          → Took more (again smallest) (takenFor n reader after rest))
+          → (q : Bool) → eqb count 0 ≡ q → Took ts t (takenFor (suc n) r canvas bytes)
+      go later true e =
+          let last : count ≡ 0 = eqb-true count 0 e in
+          subst (Took ts t) (sym (taken-last n r canvas bytes last))
+          (record { others = []; nothing = refl; none-fresh = refl; follows = last-follows k t exact may bytes same last })
+      go later false e =
+          let on : count ≡ 0 → ⊥ = eqb-false count 0 e in
+          let s = stop-next k t exact may bytes same on in
+          let within : count ≤ length bytes = call-within r canvas bytes in
+          let left = length-drop count bytes in
+          let x : Took more (again smallest) (takenFor n reader after rest) =
+          later (ap (mayCall (again smallest)) (s .0)) (append-nil _ ∙ s .1) (omega arith) in
+          subst (Took ts t) (sym (taken-again n r canvas bytes on))
+          (record {
+            others = again smallest ∷ x .others;
+            nothing = x .nothing;
+            none-fresh = x .none-fresh;
+            follows =
+                subst (λ (us : List Turn). Follows us (takenFor n reader after rest .0) (takenFor n reader after rest .1))
+                (append-assoc ts (t ∷ []) (again smallest ∷ x .others)) (x .follows);
+          })
