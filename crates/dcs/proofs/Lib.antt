@@ -9,3 +9,4 @@ pub mod Standing
 pub mod Counts
 pub mod Callers
 pub mod History
+pub mod Progress

@@ -21,8 +21,19 @@ use Rattle.pieces.specs.declared.Standing.{Standing}
 use Rattle.pieces.specs.declared.Standing.the-variants as standings
 use Rattle.pieces.specs.Pieces.{beganAs, openedAs, openedBy, held, takenFor, takenIn, takenAs, takenBy}
 use Rattle.pieces.specs.Stream.{joined, takenAll, howStood}
-use Rattle.pieces.proofs.Progress.{nothing-unread}
-use Rattle.pieces.proofs.Turns.{stream-append, pieces-append, smallest, now, Follows, Took, took}
+use Rattle.dcs.proofs.Progress.{nothing-unread}
+use Rattle.pieces.proofs.Answered.{stream-append, pieces-append}
+use Rattle.pieces.proofs.Turns.{now, Follows, Took, took}
+
+-- the stream of more pieces
+pub joined-append : (ys zs : List (List ℕ)) → joined (ys ++ zs) ≡ joined ys ++ joined zs
+unfolding joined
+joined-append [] zs = refl
+joined-append (y ∷ ys) zs = ap (λ (bs : List ℕ). y ++ bs) (joined-append ys zs) ∙ sym (append-assoc y (joined ys) (joined zs))
+
+pub length-append : (ys zs : List (List ℕ)) → length (ys ++ zs) ≡ length ys + length zs
+length-append [] zs = omega arith
+length-append (y ∷ ys) zs = omega (arith, length-append ys zs)
 
 -- a reader whose opening succeeds reads, with the smallest allowance
 began : (l : Limits) (stride : ℕ) (p : Palette) (size : ℕ) → openable l stride size ≡ true

@@ -1,126 +1,38 @@
 -- A reader that takes pieces is a caller of document 01: it makes calls with the smallest allowance, presents what was left unread next, and adds up
 -- what the answers told.
-use Prim.Native.Nat.{ℕ, zero, suc, _+_, _*_, _≤_, _<_, min}
+use Prim.Native.Nat.{ℕ, zero, suc, _*_, _≤_, _<_}
 use native.Mathlib.Omega.{arith}
-use mathlib.Core.Bool.{Bool, true, false, _&&_}
+use mathlib.Core.Bool.{Bool, true, false}
 use mathlib.Core.Option.{some}
 use mathlib.Core.List.{List, [], _∷_, _++_, append-nil, append-assoc}
 use mathlib.Core.Path.{_≡_, refl, sym, ap, _∙_, subst}
 use borrow.Author.Tests.{le-leb, eqb-true, eqb-false}
-use lib.Dec.{leb, eqb}
+use lib.Dec.{eqb}
 use lib.ListN.{length, drop, length-drop}
 use Rattle.canvas.proofs.Covers.{and-both}
-use Rattle.meaning.proofs.Cases.{both}
 use Rattle.colours.specs.declared.Palette.{Palette}
 use Rattle.frame.specs.declared.Limits.{Limits}
-use Rattle.frame.specs.Numbers.{numberOf}
 use Rattle.meaning.specs.Calls as calls
 use Rattle.meaning.specs.Drawing.{Setting}
-use Rattle.meaning.specs.Reader.{Step, How, readAll, stopped, halted, refusedBy, Turn, fresh, again, pieceOf, allowanceOf, stream, pieces, Caller, mayCall, turn, turns}
+use Rattle.meaning.specs.Reader.{stopped, Turn, again, pieceOf, allowanceOf, stream, pieces, Caller, mayCall}
 use Rattle.meaning.specs.Sessions.{Phase, dcsStep, dcsRested}
 use Rattle.payload.specs.History.{settingMeant}
 use Rattle.payload.specs.Judge.{openable}
 use Rattle.dcs.specs.declared.Answer.{Answer}
-use Rattle.dcs.specs.declared.Answer.the-variants as answers
 use Rattle.dcs.specs.declared.Ending.{Ending}
 use Rattle.dcs.specs.declared.Fed.{Fed}
 use Rattle.dcs.specs.declared.Session.{Session}
 use Rattle.dcs.specs.Session.{fedBy}
 use Rattle.dcs.specs.History.{endMeant, answerMeant, howTold, consumedTold, inkTold, Held, afterFeed, called, callsOf, properCalls}
 use Rattle.dcs.proofs.History as history
+use Rattle.dcs.proofs.Progress.{stop-consumes, end-told}
 use Rattle.pieces.specs.declared.Called.{Called}
 use Rattle.pieces.specs.declared.Reader.{Reader}
-use Rattle.pieces.specs.declared.Standing.{Standing}
 use Rattle.pieces.specs.declared.Standing.the-variants as standings
-use Rattle.pieces.specs.Pieces.{held, heldSum, countedAs, afterCall, calledAs, calledBy, takenFor}
+use Rattle.pieces.specs.Pieces.{held, countedAs, afterCall, calledAs, calledBy, takenFor}
 use Rattle.pieces.specs.Stream.{howStood}
-use Rattle.pieces.proofs.Progress.{stop-consumes, end-told}
+use Rattle.pieces.proofs.Answered.{calls-append, proper-append, turns-append, length-more, held-sum, stoodAt, answered-reader, last-how, stop-how, ended-answer}
 use Rattle.pieces.proofs.TakeLaws.{call-within, taken-last, taken-again}
-
--- ---- lists of turns
-
-pub calls-append : (c : Caller Held) (ts us : List Turn) → callsOf c (ts ++ us) ≡ callsOf (callsOf c ts) us
-unfolding callsOf
-calls-append c [] us = refl
-calls-append c (t ∷ ts) us = calls-append (called c t) ts us
-
-pub proper-append : (A : ℕ) (c : Caller Held) (ts us : List Turn) → properCalls A c ts ≡ true → properCalls A (callsOf c ts) us ≡ true
-    → properCalls A c (ts ++ us) ≡ true
-unfolding callsOf properCalls
-proper-append A c [] us h k = k
-proper-append A c (t ∷ ts) us h k =
-    let outer = both (leb A (allowanceOf t)) _ h in
-    let inner = both (mayCall t (c .how)) _ (outer .1) in
-    and-both (outer .0) (and-both (inner .0) (proper-append A (called c t) ts us (inner .1) k))
-
-turns-append : {S : Type 0} (step : S → ℕ → Step S) (rest : S → S) (c : Caller S) (ts : List Turn) (t : Turn)
-    → turns step rest c (ts ++ t ∷ []) ≡ turn step rest (turns step rest c ts) t
-unfolding turns
-turns-append step rest c [] t = refl
-turns-append step rest c (u ∷ ts) t = turns-append step rest (turn step rest c u) ts t
-
-pub stream-append : (ts us : List Turn) → stream (ts ++ us) ≡ stream ts ++ stream us
-unfolding stream
-stream-append [] us = refl
-stream-append (t ∷ ts) us = ap (λ (bs : List ℕ). pieceOf t ++ bs) (stream-append ts us) ∙ sym (append-assoc (pieceOf t) (stream ts) (stream us))
-
-pub pieces-append : (ts us : List Turn) → pieces (ts ++ us) ≡ pieces ts + pieces us
-unfolding pieces
-pieces-append [] us = omega arith
-pieces-append (fresh z a ∷ ts) us = omega (arith, pieces-append ts us)
-pieces-append (again a ∷ ts) us = omega (arith, pieces-append ts us)
-
-length-more : (ts : List Turn) (t : Turn) → length (ts ++ t ∷ []) ≡ length ts + 1
-length-more [] t = refl
-length-more (u ∷ ts) t = omega (arith, length-more ts t)
-
--- ---- counts
-
-held-sum : (n m k : ℕ) → n ≡ held m → heldSum n k ≡ held (m + k)
-unfolding heldSum held
-held-sum n m k e = omega arith
-
--- ---- what an answer makes of a reader
-
-unfoldable stoodAt : Answer → Standing
-stoodAt (answers.More c i) = standings.Reading
-stoodAt (answers.Stopped c i) = standings.Reading
-stoodAt (answers.Ended c i e) = standings.Ended e
-stoodAt (answers.Refused n) = standings.Refused n
-
-answered-reader : (a : Answer) (s : Session) (r : Reader)
-    → calledAs a s r .reader ≡ afterCall r s (stoodAt a) (consumedTold (answerMeant a)) (inkTold (answerMeant a))
-unfolding calledAs stoodAt consumedTold inkTold answerMeant
-answered-reader (answers.More c i) s r = refl
-answered-reader (answers.Stopped c i) s r = refl
-answered-reader (answers.Ended c i e) s r = refl
-answered-reader (answers.Refused n) s r = refl
-
--- a call that is a piece's last says how it came to its end; any other is a stop, after which the rest is unread
-last-how : (a : Answer) (s : Session) (r : Reader) → calledAs a s r .stopped ≡ 0 → (howTold (answerMeant a) ≡ stopped → 0 < consumedTold (answerMeant a))
-    → howTold (answerMeant a) ≡ howStood (stoodAt a)
-unfolding calledAs stoodAt howTold consumedTold answerMeant howStood
-last-how (answers.More c i) s r e pos = refl
-last-how (answers.Stopped c i) s r e pos = let more : 0 < c = pos refl in absurd (omega arith)
-last-how (answers.Ended c i d) s r e pos = refl
-last-how (answers.Refused n) s r e pos = refl
-
-stop-how : (a : Answer) (s : Session) (r : Reader) → (calledAs a s r .stopped ≡ 0 → ⊥)
-    → (howTold (answerMeant a) ≡ stopped) × (consumedTold (answerMeant a) ≡ calledAs a s r .stopped)
-unfolding calledAs howTold consumedTold answerMeant
-stop-how (answers.More c i) s r e = absurd (e refl)
-stop-how (answers.Stopped c i) s r e = (refl, refl)
-stop-how (answers.Ended c i d) s r e = absurd (e refl)
-stop-how (answers.Refused n) s r e = absurd (e refl)
-
-ended-answer : (a : Answer) {e : Ending} → stoodAt a ≡ standings.Ended e → (n : ℕ) × (i : ℕ) × (a ≡ answers.Ended n i e)
-unfolding stoodAt
-ended-answer (answers.More c i) h = absurd (let never : _≡_ {A = ℕ} 0 1 = cc in omega arith)
-ended-answer (answers.Stopped c i) h = absurd (let never : _≡_ {A = ℕ} 0 1 = cc in omega arith)
-ended-answer (answers.Ended c i d) {e} h = let same : d ≡ e = cc in (c, i, ap (answers.Ended c i) same)
-ended-answer (answers.Refused n) h = absurd (let never : _≡_ {A = ℕ} 0 1 = cc in omega arith)
-
--- ---- a reader follows a caller
 
 module _ (l : Limits) (stride : ℕ) (p : Palette) (opening : List ℕ) (opens : openable l stride (length opening) ≡ true) where
   -- the smallest allowance
@@ -246,8 +158,8 @@ module _ (l : Limits) (stride : ℕ) (p : Palette) (opening : List ℕ) (opens :
         let told = stop-how answer (fed .0 .session) r (λ z. e (count-same ∙ z)) in (
           how-more ∙ told .0,
           ap (λ (c : Caller Held). c .unread) now-more
-          ∙ ap (λ (n : ℕ). drop n (now ts .unread ++ pieceOf t)) (told .1 ∙ sym count-same)
-          ∙ ap (drop (calledBy r canvas bytes .0 .stopped)) same,
+              ∙ ap (λ (n : ℕ). drop n (now ts .unread ++ pieceOf t)) (told .1 ∙ sym count-same)
+              ∙ ap (drop (calledBy r canvas bytes .0 .stopped)) same,
         )
 
   -- ---- a piece
