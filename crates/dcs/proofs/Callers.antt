@@ -141,17 +141,17 @@ module _ (l : Limits) (stride : ℕ) (p : Palette) (opening : List ℕ) where
 
   module _ {c : Caller Held} {k : Caller Phase} (h : CallerStands c k) (a : ℕ) (z : List ℕ) (live : isRefused (k .how) ≡ false) (enough : 6 * setting .limits .width ≤ a) where
     -- what is presented, the definition's call, and the code's
-    abbrev presented : List ℕ
+    abbrev pub presented : List ℕ
     presented = k .unread ++ z
 
-    abbrev run : Run Phase
+    abbrev pub run : Run Phase
     run = call (dcsStep setting p) (dcsRested setting) a (k .state) presented
 
-    abbrev fed : Fed × List ℕ
+    abbrev pub fed : Fed × List ℕ
     fed = fedBy (c .state .0) (c .state .1) (c .unread ++ z) a
 
     -- the code's feed is that call, answered
-    fed-feeds : Feeds l stride p opening fed (calls.answered calls.dcsEnd (sessionAt k) run)
+    pub fed-feeds : Feeds l stride p opening fed (calls.answered calls.dcsEnd (sessionAt k) run)
     fed-feeds =
         subst (λ (us : List ℕ). Feeds l stride p opening (fedBy (c .state .0) (c .state .1) (us ++ z) a) (calls.answered calls.dcsEnd (sessionAt k) run)) (sym (h .unread live))
         (subst (Feeds l stride p opening (fedBy (c .state .0) (c .state .1) presented a))

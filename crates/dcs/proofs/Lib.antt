@@ -10,3 +10,4 @@ pub mod Counts
 pub mod Callers
 pub mod History
 pub mod SoFar
+pub mod Progress

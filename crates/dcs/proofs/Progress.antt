@@ -1,0 +1,185 @@
+-- What a caller relies on to go on: a call that needs more has left nothing unread, a stop has consumed a byte, and an end is the one told.
+use Prim.Native.Nat.{ℕ, zero, suc, _+_, _*_, _≤_, _<_}
+use native.Mathlib.Omega.{arith}
+use mathlib.Core.Bool.{true, false}
+use mathlib.Core.Option.{Option, none, some}
+use mathlib.Core.List.{List, [], _∷_, _++_}
+use mathlib.Core.Path.{_≡_, refl, sym, ap, _∙_, subst}
+use borrow.Author.Tests.{le-leb}
+use lib.ListN.{length, take}
+use Rattle.canvas.proofs.Covers.{and-both}
+use Rattle.colours.specs.declared.Palette.{Palette}
+use Rattle.frame.specs.declared.Limits.{Limits}
+use Rattle.meaning.specs.Calls as calls
+use Rattle.meaning.specs.Drawing.{Setting}
+use Rattle.meaning.specs.Reader.{Step, next, halt, refuse, How, readAll, stopped, halted, refusedBy, isRefused, isOngoing, Run, still, after, follow, readFrom, call, Turn, pieceOf, allowanceOf, stream, Caller, ranBy, mayCall, having, turn, turns, CapLaw}
+use Rattle.meaning.specs.Sessions.{End, Phase, start, dcsStep, dcsRested}
+use Rattle.meaning.proofs.AreaLaws.{DcsDoes, advances, begins, turns as refused, reads, refuses, escapes, closes, breaks, completes, lapses, remains, dcs-does}
+use Rattle.meaning.proofs.CallLaws.{StoppedAt, call-stopped-at}
+use Rattle.meaning.proofs.CallerLaws.{not-refused}
+use Rattle.meaning.proofs.Demand3.{dcs-caps}
+use Rattle.meaning.proofs.EachCall.{dcs-so-far}
+use Rattle.meaning.proofs.InkLaws.{Halts}
+use Rattle.meaning.proofs.SoFarLaws.{LeftBy, allRead, stoppedAt}
+use Rattle.payload.specs.History.{settingMeant, limitsMeant}
+use Rattle.payload.specs.Judge.{openable}
+use Rattle.dcs.specs.declared.Answer.the-variants as answers
+use Rattle.dcs.specs.declared.Ending.{Ending}
+use Rattle.dcs.specs.Session.{fedBy}
+use Rattle.dcs.specs.History.{endMeant, answerMeant, Held, called, callsOf, properCalls}
+use Rattle.dcs.proofs.Callers.{endTold, may-told, CallerStands, sessionAt, run, fed-feeds, calls-stand}
+use Rattle.dcs.proofs.History as history
+
+-- ---- calls of the definition
+
+-- where a sequence halts it has come to its end
+abbrev HasEnd : Phase → Type 0
+HasEnd t = (e : End) × (calls.dcsEnd t ≡ some e)
+
+does-end : (s : Setting) (p : Palette) (b : ℕ) {t : Phase} {x : Step Phase} → DcsDoes s p b t x → Halts HasEnd x
+unfolding calls.dcsEnd
+does-end s p b (advances h k) = tt
+does-end s p b (begins h o) = tt
+does-end s p b (refused h) = tt
+does-end s p b (reads r e) = tt
+does-end s p b (refuses r e) = tt
+does-end s p b (escapes r e) = tt
+does-end s p b (closes r e) = tt
+does-end s p b (breaks r e) = (_, refl)
+does-end s p b completes = tt
+does-end s p b lapses = (_, refl)
+does-end s p b remains = (_, refl)
+
+reading-ends : (s : Setting) (p : Palette) (t : Phase) (bs : List ℕ) → readFrom (dcsStep s p) t bs .how ≡ halted → HasEnd (readFrom (dcsStep s p) t bs .state)
+unfolding readFrom still follow after
+reading-ends s p t [] h = absurd (let never : _≡_ {A = ℕ} 0 1 = cc in omega arith)
+reading-ends s p t (b ∷ bs) h = go (dcsStep s p t b) (does-end s p b (dcs-does s p b t)) (λ u. reading-ends s p u bs) h
+  where
+    onward : Step Phase → Run Phase
+    onward x = follow x (λ t i. after 1 i (readFrom (dcsStep s p) t bs))
+
+    go : (x : Step Phase) → Halts HasEnd x
+        → ((u : Phase) → readFrom (dcsStep s p) u bs .how ≡ halted → HasEnd (readFrom (dcsStep s p) u bs .state))
+        → onward x .how ≡ halted → HasEnd (onward x .state)
+    go (next u i) k later e = later u e
+    go (halt u) k later e = k
+    go (refuse u n) k later e = absurd (let never : _≡_ {A = ℕ} 0 1 = cc in omega arith)
+
+-- a call that needs more has left nothing
+left-none : {S : Type 0} {step : S → ℕ → Step S} {rest : S → S} {h : How} {here state : S} {unread : List ℕ} → LeftBy step rest h here state unread
+    → h ≡ readAll → unread ≡ []
+left-none allRead e = refl
+left-none (stoppedAt q inked) e = absurd (let never : _≡_ {A = ℕ} 0 1 = cc in omega arith)
+
+-- a stop has consumed a byte, where no byte's ink is above the allowance
+module _ {S : Type 0} (step : S → ℕ → Step S) (rest : S → S) (cap : ℕ) (cap-law : CapLaw step cap) (a : ℕ) (s : S) (xs : List ℕ) (fits : cap ≤ a) where
+  call-stop-consumes : call step rest a s xs .how ≡ stopped → 0 < call step rest a s xs .consumed
+  unfolding readFrom still
+  call-stop-consumes e = go (call step rest a s xs .consumed) refl
+    where
+      at-stop : StoppedAt step rest a s xs (call step rest a s xs)
+      at-stop = call-stopped-at step rest a s xs e
+
+      cost : at-stop .cost ≤ cap
+      cost = cap-law (at-stop .last) (at-stop .reached) (at-stop .byte) (at-stop .cost) (at-stop .reads)
+
+      go : (n : ℕ) → call step rest a s xs .consumed ≡ n → 0 < n
+      go zero z =
+          let dry : 0 ≡ call step rest a s xs .ink = ap (λ (n : ℕ). readFrom step s (take n xs) .ink) (sym z) ∙ ap (λ (r : Run S). r .ink) (at-stop .before) in
+          omega (arith, cost, at-stop .exceeds)
+      go (suc n) z = omega arith
+
+-- an end that is told is the one that has come
+answered-end : (m : calls.Session Phase) (q : Run Phase) {n i : ℕ} {x : End} → calls.told n i (calls.ended x) ≡ calls.answered calls.dcsEnd m q .answer
+    → calls.dcsEnd (q .state) ≡ some x
+unfolding calls.answered calls.tells calls.atEnd
+answered-end m q {n} {i} {x} e = each (q .how) (calls.dcsEnd (q .state)) e
+  where
+    ending : How → Option End → calls.Answer End
+    ending how over = calls.answered (λ (r : Phase). over) m (record { state = q .state; consumed = q .consumed; ink = q .ink; how = how }) .answer
+
+    each : (how : How) (over : Option End) → calls.told n i (calls.ended x) ≡ ending how over → over ≡ some x
+    each readAll none z = cc
+    each readAll (some y) z = cc
+    each stopped over z = cc
+    each halted none z = cc
+    each halted (some y) z = cc
+    each (refusedBy k) over z = cc
+
+-- what was told, of what a call came to
+told-stopped : (h : How) (o : Option End) → endTold h o ≡ stopped → h ≡ stopped
+unfolding endTold
+told-stopped readAll none e = e
+told-stopped readAll (some x) e = cc
+told-stopped stopped o e = refl
+told-stopped halted none e = cc
+told-stopped halted (some x) e = e
+told-stopped (refusedBy n) o e = e
+
+all-going : readAll ≡ stopped → ⊥
+all-going e = let never : _≡_ {A = ℕ} 0 1 = cc in omega arith
+
+-- ---- calls of the code
+
+module _ (l : Limits) (stride : ℕ) (p : Palette) (opening : List ℕ) (opens : openable l stride (length opening) ≡ true)
+    (A : ℕ) (ts : List Turn) (enough : 6 * l .width ≤ A) (ok : properCalls A (history.opened l stride p opening opens) ts ≡ true) where
+  abbrev setting : Setting
+  setting = settingMeant l stride (length opening)
+
+  abbrev now : Caller Held
+  now = history.now l stride p opening opens A ts enough ok
+
+  abbrev there : Caller Phase
+  there = history.there l stride p opening opens A ts enough ok
+
+  stood : CallerStands l stride p opening now there
+  stood = history.stood l stride p opening opens A ts enough ok
+
+  -- A call that needs more has left nothing unread.
+  pub nothing-unread : now .how ≡ readAll → now .unread ≡ []
+  unfolding endTold isRefused isOngoing ranBy
+  nothing-unread e = go (there .how) refl
+    where
+      told : (h : How) → there .how ≡ h → readAll ≡ endTold h (calls.dcsEnd (there .state))
+      told h q = sym e ∙ stood .how ∙ ap (λ (h : How). endTold h (calls.dcsEnd (there .state))) q
+
+      go : (h : How) → there .how ≡ h → now .unread ≡ []
+      go readAll q =
+          stood .unread (ap isRefused q)
+          ∙ left-none (dcs-so-far setting p A ts (history.roomy l stride p opening opens A ts enough ok) (history.proper-there l stride p opening opens A ts enough ok) (ap isOngoing q) .left) q
+      go stopped q = let z : readAll ≡ stopped = told stopped q in absurd (let never : _≡_ {A = ℕ} 0 1 = cc in omega arith)
+      go halted q =
+          let going : now .how ≡ stopped → ⊥ = λ z. all-going (sym e ∙ z) in
+          let whole : readFrom (dcsStep setting p) start (stream ts) ≡ ranBy there = history.whole-state l stride p opening opens A ts enough ok going in
+          let over : HasEnd (there .state) =
+          subst (λ (q : Run Phase). q .how ≡ halted → HasEnd (q .state)) whole (reading-ends setting p start (stream ts)) q in
+          let z : readAll ≡ halted = told halted q ∙ ap (endTold halted) (over .1) in
+          absurd (let never : _≡_ {A = ℕ} 0 1 = cc in omega arith)
+      go (refusedBy n) q = let z : readAll ≡ refusedBy n = told (refusedBy n) q in absurd (let never : _≡_ {A = ℕ} 0 1 = cc in omega arith)
+
+  module _ (t : Turn) (allowed : A ≤ allowanceOf t) (may : mayCall t (now .how) ≡ true) where
+    live : isRefused (there .how) ≡ false
+    live = not-refused t (there .how) (sym (may-told t (there .how) (calls.dcsEnd (there .state))) ∙ sym (ap (mayCall t) (stood .how)) ∙ may)
+
+    -- A stop has consumed a byte.
+    pub stop-consumes : called now t .how ≡ stopped → now .consumed < called now t .consumed
+    unfolding callsOf turns turn having isRefused properCalls endTold
+    stop-consumes e =
+        let room = history.roomy l stride p opening opens A ts enough ok in
+        let next-one = calls-stand l stride p opening A room stood (t ∷ []) (and-both (le-leb A (allowanceOf t) allowed) (and-both may refl)) .0 in
+        let there-stops : turn (dcsStep setting p) (dcsRested setting) there t .how ≡ stopped = told-stopped _ _ (sym (next-one .how) ∙ e) in
+        omega (
+          arith,
+          stood .consumed live,
+          next-one .consumed (ap isRefused there-stops),
+          call-stop-consumes (dcsStep setting p) (dcsRested setting) (6 * setting .limits .width) (dcs-caps setting p) (allowanceOf t) (there .state) (there .unread ++ pieceOf t) (omega arith) there-stops,
+        )
+
+    -- An end that is told is the one that the definition has come to.
+    pub end-told : {n i : ℕ} {e : Ending} → fedBy (now .state .0) (now .state .1) (now .unread ++ pieceOf t) (allowanceOf t) .0 .answer ≡ answers.Ended n i e
+        → calls.dcsEnd (turn (dcsStep setting p) (dcsRested setting) there t .state) ≡ some (endMeant e)
+    unfolding turn having answerMeant
+    end-told {n} {i} {e} k =
+        let room = history.roomy l stride p opening opens A ts enough ok in
+        answered-end (sessionAt l stride p opening there) _
+        (ap answerMeant (sym k) ∙ fed-feeds l stride p opening stood (allowanceOf t) (pieceOf t) live (omega (arith, room)) .answer)

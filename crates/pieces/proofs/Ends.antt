@@ -1,0 +1,116 @@
+-- What the promise asks of the definition: at an end the picture is that of the whole stream, and bytes after an end or a refusal make no difference.
+use Prim.Native.Nat.{ℕ, _≤_}
+use native.Mathlib.Omega.{arith}
+use mathlib.Core.Bool.{true, cond}
+use mathlib.Core.Option.{Option, none, some}
+use mathlib.Core.List.{List, [], _∷_, _++_}
+use mathlib.Core.Path.{_≡_, refl, sym, ap, _∙_, subst}
+use Rattle.numbers.proofs.Laws.{cond-no}
+use Rattle.colours.specs.declared.Palette.{Palette}
+use Rattle.meaning.specs.Calls as calls
+use Rattle.meaning.specs.Drawing.{Setting}
+use Rattle.meaning.specs.OneShot.{Found, found, missing, findPayload, oneShot}
+use Rattle.meaning.specs.Payload as meant
+use Rattle.meaning.specs.Reader.{How, readAll, stopped, halted, refusedBy, isAll, Run, still, after, continued, follow, readFrom, thenRead}
+use Rattle.meaning.specs.Sequence.{sequencePayload, sequenceInk}
+use Rattle.meaning.specs.Sessions.{End, Phase, start, introduced, header, within, afterEscape, over, dcsStep, finishDcs}
+use Rattle.meaning.proofs.Cases.{cond-case}
+use Rattle.meaning.proofs.DcsLaws.{sequence-drawing, sequence-missing, sequence-finish, sequence-ink, sequence-refused, sequence-turned-down}
+use Rattle.meaning.proofs.DcsParts.{Agrees, sequence-agrees, before-open, no-end}
+use Rattle.meaning.proofs.RunLaws.{read-append}
+use Rattle.dcs.proofs.Callers.{endTold}
+use Rattle.pieces.specs.declared.Standing.{Standing}
+use Rattle.pieces.specs.declared.Standing.the-variants as standings
+use Rattle.pieces.specs.Stream.{howStood}
+
+-- ---- how a reader stands
+
+-- no reader stands at a stop
+pub stood-going : (t : Standing) → howStood t ≡ stopped → ⊥
+unfolding howStood
+stood-going standings.Reading e = let never : _≡_ {A = ℕ} 0 1 = cc in omega arith
+stood-going (standings.Ended d) e = let never : _≡_ {A = ℕ} 0 1 = cc in omega arith
+stood-going (standings.Refused n) e = let never : _≡_ {A = ℕ} 0 1 = cc in omega arith
+
+-- a refusal that is told is the one that came
+pub told-refused : (h : How) (o : Option End) {n : ℕ} → endTold h o ≡ refusedBy n → h ≡ refusedBy n
+unfolding endTold
+told-refused readAll none e = e
+told-refused readAll (some x) e = cc
+told-refused stopped o e = e
+told-refused halted none e = cc
+told-refused halted (some x) e = e
+told-refused (refusedBy m) o e = e
+
+-- ---- the picture at the end is that of the whole stream
+
+drawing-whole : (s : Setting) (p : Palette) (bs : List ℕ) {e : End} → calls.dcsEnd (readFrom (dcsStep s p) start bs .state) ≡ some e
+    → calls.drawingAtFinish s (readFrom (dcsStep s p) start bs .state) ≡ calls.drawingFound s p (findPayload bs)
+unfolding calls.drawingFound
+drawing-whole s p bs {e} z = go (sequencePayload bs) refl (sequence-agrees bs)
+  where
+    go : (f : Found) → sequencePayload bs ≡ f → Agrees bs f
+        → calls.drawingAtFinish s (readFrom (dcsStep s p) start bs .state) ≡ calls.drawingFound s p (findPayload bs)
+    go (found o part) q same = sequence-drawing s p bs q z ∙ ap (calls.drawingFound s p) (sym same)
+    go (missing n) q same = absurd (no-end (sym (before-open _ (sequence-missing s p bs q .0)) ∙ z))
+
+-- ---- bytes after an end or a refusal make no difference
+
+module _ (s : Setting) (p : Palette) where
+  -- the same state and counts
+  abbrev Alike : Run Phase → Run Phase → Type 0
+  Alike q r = (q .state ≡ r .state) × (q .consumed ≡ r .consumed) × (q .ink ≡ r .ink)
+
+  over-reads : (t : Phase) {e : End} (ys : List ℕ) → calls.dcsEnd t ≡ some e → Alike (readFrom (dcsStep s p) t ys) (still t readAll)
+  unfolding readFrom still follow dcsStep calls.dcsEnd
+  over-reads start ys h = absurd (no-end h)
+  over-reads introduced ys h = absurd (no-end h)
+  over-reads (header bs) ys h = absurd (no-end h)
+  over-reads (within r) ys h = absurd (no-end h)
+  over-reads (afterEscape r) ys h = absurd (no-end h)
+  over-reads (over d r) [] h = (refl, refl, refl)
+  over-reads (over d r) (b ∷ ys) h = (refl, refl, refl)
+
+  module _ (xs ys : List ℕ) where
+    further : readFrom (dcsStep s p) start (xs ++ ys) ≡ thenRead (dcsStep s p) (readFrom (dcsStep s p) start xs) ys
+    further = read-append (dcsStep s p) start xs ys
+
+    refused-more : {n : ℕ} → readFrom (dcsStep s p) start xs .how ≡ refusedBy n → readFrom (dcsStep s p) start (xs ++ ys) ≡ readFrom (dcsStep s p) start xs
+    unfolding thenRead continued isAll
+    refused-more h = further ∙ cond-no _ _ (ap isAll h)
+
+    over-more : {e : End} → calls.dcsEnd (readFrom (dcsStep s p) start xs .state) ≡ some e
+        → Alike (readFrom (dcsStep s p) start (xs ++ ys)) (readFrom (dcsStep s p) start xs)
+    unfolding thenRead continued after still
+    over-more h =
+        let q : Run Phase = readFrom (dcsStep s p) start xs in
+        let none-read = over-reads (q .state) ys h in
+        subst (λ (r : Run Phase). Alike r q) (sym further)
+        (cond-case (λ (r : Run Phase). Alike r q) (isAll (q .how)) (λ _. (none-read .0, omega (arith, none-read .1), omega (arith, none-read .2))) (λ _. (refl, refl, refl)))
+
+    pub ended-ink : {e : End} → calls.dcsEnd (readFrom (dcsStep s p) start xs .state) ≡ some e → sequenceInk s p (xs ++ ys) ≡ sequenceInk s p xs
+    ended-ink h = sym (sequence-ink s p (xs ++ ys)) ∙ over-more h .2 ∙ sequence-ink s p xs
+
+    pub ended-end : {e : End} → calls.dcsEnd (readFrom (dcsStep s p) start xs .state) ≡ some e → calls.dcsEnd (readFrom (dcsStep s p) start (xs ++ ys) .state) ≡ some e
+    ended-end h = ap calls.dcsEnd (over-more h .0) ∙ h
+
+    pub ended-consumed : {e : End} → calls.dcsEnd (readFrom (dcsStep s p) start xs .state) ≡ some e
+        → readFrom (dcsStep s p) start (xs ++ ys) .consumed ≡ readFrom (dcsStep s p) start xs .consumed
+    ended-consumed h = over-more h .1
+
+    pub ended-answer : {e : End} → calls.dcsEnd (readFrom (dcsStep s p) start xs .state) ≡ some e → oneShot s p (xs ++ ys) ≡ oneShot s p xs
+    ended-answer h = sym (sequence-finish s p (xs ++ ys) (ended-end h)) ∙ ap (finishDcs s) (over-more h .0) ∙ sequence-finish s p xs h
+
+    pub ended-drawing : {e : End} → calls.dcsEnd (readFrom (dcsStep s p) start xs .state) ≡ some e
+        → calls.drawingAtFinish s (readFrom (dcsStep s p) start xs .state) ≡ calls.drawingFound s p (findPayload (xs ++ ys))
+    ended-drawing h = sym (ap (calls.drawingAtFinish s) (over-more h .0)) ∙ drawing-whole s p (xs ++ ys) (ended-end h)
+
+    pub refused-ink : {n : ℕ} → readFrom (dcsStep s p) start xs .how ≡ refusedBy n → sequenceInk s p (xs ++ ys) ≡ sequenceInk s p xs
+    refused-ink h = sym (sequence-ink s p (xs ++ ys)) ∙ ap (λ (q : Run Phase). q .ink) (refused-more h) ∙ sequence-ink s p xs
+
+    -- a refusal is what introducer and header are refused with, or what reading the whole at once answers
+    pub refused-answer : {n : ℕ} → readFrom (dcsStep s p) start xs .how ≡ refusedBy n
+        → (n ≤ 3 → sequencePayload (xs ++ ys) ≡ missing n) × (2 ≤ n → oneShot s p (xs ++ ys) ≡ meant.turnedDown n)
+    refused-answer {n} h =
+        let all : readFrom (dcsStep s p) start (xs ++ ys) .how ≡ refusedBy n = ap (λ (q : Run Phase). q .how) (refused-more h) ∙ h in
+        (λ small. sequence-refused s p (xs ++ ys) n small .0 all, λ low. sequence-turned-down s p (xs ++ ys) low all)
