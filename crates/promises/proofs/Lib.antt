@@ -1,0 +1,11 @@
+pub mod One
+pub mod Meanings
+pub mod OneAnswers
+pub mod OneNumbers
+pub mod OneCanvas
+pub mod OneHls
+pub mod OneColours
+pub mod OneFrame
+pub mod OnePayload
+pub mod OneDcs
+pub mod OneOneshot
