@@ -1,5 +1,7 @@
 pub mod One
 pub mod Meanings
+pub mod Choices
+pub mod RefusedCommands
 pub mod OneAnswers
 pub mod OneNumbers
 pub mod OneCanvas
