@@ -76,3 +76,15 @@ module _ {A : Type 0} {t : Bool} {T : Type 0} (k : Tells t T) where
       go : (u : Bool) → t ≡ u → cond u x y ≡ z → (¬ T) × U
       go true q e = absurd (first e)
       go false q e = (tells-fails k .0 q, rest .0 e)
+
+  -- both cases, each by what it is
+  pub either-case : {x y z : A} {X Y : Type 0} → (x ≡ z) ↔ X → (y ≡ z) ↔ Y → (cond t x y ≡ z) ↔ ((T × X) ⊎ ((¬ T) × Y))
+  either-case {x} {y} {z} {X} {Y} k₁ k₂ = (λ e. to t refl e, from)
+    where
+      to : (u : Bool) → t ≡ u → cond u x y ≡ z → (T × X) ⊎ ((¬ T) × Y)
+      to true q e = inl (k .0 q, k₁ .0 e)
+      to false q e = inr (tells-fails k .0 q, k₂ .0 e)
+
+      from : (T × X) ⊎ ((¬ T) × Y) → cond t x y ≡ z
+      from (inl h) = ap (λ (u : Bool). cond u x y) (k .1 (h .0)) ∙ k₁ .1 (h .1)
+      from (inr h) = ap (λ (u : Bool). cond u x y) (tells-fails k .1 (h .0)) ∙ k₂ .1 (h .1)

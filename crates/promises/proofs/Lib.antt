@@ -2,6 +2,7 @@ pub mod One
 pub mod Meanings
 pub mod Choices
 pub mod RefusedCommands
+pub mod RefusedHeaders
 pub mod OneAnswers
 pub mod OneNumbers
 pub mod OneCanvas
