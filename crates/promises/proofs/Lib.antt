@@ -3,6 +3,7 @@ pub mod Meanings
 pub mod Choices
 pub mod RefusedCommands
 pub mod RefusedHeaders
+pub mod RefusedBytes
 pub mod OneAnswers
 pub mod OneNumbers
 pub mod OneCanvas
