@@ -4,6 +4,8 @@ pub mod Choices
 pub mod RefusedCommands
 pub mod RefusedHeaders
 pub mod RefusedBytes
+pub mod RefusedRuns
+pub mod RefusedCalls
 pub mod OneAnswers
 pub mod OneNumbers
 pub mod OneCanvas
