@@ -6,6 +6,7 @@ pub mod RefusedHeaders
 pub mod RefusedBytes
 pub mod RefusedRuns
 pub mod RefusedCalls
+pub mod RefusedSessions
 pub mod OneAnswers
 pub mod OneNumbers
 pub mod OneCanvas

@@ -4,7 +4,7 @@ use mathlib.Core.Bool.{Bool, true, false, cond, not, _||_, true≢false}
 use mathlib.Core.List.{List, [], _∷_}
 use mathlib.Core.Logic.{_↔_, _⊎_, inl, inr}
 use mathlib.Core.Option.{Option, none, some}
-use mathlib.Core.Path.{_≡_, refl, sym, ap, _∙_}
+use mathlib.Core.Path.{_≡_, refl, sym, ap, _∙_, subst}
 use native.Mathlib.Omega.{arith}
 use lib.Dec.{leb, ltb, eqb}
 use Rattle.canvas.specs.Picture.{Area, rowsOf, fits}
@@ -101,6 +101,13 @@ answered-exactly {S} {E} end s r n = go (r .how)
     go halted = (counts, λ e. other e refl)
     go (refusedBy m) = (λ e. cc, λ e. cc)
 
+answered-fails : {S E : Type 0} (end : S → Option E) (s : Session S) (r : Run S) (n : ℕ) → r .how ≡ refusedBy n → answered end s r .session ≡ sessionAfter s (r .state) true
+unfolding answered
+answered-fails {S} {E} end s r n e = ap (λ (how : How). of how .session) e
+  where
+    of : How → Fed S E
+    of how = answered end s (record { state = r .state; consumed = r .consumed; ink = r .ink; how = how })
+
 module _ {S E : Type 0} (areaOf : S → Area) (step : Setting → S → ℕ → Step S) (rest : Setting → S → S) (end : S → Option E)
     (numbers : (c : Setting) (t u : S) (b n : ℕ) → step c t b ≡ refuse u n → (1 ≤ n) × (n ≤ 7)) (s : Session S) (length a : ℕ) (bs : List ℕ) where
   -- what the call comes to, and what its bytes do
@@ -196,3 +203,28 @@ module _ {S E : Type 0} (areaOf : S → Area) (step : Setting → S → ℕ → 
           let k = answered-exactly end s ran n in
           let r = run-exactly (step (s .setting)) (rest (s .setting)) a (s .state) bs (ran .state) n in
           (λ e. r .0 (k .0 e, refl), λ h. k .1 (r .1 h .0))
+
+  -- After 9, 12 and 13 the session is as it was.
+  pub refused-keeps : (n : ℕ) → 8 ≤ n → fed .answer ≡ refused n → fed .session ≡ s
+  refused-keeps n high = subst (λ (x : Fed S E). x .answer ≡ refused n → x .session ≡ s) (sym by-order) (go (s .failed) (misfits areaOf s length) (ltb a (6 * s .setting .limits .width)))
+    where
+      go : (t u v : Bool) → let x : Fed S E = cond t (record { answer = refused 9; session = s })
+          (cond u (record { answer = refused 12; session = s }) (cond v (record { answer = refused 13; session = s }) (answered end s ran))) in x .answer ≡ refused n → x .session ≡ s
+      go true u v e = refl
+      go false true v e = refl
+      go false false true e = refl
+      go false false false e = absurd (not-run high e)
+
+  -- 1 to 7 fail the session, which has come to the state before the refused byte or command.
+  pub refused-fails : (n : ℕ) → n ≤ 7 → fed .answer ≡ refused n → fed .session ≡ sessionAfter s (ran .state) true
+  refused-fails n low =
+      subst (λ (x : Fed S E). x .answer ≡ refused n → x .session ≡ sessionAfter s (ran .state) true) (sym by-order)
+      (go (s .failed) (misfits areaOf s length) (ltb a (6 * s .setting .limits .width)))
+    where
+      go : (t u v : Bool) → let x : Fed S E = cond t (record { answer = refused 9; session = s })
+          (cond u (record { answer = refused 12; session = s }) (cond v (record { answer = refused 13; session = s }) (answered end s ran))) in
+          x .answer ≡ refused n → x .session ≡ sessionAfter s (ran .state) true
+      go true u v e = absurd (refused-differ (λ q. omega arith) e)
+      go false true v e = absurd (refused-differ (λ q. omega arith) e)
+      go false false true e = absurd (refused-differ (λ q. omega arith) e)
+      go false false false e = answered-fails end s ran n (answered-exactly end s ran n .0 e)
