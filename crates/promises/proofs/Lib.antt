@@ -7,6 +7,7 @@ pub mod RefusedBytes
 pub mod RefusedRuns
 pub mod RefusedCalls
 pub mod RefusedSessions
+pub mod RefusedFinishes
 pub mod OneAnswers
 pub mod OneNumbers
 pub mod OneCanvas

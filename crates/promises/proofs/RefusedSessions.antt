@@ -1,23 +1,17 @@
 -- The refusals of payload and DCS sessions: opening, feeding and finishing (document 01, 'Refusal numbers').
 use Prim.Native.Nat.{ℕ, _*_, _^_, _≤_, _<_}
-use mathlib.Core.Bool.{Bool, true, false, cond, _&&_, true≢false}
-use mathlib.Core.List.{List, [], _∷_}
-use mathlib.Core.Logic.{_↔_, _⊎_, inl, inr, Iff·trans}
-use mathlib.Core.Option.{Option, none, some}
-use mathlib.Core.Path.{_≡_, refl, sym, ap, _∙_, subst}
+use mathlib.Core.Bool.{true}
+use mathlib.Core.List.{List}
+use mathlib.Core.Logic.{_↔_}
+use mathlib.Core.Path.{_≡_, refl}
 use native.Mathlib.Omega.{arith}
-use lib.Dec.{leb}
 use Rattle.colours.specs.declared.Palette.{Palette}
 use Rattle.canvas.specs.Picture.{Area, rowsOf}
-use Rattle.meaning.specs.Commands.{closed}
-use Rattle.meaning.specs.Drawing.{Limits, Setting, Drawing, Outcome, drawAll}
-use Rattle.meaning.specs.Payload.{Parameters, Finished, finished, turnedDown, tooLarge, reported, finish}
-use Rattle.meaning.specs.Reader.{Step, refuse, Run, call}
-use Rattle.meaning.specs.Sessions.{Reading, settled, rested, payloadStep, finishReading, End, Phase, start, introduced, header, within, afterEscape, over, dcsStep, dcsRested, finishDcs}
-use Rattle.meaning.specs.Calls.{ranges, limitsHold, opens, settingFor, Session, Opened, isOpen, notOpened, openWith, Answer, refused, sessionAfter, drawingOf, visibleArea, dcsEnd, feedPayload, finishPayload, feedDcs, finishDcsSession}
-use Rattle.meaning.proofs.AreaLaws.{Sound, drawAll-sound, not-too-large, FourToSeven, drawAll-numbers}
+use Rattle.meaning.specs.Drawing.{Limits, Setting}
+use Rattle.meaning.specs.Reader.{refuse, Run, call}
+use Rattle.meaning.specs.Sessions.{Reading, rested, payloadStep, Phase, dcsStep, dcsRested}
+use Rattle.meaning.specs.Calls.{ranges, limitsHold, opens, Session, notOpened, openWith, refused, sessionAfter, drawingOf, visibleArea, dcsEnd, feedPayload, feedDcs}
 use Rattle.promises.proofs.Choices.{Tells, tells-most, tells-and, later-case}
-use Rattle.promises.proofs.RefusedCommands.{RefusedAt, commands-exactly}
 use Rattle.promises.proofs.RefusedBytes.{byte-numbers, dcs-byte-numbers}
 use Rattle.promises.proofs.RefusedCalls as any
 use Rattle.promises.proofs.RefusedRuns.{RunRefused}
@@ -38,7 +32,7 @@ tells-range : (most n : ℕ) → Tells (ranges most n) (InRange most n)
 unfolding ranges
 tells-range most n = tells-and (tells-most 1 n) (tells-most n most)
 
-tells-opens : (l : Limits) (stride length : ℕ) → Tells (opens l stride length) (Openable l stride length)
+pub tells-opens : (l : Limits) (stride length : ℕ) → Tells (opens l stride length) (Openable l stride length)
 unfolding opens limitsHold
 tells-opens l stride length =
     tells-and
