@@ -88,3 +88,11 @@ module _ {A : Type 0} {t : Bool} {T : Type 0} (k : Tells t T) where
       from : (T × X) ⊎ ((¬ T) × Y) → cond t x y ≡ z
       from (inl h) = ap (λ (u : Bool). cond u x y) (k .1 (h .0)) ∙ k₁ .1 (h .1)
       from (inr h) = ap (λ (u : Bool). cond u x y) (tells-fails k .1 (h .0)) ∙ k₂ .1 (h .1)
+
+  -- something else than the second case: the test holds, and it is what the first case is
+  pub only-case : {x y z : A} {U : Type 0} → ¬ (y ≡ z) → (x ≡ z) ↔ U → (cond t x y ≡ z) ↔ (T × U)
+  only-case {x} {y} {z} {U} other k₁ = (λ e. go t refl e, λ h. ap (λ (u : Bool). cond u x y) (k .1 (h .0)) ∙ k₁ .1 (h .1))
+    where
+      go : (u : Bool) → t ≡ u → cond u x y ≡ z → T × U
+      go true q e = (k .0 q, k₁ .0 e)
+      go false q e = absurd (other e)

@@ -8,6 +8,7 @@ pub mod RefusedRuns
 pub mod RefusedCalls
 pub mod RefusedSessions
 pub mod RefusedFinishes
+pub mod RefusedShots
 pub mod OneAnswers
 pub mod OneNumbers
 pub mod OneCanvas

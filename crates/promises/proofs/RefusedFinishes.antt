@@ -2,16 +2,18 @@
 -- 'Refusal numbers').
 use Prim.Native.Nat.{ℕ, _≤_}
 use mathlib.Core.Bool.{Bool, true, false, cond}
+use mathlib.Core.List.{List}
 use mathlib.Core.Logic.{_↔_, _⊎_, inl, inr}
 use mathlib.Core.Option.{Option, none, some}
 use mathlib.Core.Path.{_≡_, refl, sym, ap, _∙_, subst}
 use native.Mathlib.Omega.{arith}
-use Rattle.meaning.specs.Commands.{closed}
+use Rattle.meaning.specs.Commands.{Placed, closed}
 use Rattle.meaning.specs.Drawing.{Setting, Drawing, Outcome, drawAll}
 use Rattle.meaning.specs.Payload.{Parameters, Finished, finished, turnedDown, reportOf, tooLarge, reported, finish}
 use Rattle.meaning.specs.Sessions.{Reading, settled, finishReading, End, Phase, start, introduced, header, within, afterEscape, over, finishDcs}
 use Rattle.meaning.specs.Calls.{Session, dcsEnd, finishPayload, finishDcsSession}
-use Rattle.meaning.proofs.AreaLaws.{Sound, drawAll-sound, never-ten, FourToSeven, drawAll-numbers, ReportOr4To7, finish-reading}
+use Rattle.meaning.proofs.AreaLaws.{Sound, drawAll-sound, never-ten, FourToSeven, drawAll-numbers, ReportOr4To7}
+use Rattle.meaning.proofs.AreaLaws as numbered
 use Rattle.promises.proofs.RefusedCommands.{RefusedAt, commands-exactly}
 use Rattle.promises.proofs.RefusedCalls as any
 use Rattle.promises.proofs.RefusedSessions.{payloadArea, dcsArea}
@@ -27,39 +29,49 @@ reported-ten s o d {n} e = go (tooLarge s (d .area)) e
     go true e = cc
     go false e = let never : _≡_ {A = ℕ} 0 1 = cc in absurd (omega arith)
 
-module _ (s : Setting) (r : Reading) where
-  -- a reading is turned down with 4 to 7 or 10
-  reading-numbers : (n : ℕ) → finishReading s r ≡ turnedDown n → ((4 ≤ n) × (n ≤ 7)) ⊎ (n ≡ 10)
-  unfolding finishReading finish settled
-  reading-numbers n e = go (settled s r .refusal) refl e
-    where
-      go : (o : Option ℕ) → settled s r .refusal ≡ o
-          → elim o as (λ _. Finished) [ none ↦ reported s (r .parameters) (settled s r .drawing) | some m ↦ turnedDown m ] ≡ turnedDown n
-          → ((4 ≤ n) × (n ≤ 7)) ⊎ (n ≡ 10)
-      go none q e = inr (reported-ten s (r .parameters) (settled s r .drawing) e)
-      go (some m) q e =
-          let number : m ≡ n = cc in
-          inl (subst FourToSeven (q ∙ ap some number) (drawAll-numbers s (closed (r .begun)) (r .drawing)))
+-- any commands, then a finish
+module _ (s : Setting) (o : Parameters) (cs : List Placed) (d : Drawing) (n : ℕ) where
+  abbrev out : Outcome
+  out = drawAll s cs d
 
-  -- A reading whose drawing is sound, as every one that is reached is, is turned down exactly when its pending command is refused.
-  pub pending-exactly : Sound s (r .drawing) → (n : ℕ) → (finishReading s r ≡ turnedDown n) ↔ ((f : Drawing) × RefusedAt s (closed (r .begun)) (r .drawing) f n)
-  unfolding finishReading finish settled
-  pending-exactly sound n = (λ e. to (settled s r .refusal) refl e, λ h. ap (finish s (r .parameters)) (commands-exactly s (closed (r .begun)) (r .drawing) (h .0) n .1 (h .1)))
+  -- it is turned down with 4 to 7, or else with 10
+  pub finish-numbers : finish s o out ≡ turnedDown n → ((4 ≤ n) × (n ≤ 7)) ⊎ (n ≡ 10)
+  unfolding finish
+  finish-numbers e = go (out .refusal) refl e
     where
-      to : (o : Option ℕ) → settled s r .refusal ≡ o → finish s (r .parameters) (settled s r) ≡ turnedDown n → (f : Drawing) × RefusedAt s (closed (r .begun)) (r .drawing) f n
+      go : (x : Option ℕ) → out .refusal ≡ x → elim x as (λ _. Finished) [ none ↦ reported s o (out .drawing) | some m ↦ turnedDown m ] ≡ turnedDown n
+          → ((4 ≤ n) × (n ≤ 7)) ⊎ (n ≡ 10)
+      go none q e = inr (reported-ten s o (out .drawing) e)
+      go (some m) q e = let number : m ≡ n = cc in inl (subst FourToSeven (q ∙ ap some number) (drawAll-numbers s cs d))
+
+  -- Where the drawing is sound, as every one that is reached is, it is turned down exactly when a command is refused.
+  pub finish-exactly : Sound s d → (finish s o out ≡ turnedDown n) ↔ ((f : Drawing) × RefusedAt s cs d f n)
+  unfolding finish
+  finish-exactly sound = (λ e. to (out .refusal) refl e, λ h. ap (finish s o) (commands-exactly s cs d (h .0) n .1 (h .1)))
+    where
+      to : (x : Option ℕ) → out .refusal ≡ x → finish s o out ≡ turnedDown n → (f : Drawing) × RefusedAt s cs d f n
       to none q e =
-          let reports : finish s (r .parameters) (settled s r) ≡ finished (reportOf (r .parameters) (settled s r .drawing)) =
-          never-ten (r .parameters) (drawAll-sound (closed (r .begun)) sound) q in
+          let reports : finish s o out ≡ finished (reportOf o (out .drawing)) = never-ten o (drawAll-sound cs sound) q in
           let never : _≡_ {A = ℕ} 0 1 = cc in absurd (omega arith)
       to (some m) q e =
-          let known : settled s r ≡ record { drawing = settled s r .drawing; refusal = some m } = ap (λ (o : Option ℕ). record { drawing = settled s r .drawing; refusal = o }) q in
-          let down : turnedDown m ≡ turnedDown n = sym (ap (finish s (r .parameters)) known) ∙ e in
+          let known : out ≡ record { drawing = out .drawing; refusal = some m } = ap (λ (x : Option ℕ). record { drawing = out .drawing; refusal = x }) q in
+          let down : turnedDown m ≡ turnedDown n = sym (ap (finish s o) known) ∙ e in
           let number : m ≡ n = cc in
-          (settled s r .drawing, commands-exactly s (closed (r .begun)) (r .drawing) (settled s r .drawing) n .0 (known ∙ ap (λ (k : ℕ). record { drawing = settled s r .drawing; refusal = some k }) number))
+          (out .drawing, commands-exactly s cs d (out .drawing) n .0 (known ∙ ap (λ (k : ℕ). record { drawing = out .drawing; refusal = some k }) number))
 
-  -- 10 is never given.
-  pub ten-never : Sound s (r .drawing) → ¬ (finishReading s r ≡ turnedDown 10)
-  ten-never sound e = let range : (4 ≤ 10) × (10 ≤ 7) = subst ReportOr4To7 e (finish-reading s r sound) in omega arith
+-- 10 is never given.
+pub ten-never : (s : Setting) (o : Parameters) (cs : List Placed) (d : Drawing) → Sound s d → ¬ (finish s o (drawAll s cs d) ≡ turnedDown 10)
+ten-never s o cs d sound e = let range : (4 ≤ 10) × (10 ≤ 7) = subst ReportOr4To7 e (numbered.finish-numbers o cs sound) in omega arith
+
+module _ (s : Setting) (r : Reading) where
+  -- A reading is turned down exactly when its pending command is refused.
+  pub pending-exactly : Sound s (r .drawing) → (n : ℕ) → (finishReading s r ≡ turnedDown n) ↔ ((f : Drawing) × RefusedAt s (closed (r .begun)) (r .drawing) f n)
+  unfolding finishReading settled
+  pending-exactly sound n = finish-exactly s (r .parameters) (closed (r .begun)) (r .drawing) n sound
+
+  reading-numbers : (n : ℕ) → finishReading s r ≡ turnedDown n → ((4 ≤ n) × (n ≤ 7)) ⊎ (n ≡ 10)
+  unfolding finishReading settled
+  reading-numbers n = finish-numbers s (r .parameters) (closed (r .begun)) (r .drawing) n
 
   reading-neither : (n : ℕ) → finishReading s r ≡ turnedDown n → (¬ (n ≡ 8)) × ((¬ (n ≡ 9)) × (¬ (n ≡ 12)))
   reading-neither n e = go (reading-numbers n e)

@@ -143,20 +143,17 @@ module _ (got bs : List ℕ) where
       go (some b) = (λ e. absurd (not-eight (eqb b 0x71) (ends b) e), λ e. nothing (sym e))
 
   -- and no other number
-  pub header-numbers : {n : ℕ} → headerFrom got bs ≡ missing n → (2 ≤ n) × (n ≤ 8)
+  pub header-numbers : {n : ℕ} → headerFrom got bs ≡ missing n → ((2 ≤ n) × (n ≤ 3)) ⊎ (n ≡ 8)
   unfolding refusalAt
   header-numbers {n} e = go (firstOther bs) (sym (header-refusal got bs) ∙ missing-exactly (headerFrom got bs) n .0 e)
     where
-      number : {m : ℕ} → 2 ≤ m → m ≤ 8 → some m ≡ some n → (2 ≤ n) × (n ≤ 8)
-      number {m} low high e = let same : m ≡ n = cc in (omega arith, omega arith)
-
-      byte : (t u : Bool) → _≡_ {A = Option ℕ} (cond t none (cond u (some 2) (some 3))) (some n) → (2 ≤ n) × (n ≤ 8)
+      byte : (t u : Bool) → _≡_ {A = Option ℕ} (cond t none (cond u (some 2) (some 3))) (some n) → ((2 ≤ n) × (n ≤ 3)) ⊎ (n ≡ 8)
       byte true u e = nothing e
-      byte false true e = number (omega arith) (omega arith) e
-      byte false false e = number (omega arith) (omega arith) e
+      byte false true e = let same : 2 ≡ n = cc in inl (omega arith, omega arith)
+      byte false false e = let same : 3 ≡ n = cc in inl (omega arith, omega arith)
 
-      go : (o : Option ℕ) → refusalAt o ≡ some n → (2 ≤ n) × (n ≤ 8)
-      go none e = number (omega arith) (omega arith) e
+      go : (o : Option ℕ) → refusalAt o ≡ some n → ((2 ≤ n) × (n ≤ 3)) ⊎ (n ≡ 8)
+      go none e = let same : 8 ≡ n = cc in inr (sym same)
       go (some b) e = byte (eqb b 0x71) (ends b) e
 
 -- ---- a DCS sequence
@@ -172,7 +169,11 @@ NoIntroducer [] = ⊥
 NoIntroducer (b ∷ bs) = ((b ≡ escape) × NotP bs) ⊎ ((¬ (b ≡ escape)) × (¬ (b ≡ 0x90)))
 
 not-one : (bs : List ℕ) → headerFrom [] bs ≡ missing 1 → ⊥
-not-one bs e = let h : (2 ≤ 1) × (1 ≤ 8) = header-numbers [] bs e in omega arith
+not-one bs e = go (header-numbers [] bs e)
+  where
+    go : ((2 ≤ 1) × (1 ≤ 3)) ⊎ (_≡_ {A = ℕ} 1 8) → ⊥
+    go (inl h) = omega arith
+    go (inr h) = omega arith
 
 after-exactly : (bs : List ℕ) → (afterFirstEscape bs ≡ missing 1) ↔ NotP bs
 unfolding afterFirstEscape
