@@ -9,6 +9,7 @@ pub mod RefusedCalls
 pub mod RefusedSessions
 pub mod RefusedFinishes
 pub mod RefusedShots
+pub mod RefusedCopies
 pub mod OneAnswers
 pub mod OneNumbers
 pub mod OneCanvas
