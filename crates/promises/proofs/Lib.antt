@@ -10,6 +10,7 @@ pub mod RefusedSessions
 pub mod RefusedFinishes
 pub mod RefusedShots
 pub mod RefusedCopies
+pub mod RefusedPayload
 pub mod OneAnswers
 pub mod OneNumbers
 pub mod OneCanvas

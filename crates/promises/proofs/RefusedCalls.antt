@@ -82,7 +82,7 @@ module _ {S : Type 0} (areaOf : S → Area) (s : Session S) (length : ℕ) where
 -- ---- feed
 
 -- a call's answer is a refusal exactly when its bytes are refused
-answered-exactly : {S E : Type 0} (end : S → Option E) (s : Session S) (r : Run S) (n : ℕ) → (answered end s r .answer ≡ refused n) ↔ (r .how ≡ refusedBy n)
+pub answered-exactly : {S E : Type 0} (end : S → Option E) (s : Session S) (r : Run S) (n : ℕ) → (answered end s r .answer ≡ refused n) ↔ (r .how ≡ refusedBy n)
 unfolding answered tells isRefused
 answered-exactly {S} {E} end s r n = go (r .how)
   where
@@ -203,6 +203,18 @@ module _ {S E : Type 0} (areaOf : S → Area) (step : Setting → S → ℕ → 
           let k = answered-exactly end s ran n in
           let r = run-exactly (step (s .setting)) (rest (s .setting)) a (s .state) bs (ran .state) n in
           (λ e. r .0 (k .0 e, refl), λ h. k .1 (r .1 h .0))
+
+  -- 9, 12 and 13 come of the tests before the bytes
+  pub refused-first : (n : ℕ) → 8 ≤ n → fed .answer ≡ refused n → feedRefusal areaOf s length a ≡ some n
+  unfolding feed
+  refused-first n high = go (feedRefusal areaOf s length a)
+    where
+      of : Option ℕ → Fed S E
+      of o = elim o [ none ↦ answered end s ran | some m ↦ record { answer = refused m; session = s } ]
+
+      go : (o : Option ℕ) → of o .answer ≡ refused n → o ≡ some n
+      go none e = absurd (not-run high e)
+      go (some m) e = cc
 
   -- After 9, 12 and 13 the session is as it was.
   pub refused-keeps : (n : ℕ) → 8 ≤ n → fed .answer ≡ refused n → fed .session ≡ s

@@ -3,6 +3,7 @@ use Prim.Native.Nat.{ℕ, _*_, _^_, _≤_, _<_}
 use mathlib.Core.Bool.{true}
 use mathlib.Core.List.{List}
 use mathlib.Core.Logic.{_↔_}
+use mathlib.Core.Option.{some}
 use mathlib.Core.Path.{_≡_, refl}
 use native.Mathlib.Omega.{arith}
 use Rattle.colours.specs.declared.Palette.{Palette}
@@ -10,7 +11,7 @@ use Rattle.canvas.specs.Picture.{Area, rowsOf}
 use Rattle.meaning.specs.Drawing.{Limits, Setting}
 use Rattle.meaning.specs.Reader.{refuse, Run, call}
 use Rattle.meaning.specs.Sessions.{Reading, rested, payloadStep, Phase, dcsStep, dcsRested}
-use Rattle.meaning.specs.Calls.{ranges, limitsHold, opens, Session, notOpened, openWith, refused, sessionAfter, drawingOf, visibleArea, dcsEnd, feedPayload, feedDcs}
+use Rattle.meaning.specs.Calls.{ranges, limitsHold, opens, Session, notOpened, openWith, refused, sessionAfter, drawingOf, visibleArea, dcsEnd, feedRefusal, feedPayload, feedDcs}
 use Rattle.promises.proofs.Choices.{Tells, tells-most, tells-and, later-case}
 use Rattle.promises.proofs.RefusedBytes.{byte-numbers, dcs-byte-numbers}
 use Rattle.promises.proofs.RefusedCalls as any
@@ -87,6 +88,11 @@ module _ (m : Session Reading) (length a : ℕ) (bs : List ℕ) where
   unfolding feedPayload
   payload-bytes = any.bytes-exactly payloadArea payloadStep rested (λ r. r .over) payload-numbers m length a bs
 
+  -- 9, 12 and 13 come of the tests before the bytes.
+  pub payload-first : (n : ℕ) → 8 ≤ n → feedPayload m length a bs .answer ≡ refused n → feedRefusal payloadArea m length a ≡ some n
+  unfolding feedPayload
+  payload-first = any.refused-first payloadArea payloadStep rested (λ r. r .over) payload-numbers m length a bs
+
   -- After 9, 12 and 13 the session is as it was.
   pub payload-keeps : (n : ℕ) → 8 ≤ n → feedPayload m length a bs .answer ≡ refused n → feedPayload m length a bs .session ≡ m
   unfolding feedPayload
@@ -120,6 +126,11 @@ module _ (p : Palette) (m : Session Phase) (length a : ℕ) (bs : List ℕ) wher
       ↔ ((¬ (m .failed ≡ true)) × ((¬ any.Misfits dcsArea m length) × ((¬ (a < 6 * m .setting .limits .width)) × RunRefused (dcsStep (m .setting) p) a (m .state) bs (dcsRan .state) n)))
   unfolding feedDcs
   dcs-bytes = any.bytes-exactly dcsArea (λ c. dcsStep c p) dcsRested dcsEnd (dcs-numbers p) m length a bs
+
+  -- 9, 12 and 13 come of the tests before the bytes.
+  pub dcs-first : (n : ℕ) → 8 ≤ n → feedDcs p m length a bs .answer ≡ refused n → feedRefusal dcsArea m length a ≡ some n
+  unfolding feedDcs
+  dcs-first = any.refused-first dcsArea (λ c. dcsStep c p) dcsRested dcsEnd (dcs-numbers p) m length a bs
 
   -- After 9, 12 and 13 the session is as it was.
   pub dcs-keeps : (n : ℕ) → 8 ≤ n → feedDcs p m length a bs .answer ≡ refused n → feedDcs p m length a bs .session ≡ m
