@@ -53,7 +53,7 @@ answer-known (answers.Stopped n i) x e = let never : _≡_ {A = ℕ} 0 1 = cc in
 answer-known (answers.Ended n i b) x e = let never : _≡_ {A = ℕ} 0 1 = cc in absurd (omega arith)
 answer-known (answers.Refused y) x e = ap answers.Refused (refusal-known (cc))
 
-judged-known : (j : Judged) (x : Refusal) → judgedMeant j ≡ some (numberOf x) → j ≡ judged.Refused x
+pub judged-known : (j : Judged) (x : Refusal) → judgedMeant j ≡ some (numberOf x) → j ≡ judged.Refused x
 unfolding judgedMeant
 judged-known judged.Fine x e = let never : _≡_ {A = ℕ} 0 1 = cc in absurd (omega arith)
 judged-known (judged.Refused y) x e = ap judged.Refused (refusal-known (cc))
