@@ -9,15 +9,21 @@ use mathlib.Core.Path.{_≡_, refl, sym, ap, _∙_, subst}
 use native.Mathlib.Omega.{arith}
 use lib.ListN.{length}
 use Rattle.colours.specs.declared.Palette.{Palette}
+use Rattle.frame.specs.Numbers.{numberOf}
+use Rattle.frame.specs.declared.Refusal.{Refusal}
 use Rattle.meaning.specs.Commands.{commands}
 use Rattle.meaning.specs.Drawing.{Limits, Setting, Drawing, Outcome, blank}
 use Rattle.meaning.specs.OneShot.{Found, found, missing, findPayload, answerOf, oneShot}
 use Rattle.meaning.specs.Payload.{Parameters, payload, Finished, turnedDown, finish}
 use Rattle.meaning.specs.Calls.{opens, settingFor, shown, readOneShot}
 use Rattle.meaning.proofs.AreaLaws.{Sound, opens-roomy, blank-sound}
-use Rattle.oneshot.specs.OneShot.{Read, paletteAfter, readWhole, readPart, readOutcome}
+use Rattle.payload.specs.declared.Finished as coded
+use Rattle.payload.specs.declared.Finishing.{Finishing}
+use Rattle.payload.specs.declared.Finishing.the-variants as finishes
+use Rattle.oneshot.specs.OneShot.{Read, paletteAfter, readWhole, readPart, readOutcome, finishMeant, readMeant}
 use Rattle.oneshot.proofs.WholeLaws.{part-read, part-missing, part-unopened}
 use Rattle.promises.proofs.Choices.{Tells, tells-fails, later-case, only-case}
+use Rattle.promises.proofs.Meanings.{refusal-known}
 use Rattle.promises.proofs.RefusedCommands.{RefusedAt, payload-exactly}
 use Rattle.promises.proofs.RefusedHeaders.{header-numbers, shot-exactly}
 use Rattle.promises.proofs.RefusedSessions.{Openable, tells-opens}
@@ -156,3 +162,30 @@ module _ (l : Limits) (stride : ℕ) (p : Palette) (canvas bs : List ℕ) where
           ∙ ap (λ (x : Outcome). shown stride (some (x .drawing)) canvas) (payload-exactly setting o p part f n .1 k),
         ),
       )
+
+-- ---- of the code: its answer, palette and canvas mean the definition's
+
+module _ (l : Limits) (stride : ℕ) (p : Palette) (canvas bs : List ℕ) (r : coded.Finished) (after : List ℕ) (e : readMeant r after ≡ readWhole l stride p canvas bs) where
+  meant-answer : finishMeant (r .answer) (r .palette) ≡ answer l stride p canvas bs
+  unfolding readMeant readWhole
+  meant-answer = ap (λ (x : Read). x .answer) e
+
+  down-exactly : (y : Finishing) (q : Palette) (x : Refusal) → (y ≡ finishes.Refused x) ↔ (finishMeant y q ≡ turnedDown (numberOf x))
+  unfolding finishMeant
+  down-exactly (finishes.Picture z) q x = (λ e. let never : _≡_ {A = ℕ} 0 1 = cc in absurd (omega arith), λ e. let never : _≡_ {A = ℕ} 0 1 = cc in absurd (omega arith))
+  down-exactly (finishes.Refused y) q x = (λ e. let same : y ≡ x = cc in ap (λ (z : Refusal). turnedDown (numberOf z)) same, λ e. ap finishes.Refused (refusal-known (cc)))
+
+  -- The code's reading is refused with a number exactly when the definition's is.
+  pub read-exactly : (x : Refusal) → (r .answer ≡ finishes.Refused x) ↔ (answer l stride p canvas bs ≡ turnedDown (numberOf x))
+  read-exactly x =
+      let k = down-exactly (r .answer) (r .palette) x in (λ q. sym meant-answer ∙ k .0 q, λ q. k .1 (meant-answer ∙ q))
+
+  -- Then the palette handed back is the owner's.
+  pub read-palette : (x : Refusal) → r .answer ≡ finishes.Refused x → r .palette ≡ p
+  unfolding readMeant
+  read-palette x q = ap (λ (z : Read). z .palette) e ∙ shot-palette l stride p canvas bs (numberOf x) (read-exactly x .0 q)
+
+  -- And the canvas is what the definition says: unwritten on 2, 3, 8 and 11, and on 4 to 7 showing what came before.
+  pub read-canvas : after ≡ outcome l stride p canvas bs .canvas
+  unfolding readMeant
+  read-canvas = ap (λ (z : Read). z .canvas) e
