@@ -12,6 +12,7 @@ pub mod RefusedShots
 pub mod RefusedCopies
 pub mod RefusedPayload
 pub mod RefusedDcs
+pub mod RefusedAborts
 pub mod OneAnswers
 pub mod OneNumbers
 pub mod OneCanvas

@@ -2,7 +2,7 @@
 -- numbers').
 use Prim.Native.Nat.{ℕ, _≤_}
 use mathlib.Core.Bool.{Bool, true, false, cond}
-use mathlib.Core.List.{List}
+use mathlib.Core.List.{List, []}
 use mathlib.Core.Logic.{_↔_, _⊎_, inl, inr}
 use mathlib.Core.Option.{some}
 use mathlib.Core.Path.{_≡_, refl, sym, ap, _∙_, subst}
@@ -15,7 +15,7 @@ use Rattle.meaning.specs.Commands.{commands}
 use Rattle.meaning.specs.Drawing.{Limits, Setting, Drawing, Outcome, blank}
 use Rattle.meaning.specs.OneShot.{Found, found, missing, findPayload, answerOf, oneShot}
 use Rattle.meaning.specs.Payload.{Parameters, payload, Finished, turnedDown, finish}
-use Rattle.meaning.specs.Calls.{opens, settingFor, shown, readOneShot}
+use Rattle.meaning.specs.Calls.{opens, settingFor, shown, readOneShot, partHandedBack}
 use Rattle.meaning.proofs.AreaLaws.{Sound, opens-roomy, blank-sound}
 use Rattle.payload.specs.declared.Finished as coded
 use Rattle.payload.specs.declared.Finishing.{Finishing}
@@ -142,6 +142,14 @@ module _ (l : Limits) (stride : ℕ) (p : Palette) (canvas bs : List ℕ) where
   shot-header-canvas n which e =
       let h = shot-header n which .0 e in
       ap (λ (x : Read). x .canvas) (part-missing l stride p canvas bs (tells-opens l stride (length canvas) .1 (h .0)) (h .1) .1)
+
+  -- and the part handed back is empty
+  pub shot-unopened-part : answer ≡ turnedDown 11 → partHandedBack l stride (length canvas) bs ≡ []
+  shot-unopened-part e = part-unopened l stride p canvas bs (tells-fails (tells-opens l stride (length canvas)) .1 (shot-eleven .0 e)) .0
+
+  pub shot-header-part : (n : ℕ) → (n ≤ 3) ⊎ (n ≡ 8) → answer ≡ turnedDown n → partHandedBack l stride (length canvas) bs ≡ []
+  shot-header-part n which e =
+      let h = shot-header n which .0 e in part-missing l stride p canvas bs (tells-opens l stride (length canvas) .1 (h .0)) (h .1) .0
 
   -- On 4 to 7 the canvas shows what came before the refused command.
   pub shot-bytes-canvas : (n : ℕ) → (4 ≤ n) × (n ≤ 7) → answer ≡ turnedDown n
