@@ -1,0 +1,64 @@
+-- Only one outcome, of every public function of `colours` (One.antt).
+use denote.Ref.{now}
+use Rattle.colours.proofs.pack_rgb.Reads as pack-rgb
+use Rattle.colours.proofs.pack_rgb.Kinds as pack-rgb'
+use Rattle.colours.proofs.pixel.Reads as pixel
+use Rattle.colours.proofs.pixel.Kinds as pixel'
+use Rattle.colours.proofs.rgb_bytes.Reads as rgb-bytes
+use Rattle.colours.proofs.rgb_bytes.Kinds as rgb-bytes'
+use Rattle.colours.proofs.define_rgb.Reads as define-rgb
+use Rattle.colours.proofs.define_rgb.Kinds as define-rgb'
+use Rattle.colours.proofs.define_hls.Reads as define-hls
+use Rattle.colours.proofs.define_hls.Kinds as define-hls'
+use Rattle.colours.proofs.Palette.standard.Reads as palette-standard
+use Rattle.colours.proofs.Palette.standard.Kinds as palette-standard'
+use Rattle.colours.proofs.Palette.reset.Reads as palette-reset
+use Rattle.colours.proofs.Palette.reset.Kinds as palette-reset'
+use Rattle.colours.proofs.Palette.register.Reads as palette-register
+use Rattle.colours.proofs.Palette.register.Kinds as palette-register'
+use Rattle.colours.proofs.Palette.set_rgb_percent.Reads as palette-set-rgb-percent
+use Rattle.colours.proofs.Palette.set_rgb_percent.Kinds as palette-set-rgb-percent'
+use Rattle.colours.proofs.Palette.set_hls.Reads as palette-set-hls
+use Rattle.colours.proofs.Palette.set_hls.Kinds as palette-set-hls'
+use Rattle.colours.proofs.Palette.table.Reads as palette-table
+use Rattle.colours.proofs.Palette.table.Kinds as palette-table'
+use Rattle.colours.proofs.Palette.of_table.Reads as palette-of-table
+use Rattle.colours.proofs.Palette.of_table.Kinds as palette-of-table'
+use Rattle.promises.proofs.Meanings.{table-known}
+use Rattle.promises.proofs.One.{only, One, OneLent}
+
+pub pack-rgb-one : One pack-rgb'.ps pack-rgb'.r pack-rgb.Learnt
+pack-rgb-one κs a z z' e e' p q = only p q
+
+pub pixel-one : One pixel'.ps pixel'.r pixel.Learnt
+pixel-one κs a z z' e e' p q = only p q
+
+pub rgb-bytes-one : One rgb-bytes'.ps rgb-bytes'.r rgb-bytes.Learnt
+rgb-bytes-one κs a z z' e e' p q = only p q
+
+pub define-rgb-one : OneLent define-rgb'.ps define-rgb'.r define-rgb.Learnt (λ κs e. now (e .0))
+define-rgb-one κs a z z' e e' p q = table-known (only p q)
+
+pub define-hls-one : OneLent define-hls'.ps define-hls'.r define-hls.Learnt (λ κs e. now (e .0))
+define-hls-one κs a z z' e e' p q = table-known (only p q)
+
+pub palette-standard-one : One palette-standard'.ps palette-standard'.r palette-standard.Learnt
+palette-standard-one κs a z z' e e' p q = only p q
+
+pub palette-reset-one : One palette-reset'.ps palette-reset'.r palette-reset.Learnt
+palette-reset-one κs a z z' e e' p q = only p q
+
+pub palette-register-one : One palette-register'.ps palette-register'.r palette-register.Learnt
+palette-register-one κs a z z' e e' p q = only p q
+
+pub palette-set-rgb-percent-one : One palette-set-rgb-percent'.ps palette-set-rgb-percent'.r palette-set-rgb-percent.Learnt
+palette-set-rgb-percent-one κs a z z' e e' p q = only p q
+
+pub palette-set-hls-one : One palette-set-hls'.ps palette-set-hls'.r palette-set-hls.Learnt
+palette-set-hls-one κs a z z' e e' p q = only p q
+
+pub palette-table-one : One palette-table'.ps palette-table'.r palette-table.Learnt
+palette-table-one κs a z z' e e' p q = table-known (only p q)
+
+pub palette-of-table-one : One palette-of-table'.ps palette-of-table'.r palette-of-table.Learnt
+palette-of-table-one κs a z z' e e' p q = only p q

@@ -1,0 +1,28 @@
+-- Only one outcome, of every public function of `dcs` (One.antt).
+use denote.Ref.{now}
+use Rattle.dcs.proofs.lead.read_lead.Reads as read-lead
+use Rattle.dcs.proofs.lead.read_lead.Kinds as read-lead'
+use Rattle.dcs.proofs.open.Reads as opening
+use Rattle.dcs.proofs.open.Kinds as opening'
+use Rattle.dcs.proofs.feed.Reads as feed
+use Rattle.dcs.proofs.feed.Kinds as feed'
+use Rattle.dcs.proofs.finish.Reads as finish
+use Rattle.dcs.proofs.finish.Kinds as finish'
+use Rattle.dcs.proofs.abort.Reads as abort
+use Rattle.dcs.proofs.abort.Kinds as abort'
+use Rattle.promises.proofs.One.{only, One, OneWith}
+
+pub read-lead-one : One read-lead'.ps read-lead'.r read-lead.Learnt
+read-lead-one κs a z z' e e' p q = only p q
+
+pub opening-one : One opening'.ps opening'.r opening.Learnt
+opening-one κs a z z' e e' p q = only p q
+
+pub feed-one : OneWith feed'.ps feed'.r feed.Learnt (λ κs e. now (e .1 .0))
+feed-one κs a z z' e e' p q = only p q
+
+pub finish-one : OneWith finish'.ps finish'.r finish.Learnt (λ κs e. now (e .1 .1 .0))
+finish-one κs a z z' e e' p q = only p q
+
+pub abort-one : One abort'.ps abort'.r abort.Learnt
+abort-one κs a z z' e e' p q = only p q

@@ -1,0 +1,68 @@
+-- Only one outcome, of every public function of `payload` (One.antt).
+use denote.Ref.{now}
+use Rattle.payload.proofs.begin.reserve.Reads as reserve
+use Rattle.payload.proofs.begin.reserve.Kinds as reserve'
+use Rattle.payload.proofs.begin.begin.Reads as begin
+use Rattle.payload.proofs.begin.begin.Kinds as begin'
+use Rattle.payload.proofs.begin.fail.Reads as fail
+use Rattle.payload.proofs.begin.fail.Kinds as fail'
+use Rattle.payload.proofs.judge.may_open.Reads as may-open
+use Rattle.payload.proofs.judge.may_open.Kinds as may-open'
+use Rattle.payload.proofs.judge.finish_refusal.Reads as finish-refusal
+use Rattle.payload.proofs.judge.finish_refusal.Kinds as finish-refusal'
+use Rattle.payload.proofs.judge.feed_refusal.Reads as feed-refusal
+use Rattle.payload.proofs.judge.feed_refusal.Kinds as feed-refusal'
+use Rattle.payload.proofs.judge.final_refusal.Reads as final-refusal
+use Rattle.payload.proofs.judge.final_refusal.Kinds as final-refusal'
+use Rattle.payload.proofs.house_limits.Reads as house-limits
+use Rattle.payload.proofs.house_limits.Kinds as house-limits'
+use Rattle.payload.proofs.crate_limits.Reads as crate-limits
+use Rattle.payload.proofs.crate_limits.Kinds as crate-limits'
+use Rattle.payload.proofs.open.Reads as opening
+use Rattle.payload.proofs.open.Kinds as opening'
+use Rattle.payload.proofs.feed.Reads as feed
+use Rattle.payload.proofs.feed.Kinds as feed'
+use Rattle.payload.proofs.finish.Reads as finish
+use Rattle.payload.proofs.finish.Kinds as finish'
+use Rattle.payload.proofs.abort.Reads as abort
+use Rattle.payload.proofs.abort.Kinds as abort'
+use Rattle.promises.proofs.One.{only, One, OneWith}
+
+pub reserve-one : One reserve'.ps reserve'.r reserve.Learnt
+reserve-one κs a z z' e e' p q = only p q
+
+pub begin-one : OneWith begin'.ps begin'.r begin.Learnt (λ κs e. now (e .1 .1 .0))
+begin-one κs a z z' e e' p q = only p q
+
+pub fail-one : One fail'.ps fail'.r fail.Learnt
+fail-one κs a z z' e e' p q = only p q
+
+pub may-open-one : One may-open'.ps may-open'.r may-open.Learnt
+may-open-one κs a z z' e e' p q = only p q
+
+pub finish-refusal-one : One finish-refusal'.ps finish-refusal'.r finish-refusal.Learnt
+finish-refusal-one κs a z z' e e' p q = only p q
+
+pub feed-refusal-one : One feed-refusal'.ps feed-refusal'.r feed-refusal.Learnt
+feed-refusal-one κs a z z' e e' p q = only p q
+
+pub final-refusal-one : One final-refusal'.ps final-refusal'.r final-refusal.Learnt
+final-refusal-one κs a z z' e e' p q = only p q
+
+pub house-limits-one : One house-limits'.ps house-limits'.r house-limits.Learnt
+house-limits-one κs a z z' e e' p q = only p q
+
+pub crate-limits-one : One crate-limits'.ps crate-limits'.r crate-limits.Learnt
+crate-limits-one κs a z z' e e' p q = only p q
+
+pub opening-one : OneWith opening'.ps opening'.r opening.Learnt (λ κs e. now (e .1 .1 .1 .1 .0))
+opening-one κs a z z' e e' p q = only p q
+
+pub feed-one : OneWith feed'.ps feed'.r feed.Learnt (λ κs e. now (e .1 .0))
+feed-one κs a z z' e e' p q = only p q
+
+pub finish-one : OneWith finish'.ps finish'.r finish.Learnt (λ κs e. now (e .1 .1 .0))
+finish-one κs a z z' e e' p q = only p q
+
+pub abort-one : One abort'.ps abort'.r abort.Learnt
+abort-one κs a z z' e e' p q = only p q

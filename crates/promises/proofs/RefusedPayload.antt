@@ -1,0 +1,169 @@
+-- The refusals of the code's payload sessions are the definition's, and leave what document 01 says ('Refusal numbers').
+use Prim.Native.Nat.{ℕ, _≤_}
+use mathlib.Core.Bool.{true}
+use mathlib.Core.List.{List}
+use mathlib.Core.Logic.{_↔_, Iff·trans}
+use mathlib.Core.Option.{Option, none, some}
+use mathlib.Core.Path.{_≡_, refl, sym, ap, _∙_, subst}
+use native.Mathlib.Omega.{arith}
+use lib.ListN.{length}
+use Rattle.colours.specs.declared.Palette.{Palette}
+use Rattle.frame.specs.Numbers.{numberOf}
+use Rattle.frame.specs.declared.Frame.{Frame}
+use Rattle.frame.specs.declared.Limits.{Limits}
+use Rattle.frame.specs.declared.Outcome.{Outcome}
+use Rattle.frame.specs.declared.Outcome.the-variants as outcomes
+use Rattle.frame.specs.declared.Refusal.{Refusal}
+use Rattle.frame.specs.declared.Refusal.the-variants.{Failed, Opening, Canvas}
+use Rattle.frame.specs.Commands.{Ended, ended}
+use Rattle.meaning.specs.Calls as calls
+use Rattle.meaning.specs.Payload as meant
+use Rattle.meaning.specs.Reader.{Run}
+use Rattle.meaning.specs.Sessions.{Reading, opened, payloadStep}
+use Rattle.payload.specs.declared.Answer.{Answer}
+use Rattle.payload.specs.declared.Answer.the-variants as answers
+use Rattle.payload.specs.declared.Fed.{Fed}
+use Rattle.payload.specs.declared.Finished.{Finished}
+use Rattle.payload.specs.declared.Finishing.{Finishing}
+use Rattle.payload.specs.declared.Finishing.the-variants as finishes
+use Rattle.payload.specs.declared.Opened.{Opened}
+use Rattle.payload.specs.declared.Opening.the-variants as openings
+use Rattle.payload.specs.declared.Session.{Session}
+use Rattle.payload.specs.declared.Settings.{Settings}
+use Rattle.payload.specs.declared.judge.Judged.{Judged}
+use Rattle.payload.specs.declared.judge.Judged.the-variants as judged
+use Rattle.payload.specs.Judge.{feedJudged, finishJudged, finalJudged}
+use Rattle.payload.specs.Session.{openedBy, fedAs, fedBy, turnedAway, pictured, finishedIf, finishedIn, finishedLive, finishedAs, finishedBy}
+use Rattle.payload.specs.History.{parametersMeant, limitsMeant, answerMeant, Stands, Opens, isReady, isRefused, Feeds, Finishes, pictures, declines}
+use Rattle.payload.proofs.Openings.{open-stands}
+use Rattle.payload.proofs.Judgements.{judgedMeant, feed-judged, stands-shows}
+use Rattle.payload.proofs.Feedings.{fed-meant, feed-stands}
+use Rattle.payload.proofs.Finishings.{finish-stands}
+use Rattle.promises.proofs.Meanings.{refusal-known}
+use Rattle.promises.proofs.RefusedCalls as any
+use Rattle.promises.proofs.RefusedRuns.{RunRefused}
+use Rattle.promises.proofs.RefusedSessions.{payloadArea, Openable, eleven-exactly, payloadRan, payload-nine, payload-twelve, payload-first, payload-bytes, payload-fails}
+
+-- ---- a refusal is known by its number
+
+answer-known : (y : Answer) (x : Refusal) → answerMeant y ≡ calls.refused (numberOf x) → y ≡ answers.Refused x
+unfolding answerMeant
+answer-known (answers.More n i) x e = let never : _≡_ {A = ℕ} 0 1 = cc in absurd (omega arith)
+answer-known (answers.Stopped n i) x e = let never : _≡_ {A = ℕ} 0 1 = cc in absurd (omega arith)
+answer-known (answers.Ended n i b) x e = let never : _≡_ {A = ℕ} 0 1 = cc in absurd (omega arith)
+answer-known (answers.Refused y) x e = ap answers.Refused (refusal-known (cc))
+
+pub judged-known : (j : Judged) (x : Refusal) → judgedMeant j ≡ some (numberOf x) → j ≡ judged.Refused x
+unfolding judgedMeant
+judged-known judged.Fine x e = let never : _≡_ {A = ℕ} 0 1 = cc in absurd (omega arith)
+judged-known (judged.Refused y) x e = ap judged.Refused (refusal-known (cc))
+
+module _ {opening : List ℕ} {s : Session} {l : List ℕ} {m : calls.Session Reading} (k : Stands opening s l m) (bs : List ℕ) (a : ℕ) where
+  -- ---- feed
+
+  -- The code's feed is refused with a number exactly when the definition's is.
+  pub payload-feed-exactly : (x : Refusal) → (fedBy s l bs a .0 .answer ≡ answers.Refused x) ↔ (calls.feedPayload m (length l) a bs .answer ≡ calls.refused (numberOf x))
+  unfolding answerMeant
+  payload-feed-exactly x = (
+    λ e. sym (feed-stands k bs a .answer) ∙ ap answerMeant e,
+    λ e. answer-known (fedBy s l bs a .0 .answer) x (feed-stands k bs a .answer ∙ e),
+  )
+
+  -- refused before a byte is read, whichever canvas is lent
+  refused-before : (lent : List ℕ) (x : Refusal) → calls.feedRefusal payloadArea m (length lent) a ≡ some (numberOf x)
+      → fedBy s lent bs a ≡ (record { answer = answers.Refused x; session = s }, lent)
+  unfolding fedBy fedAs
+  refused-before lent x e =
+      ap (λ (j : Judged). fedAs j s lent bs a) (judged-known (feedJudged s (length lent) a) x (feed-judged k (length lent) a ∙ e))
+
+  -- 9, 12 and 13 leave the session and every byte of the canvas as they were.
+  pub payload-feed-keeps : (x : Refusal) → 8 ≤ numberOf x → fedBy s l bs a .0 .answer ≡ answers.Refused x
+      → fedBy s l bs a ≡ (record { answer = answers.Refused x; session = s }, l)
+  payload-feed-keeps x high e = refused-before l x (payload-first m (length l) a bs (numberOf x) high (payload-feed-exactly x .0 e))
+
+  -- A failed session is 9, whichever canvas is lent, and all stays as it was.
+  pub payload-feed-nine : (lent : List ℕ) → m .failed ≡ true → fedBy s lent bs a ≡ (record { answer = answers.Refused Failed; session = s }, lent)
+  unfolding numberOf
+  payload-feed-nine lent h = refused-before lent Failed (payload-first m (length lent) a bs 9 (omega arith) (payload-nine m (length lent) a bs .1 h))
+
+  -- Another is 12 on a canvas that does not fit, and all stays as it was.
+  pub payload-feed-twelve : (lent : List ℕ) → ¬ (m .failed ≡ true) → any.Misfits payloadArea m (length lent)
+      → fedBy s lent bs a ≡ (record { answer = answers.Refused Canvas; session = s }, lent)
+  unfolding numberOf
+  payload-feed-twelve lent h misfit =
+      refused-before lent Canvas (payload-first m (length lent) a bs 12 (omega arith) (payload-twelve m (length lent) a bs .1 (h, misfit)))
+
+  -- 4 to 7 leave the canvas showing what came before the refused byte or command.
+  pub payload-feed-shows : (x : Refusal) → numberOf x ≤ 7 → fedBy s l bs a .0 .answer ≡ answers.Refused x
+      → RunRefused (payloadStep (m .setting)) a (m .state) bs (payloadRan m (length l) a bs .state) (numberOf x)
+      × (fedBy s l bs a .1 ≡ calls.shown (m .setting .stride) (some (payloadRan m (length l) a bs .state .drawing)) opening)
+  unfolding calls.payloadShown calls.sessionAfter
+  payload-feed-shows x low e =
+      let d = payload-feed-exactly x .0 e in (
+        payload-bytes m (length l) a bs (numberOf x) low .0 d .1 .1 .1,
+        stands-shows (feed-stands k bs a .session) ∙ ap (λ (t : calls.Session Reading). calls.payloadShown t opening) (payload-fails m (length l) a bs (numberOf x) low d),
+      )
+
+-- ---- finish
+
+-- a finish that is the definition's is refused exactly when it is
+pub finishes-exactly : {picture l : List ℕ} {owner : Palette} {y : Finished × List ℕ} {z : meant.Finished} → Finishes picture owner l y z → (x : Refusal)
+    → (y .0 .answer ≡ finishes.Refused x) ↔ (z ≡ meant.turnedDown (numberOf x))
+finishes-exactly pictures x = (λ e. let never : _≡_ {A = ℕ} 0 1 = cc in absurd (omega arith), λ e. let never : _≡_ {A = ℕ} 0 1 = cc in absurd (omega arith))
+finishes-exactly (declines n) x = (λ e. let same : n ≡ x = cc in ap (λ (y : Refusal). meant.turnedDown (numberOf y)) same, λ e. ap finishes.Refused (refusal-known (cc)))
+
+-- The code's finish is refused with a number exactly when the definition's is.
+pub payload-finish-exactly : {opening : List ℕ} {s : Session} {l : List ℕ} {m : calls.Session Reading} → Stands opening s l m → (owner : Palette) (x : Refusal)
+    → (finishedBy s owner l .0 .answer ≡ finishes.Refused x) ↔ (calls.finishPayload m (length l) ≡ meant.turnedDown (numberOf x))
+payload-finish-exactly k owner = finishes-exactly (finish-stands k owner)
+
+-- a refused finish is this
+abbrev pub Untouched : Palette → List ℕ → Finished × List ℕ → Type 0
+Untouched owner canvas y = (x : Refusal) → y .0 .answer ≡ finishes.Refused x → (y .0 .palette ≡ owner) × (y .1 ≡ canvas)
+
+module _ (s : Session) (owner : Palette) (canvas : List ℕ) where
+  judged-keeps : (j : Judged) (last : Frame) (p : Palette) → Untouched owner canvas (finishedIf j s owner last p canvas)
+  unfolding finishedIf pictured turnedAway
+  judged-keeps judged.Fine last p x e = let never : _≡_ {A = ℕ} 0 1 = cc in absurd (omega arith)
+  judged-keeps (judged.Refused n) last p x e = (refl, refl)
+
+  outcome-keeps : (o : Outcome) (last : Frame) (p : Palette) → Untouched owner canvas (finishedIn o s owner last p canvas)
+  unfolding finishedIn turnedAway
+  outcome-keeps outcomes.Read last p = judged-keeps (finalJudged (last .sheet) (s .ground)) last p
+  outcome-keeps outcomes.Settled last p = judged-keeps (finalJudged (last .sheet) (s .ground)) last p
+  outcome-keeps outcomes.Stopped last p = judged-keeps (finalJudged (last .sheet) (s .ground)) last p
+  outcome-keeps (outcomes.Ended b) last p = judged-keeps (finalJudged (last .sheet) (s .ground)) last p
+  outcome-keeps (outcomes.Refused n) last p = λ x e. (refl, refl)
+
+  finish-keeps : (j : Judged) → Untouched owner canvas (finishedAs j s owner canvas)
+  unfolding finishedAs finishedLive turnedAway
+  finish-keeps judged.Fine =
+      let e : Ended = ended (s .frame) (s .ground) (s .palette) in outcome-keeps (e .stepped .outcome) (e .stepped .frame) (e .palette)
+  finish-keeps (judged.Refused n) = λ x e. (refl, refl)
+
+  -- Every refused finish, of whichever session and canvas, hands back the owner's palette and writes nothing.
+  pub payload-finish-keeps : Untouched owner canvas (finishedBy s owner canvas)
+  unfolding finishedBy
+  payload-finish-keeps = finish-keeps (finishJudged s (length canvas))
+
+-- ---- opening
+
+-- The code's opening is 11 exactly when a number is out of its range or there is no whole row.
+pub payload-open-exactly : (l : Limits) (stride : ℕ) (o : Settings) (p : Palette) (opening : List ℕ)
+    → (openedBy l stride o p opening .0 .answer ≡ openings.Refused Opening) ↔ (¬ Openable (limitsMeant l) stride (length opening))
+unfolding calls.openPayload numberOf
+payload-open-exactly l stride o p opening =
+    Iff·trans (go (open-stands l stride o p opening)) (eleven-exactly (limitsMeant l) stride (length opening) (opened (parametersMeant o) p))
+  where
+    go : {y : Opened × List ℕ} {z : calls.Opened Reading} → Opens opening y z → (y .0 .answer ≡ openings.Refused Opening) ↔ (z ≡ calls.notOpened (numberOf Opening))
+    go (isReady k) = (λ e. let never : _≡_ {A = ℕ} 0 1 = cc in absurd (omega arith), λ e. let never : _≡_ {A = ℕ} 0 1 = cc in absurd (omega arith))
+    go (isRefused n) = (λ e. let same : n ≡ Opening = cc in ap (λ (y : Refusal). calls.notOpened (numberOf y)) same, λ e. ap openings.Refused (refusal-known (cc)))
+
+-- A refused opening writes nothing.
+pub payload-open-keeps : (l : Limits) (stride : ℕ) (o : Settings) (p : Palette) (opening : List ℕ) (x : Refusal)
+    → openedBy l stride o p opening .0 .answer ≡ openings.Refused x → openedBy l stride o p opening .1 ≡ opening
+payload-open-keeps l stride o p opening x = go (open-stands l stride o p opening)
+  where
+    go : {y : Opened × List ℕ} {z : calls.Opened Reading} → Opens opening y z → y .0 .answer ≡ openings.Refused x → y .1 ≡ opening
+    go (isReady k) e = let never : _≡_ {A = ℕ} 0 1 = cc in absurd (omega arith)
+    go (isRefused n) e = refl
