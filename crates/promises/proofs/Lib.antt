@@ -22,3 +22,4 @@ pub mod OneFrame
 pub mod OnePayload
 pub mod OneDcs
 pub mod OneOneshot
+pub mod Demands
