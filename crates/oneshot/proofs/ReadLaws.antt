@@ -1,5 +1,5 @@
--- Reading a part: opening, feeds until all is read, and the finish come to what the part means.
-use Prim.Native.Nat.{ℕ, _+_, _-_, _≤_, _<_}
+-- Reading a part: opening, feeds of pieces until all is read, and the finish come to what the part means.
+use Prim.Native.Nat.{ℕ, _+_, _-_, _*_, _≤_, _<_}
 use mathlib.Core.Bool.{true, false}
 use mathlib.Core.List.{List, [], _∷_}
 use mathlib.Core.Option.{Option, none, some}
@@ -7,18 +7,17 @@ use mathlib.Core.Path.{_≡_, refl, sym, ap, ap₂, subst, _∙_}
 use native.Mathlib.Omega.{arith}
 use denote.Enum.Declared.{tagOf}
 use lib.ListN.{length, take, drop}
-use types.Run.{OneOf}
+use types.Run.{OneOf, miss}
 use Rattle.numbers.proofs.Laws.{cond-yes}
 use Rattle.colours.specs.declared.Palette.{Palette}
 use Rattle.frame.specs.declared.Limits.{Limits}
 use Rattle.frame.specs.declared.Refusal.{Refusal}
 use Rattle.frame.specs.Numbers.{numberOf}
-use Rattle.agreement.specs.Same.{canvasOf}
 use Rattle.meaning.specs.Calls as calls
 use Rattle.meaning.specs.Commands.{argued, Begun, closed}
 use Rattle.meaning.specs.Drawing.{Setting, Drawing, Outcome, Drawn, drawn, refused, andThen, drawCommand, drawAll}
 use Rattle.meaning.specs.Payload as meant
-use Rattle.meaning.specs.Reader.{readAll, stopped, refusedBy, isRefused, Run, after}
+use Rattle.meaning.specs.Reader.{How, readAll, stopped, halted, refusedBy, Run, after}
 use Rattle.meaning.specs.Sessions.{Reading, opened, settled, finishReading}
 use Rattle.meaning.proofs.AreaLaws.{Sound, drawAll-sound, never-ten}
 use Rattle.meaning.proofs.PayloadLaws.{readPayload, reading-settled, reading-finish, reading-refused}
@@ -30,20 +29,35 @@ use Rattle.payload.specs.declared.Finishing.the-variants as finishes
 use Rattle.payload.specs.declared.Opened.{Opened}
 use Rattle.payload.specs.declared.Session.{Session}
 use Rattle.payload.specs.declared.Settings.{Settings}
-use Rattle.payload.specs.History.{parametersMeant, settingMeant, answerMeant, reportMeant, Stands, Finishes, pictures, declines, howTold}
+use Rattle.payload.specs.History.{parametersMeant, limitsMeant, settingMeant, answerMeant, reportMeant, Stands, Finishes, pictures, declines, howTold}
 use Rattle.payload.specs.Judge.{openable}
 use Rattle.payload.specs.Session.{backgroundFor, sessionFor, openedBy, fedBy, finishedBy}
 use Rattle.payload.proofs.Answer as AnswerType
 use Rattle.payload.proofs.Finishings.{finish-stands}
-use Rattle.payload.proofs.Judgements.{stands-long}
+use Rattle.payload.proofs.Judgements.{stands-shows}
 use Rattle.payload.proofs.Openings.{ready-stands}
-use Rattle.oneshot.specs.OneShot.{paletteAfter, readOutcome, readPart, finishMeant, readMeant}
-use Rattle.oneshot.proofs.StandLaws.{allowance, Lives, finish-lives, plain, plain-refused, plain-read}
+use Rattle.oneshot.specs.OneShot.{pieceEnd, paletteAfter, readOutcome, readPart, finishMeant, readMeant}
+use Rattle.oneshot.proofs.StandLaws.{sessionIn, Lives, finish-lives}
 use Rattle.payload.specs.declared.Life.the-variants as life
 use Rattle.payload.specs.declared.Opening.the-variants as openings
 use Rattle.canvas.specs.Picture.{span}
 use Rattle.canvas.specs.Paint.{painted}
-use Rattle.oneshot.proofs.FeedLaws.{Left, Midway, midway-start, going-told, refused-going, read-going, run, run-how, after-stands, after-lives, stop-more, stop-within, left-again, whole}
+use Rattle.oneshot.proofs.FeedLaws.{Piece, piece-end, Left, Midway, midway-start, Came, came-all, run, feeds, stop-more, stop-within, stop-left, read-whole, read-left, whole, came-end}
+
+-- a refused call neither stopped nor read all
+refused-going : {h : How} {n : ℕ} → h ≡ refusedBy n → h ≡ stopped → ⊥
+refused-going e z = let never : _≡_ {A = ℕ} 0 1 = cc in omega arith
+
+refused-read : {h : How} {n : ℕ} → h ≡ refusedBy n → h ≡ readAll → ⊥
+refused-read e z = let never : _≡_ {A = ℕ} 0 1 = cc in omega arith
+
+-- an answer that says the end has come
+ended-told : (a : Answer) → OneOf (2 ∷ []) (tagOf AnswerType.the-type a) → howTold (answerMeant a) ≡ halted
+unfolding howTold answerMeant
+ended-told (answers.More n i) h = absurd (miss (2 ∷ []) 0 tt h)
+ended-told (answers.Stopped n i) h = absurd (miss (2 ∷ []) 1 tt h)
+ended-told (answers.Ended n i b) h = refl
+ended-told (answers.Refused n) h = absurd (miss (2 ∷ []) 3 tt h)
 
 -- ---- a finish
 
@@ -83,6 +97,40 @@ finishes-read {owner = owner} s o opening out (pictures {r} {p}) e shows keeps =
 finishes-read {owner = owner} s o opening out (declines n) e shows keeps =
     ap₂ (λ (a : meant.Finished) (c : List ℕ). record { answer = a; palette = paletteAfter a owner; canvas = c }) e (keeps (numberOf n) refl)
 
+-- ---- the finish of a session that has come to what its part comes to
+
+module _ (s : Setting) (o : meant.Parameters) (p : Palette) (opening part : List ℕ) {z : Session} {l : List ℕ} (c : Came opening s (readPayload s o p part) z l) where
+  -- the definition's session
+  abbrev last : calls.Session Reading
+  last = sessionIn opening s (readPayload s o p part .state) false
+
+  finishing : calls.finishPayload last (length l) ≡ finishReading s (readPayload s o p part .state)
+  finishing = finish-lives (c .stands)
+
+  settles : settled s (readPayload s o p part .state) ≡ meant.payload s o p part
+  settles = reading-settled s o p part (c .fine)
+
+  -- the picture of the part
+  painted-part : List ℕ
+  painted-part = calls.shown (s .stride) (some (meant.payload s o p part .drawing)) opening
+
+  pictured : calls.payloadShownAtFinish last opening ≡ painted-part
+  unfolding calls.payloadShownAtFinish painted-part
+  pictured = ap (λ (out : Outcome). calls.shown (s .stride) (some (out .drawing)) opening) settles
+
+  declined : (n : ℕ) → calls.finishPayload last (length l) ≡ meant.turnedDown n → l ≡ painted-part
+  unfolding painted-part calls.payloadShown
+  declined n k =
+      stands-shows (c .stands)
+      ∙ ap (λ (d : Drawing). calls.shown (s .stride) (some d) opening)
+      (sym (declined-keeps s (readPayload s o p part .state) (c .stands .drawing .sound) (sym finishing ∙ k)) ∙ ap (λ (out : Outcome). out .drawing) settles)
+
+  finished-part : {r : Finished} {l₁ : List ℕ} → (r, l₁) ≡ finishedBy z p l → readMeant r l₁ ≡ readPart s o p opening part
+  unfolding readPart painted-part
+  finished-part k =
+      ap (λ (y : Finished × List ℕ). readMeant (y .0) (y .1)) k
+      ∙ finishes-read s o opening _ (finish-stands (c .stands) p) (finishing ∙ reading-finish s o p part (c .fine)) pictured declined
+
 -- ---- a part
 
 module _ (l : Limits) (stride : ℕ) (o : Settings) (p : Palette) (opening : List ℕ) (pre : openable l stride (length opening) ≡ true) {y : Opened} {l₀ : List ℕ} (e : (y, l₀) ≡ openedBy l stride o p opening) where
@@ -92,142 +140,75 @@ module _ (l : Limits) (stride : ℕ) (o : Settings) (p : Palette) (opening : Lis
   abbrev given : meant.Parameters
   given = parametersMeant o
 
-  -- the session that the definition opens
-  first : calls.Session Reading
-  first =
-      record {
-        setting = settingMeant l stride (length opening);
-        length = length opening;
-        state = opened given p;
-        failed = false;
-      }
-
   ready : _≡_ {A = Opened × List ℕ} (y, l₀)
       (record { answer = openings.Ready; session = sessionFor l stride (length opening) o p life.Live }, painted (span 0 1) (backgroundFor p (o .p2)) opening)
   unfolding openedBy
   ready = e ∙ cond-yes _ _ pre
 
-  first-stands : Stands opening (y .session) l₀ first
-  unfolding first
-  first-stands = subst (λ (z : Opened × List ℕ). Stands opening (z .0 .session) (z .1) first) (sym ready) (ready-stands l stride o p opening pre)
+  -- the session that the definition opens
+  first-lives : Lives opening setting (opened given p) (y .session) l₀
+  unfolding opened
+  first-lives =
+      record {
+        stands = subst (λ (z : Opened × List ℕ). Stands opening (z .0 .session) (z .1) (sessionIn opening setting (opened given p) false)) (sym ready) (ready-stands l stride o p opening pre);
+        going = λ z. let never : _≡_ {A = ℕ} 0 1 = cc in omega arith;
+      }
 
-  first-lives : Lives opening (y .session) l₀ first
-  unfolding first
-  first-lives = record { stands = first-stands; live = refl; kept = stands-long first-stands }
+  module _ {a : ℕ} (enough : 6 * l .width ≤ a) {part lc : List ℕ} {s : Session} {at : ℕ} (mid : Midway a (y .session) l₀ part lc s at) {end : ℕ} (chunk : ℕ) (g : end ≡ pieceEnd at (length part) chunk) {x : Fed} {l₁ : List ℕ} (f : (x, l₁) ≡ fedBy s lc (take (end - at) (drop at part)) a) where
+    wide : 6 * setting .limits .width ≤ a
+    unfolding settingMeant limitsMeant calls.settingFor
+    wide = enough
 
-  module _ {part lc : List ℕ} {s : Session} {at : ℕ} (mid : Midway (y .session) l₀ part lc s at) {x : Fed} {l₁ : List ℕ} (f : (x, l₁) ≡ fedBy s lc (take (length part - at) (drop at part)) allowance) where
-    left : Left opening part first lc s at
-    left = mid .left first-lives
+    piece : Piece at end (length part)
+    piece = piece-end chunk (mid .within) g
+
+    left : Left opening part setting (opened given p) lc s at
+    left = mid .left first-lives wide
 
     -- a stop goes on
-    again-more : {n i : ℕ} → x .answer ≡ answers.Stopped n i → 0 < n
-    again-more a = stop-more left f a
+    pub stop-in : {n i : ℕ} → x .answer ≡ answers.Stopped n i → at + n ≤ length part
+    stop-in a = omega (arith, stop-within left wide piece f a, piece .from, piece .to)
 
-    pub again-within : {n i : ℕ} → x .answer ≡ answers.Stopped n i → at + n ≤ length part
-    again-within a = omega (arith, stop-within left f a, mid .within)
+    pub stop-less : {n i : ℕ} → x .answer ≡ answers.Stopped n i → length part - (at + n) < length part - at
+    stop-less a = omega (arith, stop-more left wide piece f a, stop-in a)
 
-    pub again-less : {n i : ℕ} → x .answer ≡ answers.Stopped n i → length part - (at + n) < length part - at
-    again-less a = omega (arith, again-more a, again-within a)
+    pub stop-again : {n i : ℕ} → x .answer ≡ answers.Stopped n i → length l₁ ≡ length lc → Midway a (y .session) l₀ part l₁ (x .session) (at + n)
+    stop-again a kept =
+        record { within = stop-in a; kept = kept ∙ mid .kept; left = λ {opening} {t} {first} h wide. stop-left (mid .left h wide) wide piece f a }
 
-    pub midway-again : {n i : ℕ} → x .answer ≡ answers.Stopped n i → length l₁ ≡ length lc → Midway (y .session) l₀ part l₁ (x .session) (at + n)
-    midway-again a kept =
-        record { within = again-within a; kept = kept ∙ mid .kept; left = λ {opening} {m} h. left-again (mid .left h) f a }
+    -- so does a piece that was all read, unless nothing is left
+    pub read-in : {n i : ℕ} → x .answer ≡ answers.More n i → at + n ≤ length part
+    read-in a = omega (arith, read-whole left wide piece f a, piece .from, piece .to)
 
-    -- the reading of the whole part
-    reading : Run Reading
-    reading = readPayload setting given p part
+    pub read-less : {n i : ℕ} → x .answer ≡ answers.More n i → (at + n ≡ length part → ⊥) → length part - (at + n) < length part - at
+    read-less a other =
+        let more : at < end = piece .filled (omega (arith, read-in a)) in
+        omega (arith, read-whole left wide piece f a, read-in a)
 
-    came : (run left f .how ≡ stopped → ⊥) → reading ≡ after (left .consumed) (left .ink) (run left f)
-    unfolding reading first
-    came h = whole left f h
-
-    same-setting : left .here .setting ≡ setting
-    unfolding first
-    same-setting = left .setting
-
-    -- the canvas shows what was read
-    module _ (h : run left f .how ≡ stopped → ⊥) where
-      same-state : reading .state ≡ run left f .state
-      unfolding after
-      same-state = ap (λ (r : Run Reading). r .state) (came h)
-
-      same-how : reading .how ≡ run left f .how
-      unfolding after
-      same-how = ap (λ (r : Run Reading). r .how) (came h)
-
-      shows-read : l₁ ≡ calls.shown (setting .stride) (some (reading .state .drawing)) opening
-      unfolding calls.shown calls.sessionAfter canvasOf
-      shows-read =
-          after-stands left f refl .drawing .canvas
-          ∙ ap₂ (λ (t : Setting) (r : Reading). canvasOf t (r .drawing) opening) same-setting (sym same-state)
+    pub read-again : {n i : ℕ} → x .answer ≡ answers.More n i → length l₁ ≡ length lc → Midway a (y .session) l₀ part l₁ (x .session) (at + n)
+    read-again a kept =
+        record { within = read-in a; kept = kept ∙ mid .kept; left = λ {opening} {t} {first} h wide. read-left (mid .left h wide) wide piece f a }
 
     -- a refusal is the part's
     pub part-refused : {n : Refusal} {r : Finished} → x .answer ≡ answers.Refused n → r ≡ record { answer = finishes.Refused n; palette = p }
         → readMeant r l₁ ≡ readPart setting given p opening part
-    unfolding plain howTold answerMeant readMeant finishMeant readPart readOutcome paletteAfter meant.finish reading
+    unfolding howTold answerMeant readMeant finishMeant readPart readOutcome paletteAfter meant.finish after calls.payloadShown
     part-refused {n} a k =
-        let how : run left f .how ≡ refusedBy (numberOf n) = plain-refused (run left f .how) (run-how left f ∙ ap (λ (b : Answer). plain (howTold (answerMeant b))) a) in
-        let going : run left f .how ≡ stopped → ⊥ = refused-going how in
+        let how : run left wide piece f .how ≡ refusedBy (numberOf n) = sym (feeds left wide piece f .how) ∙ ap (λ (b : Answer). howTold (answerMeant b)) a in
+        let came : readPayload setting given p part ≡ after (left .consumed) (left .ink) (run left wide piece f) = whole left wide piece f (refused-going how) (refused-read how) in
+        let shows : l₁ ≡ calls.shown (setting .stride) (some (readPayload setting given p part .state .drawing)) opening = stands-shows (feeds left wide piece f .stands) ∙ ap (λ (q : Run Reading). calls.shown (setting .stride) (some (q .state .drawing)) opening) (sym came) in
         ap (λ (z : Finished). readMeant z l₁) k
-        ∙ ap (λ (c : List ℕ). record { answer = meant.turnedDown (numberOf n); palette = p; canvas = c }) (shows-read going)
-        ∙ ap (readOutcome setting given p opening)
-        (sym (reading-refused setting given p part (same-how going ∙ how)))
+        ∙ ap (λ (c : List ℕ). record { answer = meant.turnedDown (numberOf n); palette = p; canvas = c }) shows
+        ∙ ap (readOutcome setting given p opening) (sym (reading-refused setting given p part (ap (λ (q : Run Reading). q .how) came ∙ how)))
 
-    -- and so is what a finish answers
-    module _ (a : OneOf (0 ∷ 2 ∷ []) (tagOf AnswerType.the-type (x .answer))) where
-      fine : plain (run left f .how) ≡ readAll
-      fine = run-how left f ∙ going-told (x .answer) a
+    -- after the last piece
+    pub part-read : {n i : ℕ} {r : Finished} {l₂ : List ℕ} → x .answer ≡ answers.More n i → at + n ≡ length part → (r, l₂) ≡ finishedBy (x .session) p l₁
+        → readMeant r l₂ ≡ readPart setting given p opening part
+    part-read a h = finished-part setting given p opening part (came-all (read-left left wide piece f a) h)
 
-      going : run left f .how ≡ stopped → ⊥
-      going = read-going fine
+    -- after an end
+    pub part-ended : {r : Finished} {l₂ : List ℕ} → OneOf (2 ∷ []) (tagOf AnswerType.the-type (x .answer)) → (r, l₂) ≡ finishedBy (x .session) p l₁
+        → readMeant r l₂ ≡ readPart setting given p opening part
+    part-ended a = finished-part setting given p opening part (came-end left wide piece f (ended-told (x .answer) a))
 
-      unrefused : isRefused (run left f .how) ≡ false
-      unrefused = plain-read (run left f .how) fine
-
-      lives : Lives opening (x .session) l₁ (calls.sessionAfter (left .here) (run left f .state) false)
-      lives = after-lives left f unrefused
-
-      finishing : calls.finishPayload (calls.sessionAfter (left .here) (run left f .state) false) (length l₁) ≡ finishReading setting (reading .state)
-      unfolding calls.sessionAfter
-      finishing = finish-lives lives ∙ ap₂ finishReading same-setting (sym (same-state going))
-
-      settles : settled setting (reading .state) ≡ meant.payload setting given p part
-      unfolding reading
-      settles =
-          reading-settled setting given p part (ap isRefused (same-how going) ∙ unrefused)
-
-      sound : Sound setting (reading .state .drawing)
-      unfolding calls.sessionAfter
-      sound =
-          subst (λ (r : Reading). Sound setting (r .drawing)) (sym (same-state going))
-          (subst (λ (t : Setting). Sound t (run left f .state .drawing)) same-setting (lives .stands .drawing .sound))
-
-      -- the picture of the part
-      painted-part : List ℕ
-      painted-part =
-          calls.shown (setting .stride)
-          (some (meant.payload setting given p part .drawing)) opening
-
-      pictured : calls.payloadShownAtFinish (calls.sessionAfter (left .here) (run left f .state) false) opening ≡ painted-part
-      unfolding calls.payloadShownAtFinish calls.sessionAfter painted-part
-      pictured =
-          ap₂ (λ (t : Setting) (r : Reading). calls.shown (t .stride) (some (settled t r .drawing)) opening) same-setting (sym (same-state going))
-          ∙ ap (λ (out : Outcome). calls.shown (setting .stride) (some (out .drawing)) opening) settles
-
-      declined : (n : ℕ) → calls.finishPayload (calls.sessionAfter (left .here) (run left f .state) false) (length l₁) ≡ meant.turnedDown n → l₁ ≡ painted-part
-      unfolding painted-part
-      declined n z =
-          shows-read going
-          ∙ ap (λ (d : Drawing). calls.shown (setting .stride) (some d) opening)
-          (sym (declined-keeps setting (reading .state) sound (sym finishing ∙ z)) ∙ ap (λ (out : Outcome). out .drawing) settles)
-
-      pub part-finished : {r : Finished} {l₂ : List ℕ} → (r, l₂) ≡ finishedBy (x .session) p l₁
-          → readMeant r l₂ ≡ readPart setting given p opening part
-      unfolding readPart painted-part reading
-      part-finished k =
-          ap (λ (z : Finished × List ℕ). readMeant (z .0) (z .1)) k
-          ∙ finishes-read setting given opening _ (finish-stands (lives .stands) p)
-          (finishing ∙ reading-finish setting given p part (ap isRefused (same-how going) ∙ unrefused))
-          pictured declined
-
-pub ruleset parts-read = (midway-start, again-within, again-less, midway-again, part-refused, part-finished)
+pub ruleset parts-read = (midway-start, stop-in, stop-less, stop-again, read-in, read-less, read-again, part-refused, part-read, part-ended)

@@ -1,14 +1,16 @@
 -- Reading all at once: one law for each way through it.
-use Prim.Native.Nat.{ℕ, _-_}
+use Prim.Native.Nat.{ℕ, _-_, _*_, _≤_}
 use mathlib.Core.Bool.{Bool, true, false, cond}
 use mathlib.Core.List.{List, []}
 use mathlib.Core.Path.{_≡_, refl, sym, ap, _∙_}
+use native.Mathlib.Omega.{arith}
 use lib.ListN.{length, take, drop}
 use Rattle.colours.specs.declared.Palette.{Palette}
 use Rattle.frame.specs.Numbers.{numberOf}
 use Rattle.frame.specs.declared.Limits.{Limits}
 use Rattle.frame.specs.declared.Refusal.{Refusal}
 use Rattle.frame.specs.declared.Refusal.the-variants as refusals
+use Rattle.agreement.proofs.Finish.{opens-bounded}
 use Rattle.meaning.specs.Calls.{opens, settingFor, shown, drawingFound, oneShotShown, readOneShot, partHandedBack}
 use Rattle.meaning.specs.Drawing as drawing
 use Rattle.meaning.specs.Drawing.{Setting}
@@ -108,6 +110,11 @@ module _ {t : Bool} (l : Limits) (stride : ℕ) (p : Palette) (canvas bytes : Li
   pub open-known : t ≡ true → openable l stride (length canvas) ≡ true
   open-known h = sym e ∙ h
 
+  -- the largest allowance is at least 6W
+  pub open-wide : t ≡ true → 6 * l .width ≤ 18446744073709551615
+  unfolding settingFor limitsMeant
+  open-wide h = omega (arith, opens-bounded (limitsMeant l) stride (length canvas) (known ∙ h) .width)
+
   -- 11
   pub whole-unopened : {r : Finished} → t ≡ false → r ≡ record { answer = finishes.Refused refusals.Opening; palette = p }
       → readMeant r canvas ≡ readWhole (limitsMeant l) stride p canvas bytes
@@ -144,4 +151,4 @@ module _ {t : Bool} (l : Limits) (stride : ℕ) (p : Palette) (canvas bytes : Li
         ∙ ap (λ (x : Found). foundRead (settingMeant l stride (length canvas)) p canvas (foundMeant bytes x)) (sym k)
         ∙ found-whole
 
-pub ruleset wholes = (payload-within, open-known, whole-unopened, whole-refused, whole-found)
+pub ruleset wholes = (payload-within, open-known, open-wide, whole-unopened, whole-refused, whole-found)

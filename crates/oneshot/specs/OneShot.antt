@@ -1,7 +1,9 @@
 -- What the code's answers mean, and the whole outcome of reading all at once, in document 01's terms.
-use Prim.Native.Nat.{ℕ}
+use Prim.Native.Nat.{ℕ, _+_, _-_}
+use mathlib.Core.Bool.{cond}
 use mathlib.Core.List.{List}
 use mathlib.Core.Option.{some}
+use lib.Dec.{eqb, leb}
 use lib.ListN.{length, drop}
 use Rattle.colours.specs.declared.Palette.{Palette}
 use Rattle.frame.specs.Numbers.{numberOf}
@@ -50,6 +52,10 @@ readOutcome s o p canvas out =
 unfoldable pub readPart : Setting → meant.Parameters → Palette → List ℕ → List ℕ → Read
 unfolding readOutcome
 readPart s o p canvas part = readOutcome s o p canvas (meant.payload s o p part)
+
+-- where a piece that begins at a place ends: so many bytes on, or at the end of all where fewer are left or that number is 0
+unfoldable pub pieceEnd : ℕ → ℕ → ℕ → ℕ
+pieceEnd at size chunk = cond (eqb chunk 0) size (cond (leb (size - at) chunk) size (at + chunk))
 
 -- an answer of the code, with the palette beside it: a report, or a refusal's number
 unfoldable pub finishMeant : Finishing → Palette → meant.Finished

@@ -12,17 +12,17 @@ find-requires c κs = search needs
 enum-known-from : tie.Need-enum-known-from
 enum-known-from c = search needs
 
-sub-read-part : tie.Need-sub-read-part
-sub-read-part c = search (needs, wholes)
+sub-read-in-pieces : tie.Need-sub-read-in-pieces
+sub-read-in-pieces c = search (needs, wholes)
 
-part-read-part-start : tie.Need-part-read-part-start
-part-read-part-start c = search (needs, wholes)
+part-read-in-pieces-start : tie.Need-part-read-in-pieces-start
+part-read-in-pieces-start c = search (needs, wholes)
 
-part-read-part-end : tie.Need-part-read-part-end
-part-read-part-end c = search needs
+part-read-in-pieces-end : tie.Need-part-read-in-pieces-end
+part-read-in-pieces-end c = search needs
 
-read-part-requires : tie.Need-read-part-requires
-read-part-requires c κs = search (needs, wholes)
+read-in-pieces-requires : tie.Need-read-in-pieces-requires
+read-in-pieces-requires c κs = search (needs, wholes)
 
 same-length : tie.Need-same-length
 same-length c = search needs
@@ -52,10 +52,10 @@ read-spec =
     may-open-requires
     find-requires
     enum-known-from
-    sub-read-part
-    part-read-part-start
-    part-read-part-end
-    read-part-requires
+    sub-read-in-pieces
+    part-read-in-pieces-start
+    part-read-in-pieces-end
+    read-in-pieces-requires
     same-length
     returns
     enum-known-refusal

@@ -1,0 +1,123 @@
+-- The bench's reading: one law for each way through it.
+use Prim.Native.Nat.{ℕ, _+_, _*_, _^_, _≤_}
+use native.Mathlib.Omega.{arith}
+use mathlib.Core.Bool.{Bool, true, false}
+use mathlib.Core.List.{List}
+use mathlib.Core.Path.{_≡_, refl, sym, ap, subst, _∙_}
+use lib.ListN.{length}
+use Rattle.numbers.proofs.Laws.{cond-yes, cond-no}
+use Rattle.colours.specs.declared.Palette.{Palette}
+use Rattle.colours.specs.Palette.{standard}
+use Rattle.frame.specs.declared.Limits.{Limits}
+use Rattle.frame.specs.declared.Refusal.{Refusal}
+use Rattle.frame.specs.Numbers.{numberOf}
+use Rattle.meaning.specs.Calls.{settingFor, opens}
+use Rattle.meaning.specs.Drawing.{Setting, Outcome}
+use Rattle.meaning.specs.Payload as meant
+use Rattle.meaning.proofs.AreaLaws.{cond-case, option-case, Sound, opens-roomy, payload-sound}
+use Rattle.payload.specs.declared.Finished.{Finished}
+use Rattle.payload.specs.declared.Finishing.{Finishing}
+use Rattle.payload.specs.declared.Finishing.the-variants.{Picture, Refused}
+use Rattle.payload.specs.declared.Given.the-variants.{Nothing}
+use Rattle.payload.specs.declared.Report.{Report}
+use Rattle.payload.specs.History.{givenMeant, parametersMeant, limitsMeant, settingMeant, reportMeant}
+use Rattle.payload.specs.Judge.{openable}
+use Rattle.oneshot.specs.OneShot.{Read, readOutcome, readPart, finishMeant, readMeant}
+use Rattle.oneshot.proofs.PartLaws.{opens-meant}
+use Rattle.boundary.specs.Bench.{house, noParameters, sizeOrNumber, benchDecoded, SizeWithin, sizeOrNumberOf}
+
+-- ---- an answer's number
+
+module _ {a : Finishing} (fits : SizeWithin a) where
+  pub width-fits : {r : Report} → a ≡ Picture r → r .width ≤ 1024
+  width-fits e = subst SizeWithin e fits .0
+
+  pub height-fits : {r : Report} → a ≡ Picture r → r .height ≤ 768
+  height-fits e = subst SizeWithin e fits .1
+
+pub picture-number : {a : Finishing} {r : Report} → a ≡ Picture r → r .width * 4294967296 + r .height ≡ sizeOrNumberOf a
+unfolding sizeOrNumberOf
+picture-number e = ap sizeOrNumberOf (sym e)
+
+pub refused-number : {a : Finishing} {n : Refusal} {x : ℕ} → a ≡ Refused n → x ≡ numberOf n → x ≡ sizeOrNumberOf a
+unfolding sizeOrNumberOf
+refused-number e k = k ∙ ap sizeOrNumberOf (sym e)
+
+pub ruleset numbered = (width-fits, height-fits, picture-number, refused-number)
+
+-- ---- what a finish answers
+
+-- a picture no larger than the limits
+abbrev Within : Setting → meant.Finished → Type 0
+Within s (meant.finished r) = (r .size .width ≤ s .limits .width) × (r .size .height ≤ s .limits .height)
+Within s (meant.turnedDown n) = Unit {0}
+
+finish-within : {s : Setting} (o : meant.Parameters) (out : Outcome) → Sound s (out .drawing) → Within s (meant.finish s o out)
+unfolding meant.finish meant.reported meant.reportOf
+finish-within {s} o out h =
+    option-case (Within s) (out .refusal)
+    (λ _. cond-case (Within s) (meant.tooLarge s (out .drawing .area)) (λ _. tt) (λ _. (h .fits .width, h .fits .height)))
+    (λ n _. tt)
+
+within-house : (s : Setting) (a : Finishing) (p : Palette) → s .limits ≡ house → Within s (finishMeant a p) → SizeWithin a
+unfolding finishMeant reportMeant house
+within-house s (Picture r) p e h = (subst (λ l. r .width ≤ l .width) e (h .0), subst (λ l. r .height ≤ l .height) e (h .1))
+within-house s (Refused n) p e h = tt
+
+number-meant : (a : Finishing) (p : Palette) → sizeOrNumberOf a ≡ sizeOrNumber (finishMeant a p)
+unfolding finishMeant reportMeant sizeOrNumber sizeOrNumberOf
+number-meant (Picture r) p = refl
+number-meant (Refused n) p = refl
+
+-- ---- the reading
+
+abbrev houseLimits : Limits
+houseLimits = record { width = 1024; height = 768; repeats = 1024; pixels = 786432 }
+
+module _ {t : Bool} (stride : ℕ) (canvas bytes : List ℕ) {l : Limits} (limits : l ≡ houseLimits) (e : t ≡ openable l stride (length canvas)) where
+  known : opens house stride (length canvas) ≡ t
+  unfolding house limitsMeant
+  known = sym (e ∙ ap (λ (k : Limits). openable k stride (length canvas)) limits ∙ opens-meant houseLimits stride (length canvas))
+
+  pub bench-open : t ≡ true → openable l stride (length canvas) ≡ true
+  bench-open h = sym e ∙ h
+
+  -- 11
+  pub bench-closed : t ≡ false → _≡_ {A = ℕ × List ℕ} (11, canvas) (benchDecoded stride canvas bytes)
+  unfolding benchDecoded
+  bench-closed h = sym (cond-no _ _ (known ∙ h))
+
+  module _ (h : t ≡ true) {p : Palette} (palette : p ≡ standard) (x : Finished) (l₁ : List ℕ)
+      (k : readMeant x l₁ ≡ readPart (settingMeant l stride (length canvas)) (parametersMeant (record { p1 = Nothing; p2 = Nothing })) p canvas bytes) where
+    abbrev setting : Setting
+    setting = settingFor house stride (length canvas)
+
+    read : readMeant x l₁ ≡ readPart setting noParameters standard canvas bytes
+    unfolding house noParameters settingMeant limitsMeant parametersMeant givenMeant
+    read =
+        k
+        ∙ ap (λ (y : Limits). readPart (settingMeant y stride (length canvas)) noParameters p canvas bytes) limits
+        ∙ ap (λ (y : Palette). readPart setting noParameters y canvas bytes) palette
+
+    answer : finishMeant (x .answer) (x .palette) ≡ meant.finish setting noParameters (meant.payload setting noParameters standard bytes)
+    unfolding readMeant readPart readOutcome
+    answer = ap (λ (y : Read). y .answer) read
+
+    pub bench-fits : SizeWithin (x .answer)
+    unfolding settingFor
+    bench-fits =
+        within-house setting (x .answer) (x .palette) refl
+        (subst (Within setting) (sym answer) (finish-within noParameters (meant.payload setting noParameters standard bytes) (payload-sound (opens-roomy house stride (length canvas) (known ∙ h)) noParameters standard bytes)))
+
+    pub bench-read : {r : ℕ} → r ≡ sizeOrNumberOf (x .answer) → (r, l₁) ≡ benchDecoded stride canvas bytes
+    unfolding benchDecoded readMeant readPart readOutcome settingFor
+    bench-read m =
+        ap (λ (n : ℕ). (n, l₁)) (m ∙ number-meant (x .answer) (x .palette))
+        ∙ ap (λ (y : Read). (sizeOrNumber (y .answer), y .canvas)) read
+        ∙ sym (cond-yes _ _ (known ∙ h))
+
+-- the smallest allowance under the house's limits
+pub house-least : {l : Limits} → l ≡ houseLimits → 6 * l .width ≤ 6144
+house-least e = subst (λ (k : Limits). 6 * k .width ≤ 6144) (sym e) (omega arith)
+
+pub ruleset benched = (house-least, bench-open, bench-closed, bench-fits, bench-read)

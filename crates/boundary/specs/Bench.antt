@@ -1,0 +1,45 @@
+-- What the bench's reading answers, in document 01's terms.
+use Prim.Native.Nat.{ℕ, _+_, _*_, _^_, _≤_}
+use mathlib.Core.Bool.{cond}
+use mathlib.Core.List.{List}
+use mathlib.Core.Option.{none, some}
+use lib.ListN.{length}
+use Rattle.colours.specs.Palette.{standard}
+use Rattle.frame.specs.Numbers.{numberOf}
+use Rattle.meaning.specs.Calls.{settingFor, opens, shown}
+use Rattle.meaning.specs.Drawing.{Limits, Setting, Outcome}
+use Rattle.meaning.specs.Payload.{Parameters, payload, Finished, finished, turnedDown, finish}
+use Rattle.payload.specs.declared.Finishing.{Finishing}
+use Rattle.payload.specs.declared.Finishing.the-variants.{Picture, Refused}
+
+-- the house's limits
+unfoldable pub house : Limits
+house = record { width = 1024; height = 768; repeats = 1024; pixels = 786432 }
+
+-- no P1 and no P2
+unfoldable pub noParameters : Parameters
+noParameters = record { p1 = none; p2 = none }
+
+-- a picture's width x 2^32 + height, or the refusal's number
+unfoldable pub sizeOrNumber : Finished → ℕ
+sizeOrNumber (finished r) = r .size .width * 2 ^ 32 + r .size .height
+sizeOrNumber (turnedDown n) = n
+
+-- that of a payload with the standard palette, and the canvas after it; 11 and the canvas as it was where none can be opened
+unfoldable pub benchDecoded : ℕ → List ℕ → List ℕ → ℕ × List ℕ
+unfolding house noParameters sizeOrNumber
+benchDecoded stride canvas bytes =
+    let s : Setting = settingFor house stride (length canvas) in
+    let out : Outcome = payload s noParameters standard bytes in
+    cond (opens house stride (length canvas)) (sizeOrNumber (finish s noParameters out), shown stride (some (out .drawing)) canvas) (11, canvas)
+
+-- ---- the same of the code's answers
+
+-- a picture no larger than the house's limits
+abbrev pub SizeWithin : Finishing → Type 0
+SizeWithin (Picture r) = (r .width ≤ 1024) × (r .height ≤ 768)
+SizeWithin (Refused n) = Unit {0}
+
+unfoldable pub sizeOrNumberOf : Finishing → ℕ
+sizeOrNumberOf (Picture r) = r .width * 2 ^ 32 + r .height
+sizeOrNumberOf (Refused n) = numberOf n
