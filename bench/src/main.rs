@@ -1,0 +1,76 @@
+//! Candidates in turn, in one run: the best processor time of each, and ours over the Rust.
+mod candidates;
+mod inputs;
+mod libsixel;
+
+use candidates::{ours, rust, ROWS, STRIDE};
+use inputs::Input;
+
+#[repr(C)]
+struct Time {
+    seconds: i64,
+    nanoseconds: i64,
+}
+
+extern "C" {
+    fn clock_gettime(clock: i32, time: *mut Time) -> i32;
+}
+
+/// This process's processor time, in seconds.
+fn processor_time() -> f64 {
+    const PROCESS: i32 = 2;
+    let mut time = Time { seconds: 0, nanoseconds: 0 };
+    // SAFETY: the struct is the C library's on 64-bit Linux, and is lent for the call.
+    unsafe { clock_gettime(PROCESS, &mut time) };
+    time.seconds as f64 + time.nanoseconds as f64 / 1e9
+}
+
+fn timed(mut work: impl FnMut()) -> f64 {
+    let start = processor_time();
+    work();
+    processor_time() - start
+}
+
+/// Both readers see the same picture, or nothing is timed.
+fn check(input: &Input, canvas: &mut [u8]) {
+    let (width, height) = ours(canvas, &input.payload, input.chunk).unwrap_or_else(|number| panic!("{}: refused {number}", input.name));
+    let (pixels, rust_width, rust_height) = rust(&input.payload, input.chunk);
+    assert_eq!((width, height), (rust_width, rust_height), "{}", input.name);
+    for y in 0..height {
+        let row = &canvas[4 * y * STRIDE..][..4 * width];
+        assert!(row == &pixels[4 * y * width..][..4 * width], "{}: row {y} differs", input.name);
+    }
+}
+
+fn best(so_far: &mut f64, time: f64) {
+    *so_far = so_far.min(time);
+}
+
+fn microseconds(time: f64) -> String {
+    if time.is_finite() { format!("{:.0}", time * 1e6) } else { "-".into() }
+}
+
+fn main() {
+    let rounds: usize = std::env::args().nth(1).map_or(30, |word| word.parse().expect("a number of rounds"));
+    let mut canvas = vec![0_u8; 4 * STRIDE * ROWS];
+    let other = libsixel::load();
+    println!("ours: {}; {} rounds, best processor time in microseconds", std::env::var("SIXEL_KIND").unwrap_or_default(), rounds);
+    println!("input | bytes | Rust | libsixel | ours | ours over the Rust | target");
+    for input in inputs::all() {
+        check(&input, &mut canvas);
+        let (mut theirs, mut mine, mut others) = (f64::INFINITY, f64::INFINITY, f64::INFINITY);
+        for _ in 0..rounds {
+            best(&mut theirs, timed(|| drop(std::hint::black_box(rust(&input.payload, input.chunk)))));
+            best(&mut mine, timed(|| drop(std::hint::black_box(ours(&mut canvas, &input.payload, input.chunk)))));
+            if let Some(decode) = other {
+                best(&mut others, timed(|| libsixel::decode(decode, &input.payload)));
+            }
+        }
+        println!(
+            "{} | {} | {} | {} | {} | {:.2} | {:.1}",
+            input.name, input.payload.len(), microseconds(theirs), microseconds(others), microseconds(mine), theirs / mine, input.target
+        );
+    }
+    let memset = (0..rounds).map(|_| timed(|| std::hint::black_box(&mut canvas).fill(7))).fold(f64::INFINITY, f64::min);
+    println!("memset of the whole canvas, {} bytes: {}", canvas.len(), microseconds(memset));
+}
