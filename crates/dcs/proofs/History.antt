@@ -1,7 +1,8 @@
 -- Any calls of the code, the canvas given back each time as it was left, are the definition's; and so demands 2 and 3 hold of the code.
 use Prim.Native.Nat.{ℕ, _+_, _-_, _*_, _/_, _≤_}
+use native.Mathlib.Omega.{arith}
 use mathlib.Core.Bool.{true, false}
-use mathlib.Core.Option.{Option, none}
+use mathlib.Core.Option.{Option, none, some}
 use mathlib.Core.List.{List, [], _∷_, map}
 use mathlib.Core.Path.{_≡_, refl, sym, ap, ap₂, _∙_, subst}
 use lib.ListN.{length}
@@ -16,7 +17,7 @@ use Rattle.meaning.specs.OneShot.{missing, findPayload, oneShot}
 use Rattle.meaning.specs.Payload as meant
 use Rattle.meaning.specs.Reader.{How, stopped, halted, refusedBy, isRefused, readFrom, Turn, stream, pieces, Caller, ranBy, ready}
 use Rattle.meaning.specs.Sequence.{sequencePayload, sequenceInk}
-use Rattle.meaning.specs.Sessions.{Phase, start, dcsStep}
+use Rattle.meaning.specs.Sessions.{End, Phase, start, dcsStep}
 use Rattle.meaning.proofs.DcsSoFar.{dcs-finish-drawing, dcs-refused-drawn}
 use Rattle.meaning.proofs.Demand3.{dcs-calls, dcs-outcome, dcs-finishes, dcs-refused, dcs-all-ink}
 use Rattle.payload.specs.Begin.{reservedBy}
@@ -133,6 +134,19 @@ module _ (l : Limits) (stride : ℕ) (p : Palette) (opening : List ℕ) (opens :
     pub whole-state : (now .how ≡ stopped → ⊥) → readFrom (dcsStep setting p) start (stream ts) ≡ ranBy there
     whole-state going = dcs-outcome setting p A ts proper-there (going-there going)
 
+    -- Demand 2, and the second sentence of demand 3: at an end a finish answers what reading the whole stream at once does.
+    pub whole-finishes : (now .how ≡ stopped → ⊥) → isRefused (now .how) ≡ false → {e : End} → calls.dcsEnd (there .state) ≡ some e → (owner : Palette)
+        → Finishes (calls.shown stride (calls.drawingAtFinish setting (there .state)) opening) owner canvas (finishedBy session owner canvas) (oneShot setting p (stream ts))
+    unfolding calls.dcsShownAtFinish settingMeant calls.settingFor calls.firstOf calls.misfits
+    whole-finishes going fine e owner =
+        let m : calls.Session Phase = heldAt l stride (length opening) (there .state) (isRefused (there .how)) in
+        let answer : calls.finishDcsSession m (length canvas) ≡ oneShot setting p (stream ts) =
+        ap (calls.finishDcsSession m) (stands-long l stride p opening (stood .session))
+        ∙ finished-meant l stride p opening m (length opening) {o = none} (rw (fine-there fine, stands-fit l stride p opening (stood .session)) refl)
+        ∙ dcs-finishes setting p A ts proper-there (going-there going) e in
+        subst (Finishes (calls.shown stride (calls.drawingAtFinish setting (there .state)) opening) owner canvas (finishedBy session owner canvas)) answer
+        (finish-stands l stride p opening owner (stood .session))
+
     -- what reading the whole stream at once leaves on the canvas
     abbrev pub picture : List ℕ
     picture = calls.oneShotShown (limitsMeant l) stride (length opening) p (stream ts) opening
@@ -141,23 +155,15 @@ module _ (l : Limits) (stride : ℕ) (p : Palette) (opening : List ℕ) (opens :
     unfolding calls.oneShotShown settingMeant openable limitsFit inRange calls.opens calls.limitsHold calls.ranges limitsMeant
     picture-shown e = ap (λ (d : Option Drawing). calls.shown stride d opening) e ∙ sym (cond-yes _ _ opens)
 
-    -- Demand 2, and the second sentence of demand 3: once an end is told, a finish answers what reading the whole stream at once does, and
-    -- leaves that picture.
-    pub whole-finishes : now .how ≡ halted → (owner : Palette)
+    -- So once an end is told, a finish answers that and leaves that picture, both said of the stream alone.
+    pub stream-finishes : now .how ≡ halted → (owner : Palette)
         → Finishes picture owner canvas (finishedBy session owner canvas) (oneShot setting p (stream ts))
-    unfolding calls.dcsShownAtFinish settingMeant calls.settingFor calls.firstOf calls.misfits
-    whole-finishes told owner =
-        let m : calls.Session Phase = heldAt l stride (length opening) (there .state) (isRefused (there .how)) in
+    unfolding isRefused
+    stream-finishes told owner =
         let ended = told-end (there .how) (calls.dcsEnd (there .state)) (sym (stood .how) ∙ told) in
-        let live : isRefused (there .how) ≡ false = ended .1 in
-        let answer : calls.finishDcsSession m (length canvas) ≡ oneShot setting p (stream ts) =
-        ap (calls.finishDcsSession m) (stands-long l stride p opening (stood .session))
-        ∙ finished-meant l stride p opening m (length opening) {o = none} (rw (live, stands-fit l stride p opening (stood .session)) refl)
-        ∙ dcs-finishes setting p A ts proper-there (ended .0) (ended .2 .1) in
         subst (λ (shown : List ℕ). Finishes shown owner canvas (finishedBy session owner canvas) (oneShot setting p (stream ts)))
         (picture-shown (dcs-finish-drawing setting p A ts roomy proper-there (ended .0) (ended .2 .1)))
-        (subst (Finishes (calls.shown stride (calls.drawingAtFinish setting (there .state)) opening) owner canvas (finishedBy session owner canvas)) answer
-        (finish-stands l stride p opening owner (stood .session)))
+        (whole-finishes (λ e. let never : _≡_ {A = ℕ} 0 1 = cc in omega arith) (ap isRefused told) (ended .2 .1) owner)
 
     -- A refusal is what introducer and header are refused with, or what reading the whole at once answers; the canvas shows what came before it.
     pub whole-refused : {n : ℕ} → now .how ≡ refusedBy n
