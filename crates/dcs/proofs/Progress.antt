@@ -1,4 +1,5 @@
--- What a caller relies on to go on: a call that needs more has left nothing unread, a stop has consumed a byte, and an end is the one told.
+-- What a caller relies on to go on: a call that needs more has left nothing unread and a finish there is 8, a stop has consumed a byte, and an end is
+-- the one told.
 use Prim.Native.Nat.{ℕ, zero, suc, _+_, _*_, _≤_, _<_}
 use native.Mathlib.Omega.{arith}
 use mathlib.Core.Bool.{true, false}
@@ -13,22 +14,25 @@ use Rattle.frame.specs.declared.Limits.{Limits}
 use Rattle.meaning.specs.Calls as calls
 use Rattle.meaning.specs.Drawing.{Setting}
 use Rattle.meaning.specs.Reader.{Step, next, halt, refuse, How, readAll, stopped, halted, refusedBy, isRefused, isOngoing, Run, still, after, follow, readFrom, call, Turn, pieceOf, allowanceOf, stream, Caller, ranBy, mayCall, having, turn, turns, CapLaw}
-use Rattle.meaning.specs.Sessions.{End, Phase, start, dcsStep, dcsRested}
+use Rattle.meaning.specs.Payload.{turnedDown}
+use Rattle.meaning.specs.Sessions.{End, Phase, start, introduced, header, within, afterEscape, over, dcsStep, dcsRested, finishDcs}
 use Rattle.meaning.proofs.AreaLaws.{DcsDoes, advances, begins, turns as refused, reads, refuses, escapes, closes, breaks, completes, lapses, remains, dcs-does}
 use Rattle.meaning.proofs.CallLaws.{StoppedAt, call-stopped-at}
 use Rattle.meaning.proofs.CallerLaws.{not-refused}
 use Rattle.meaning.proofs.Demand3.{dcs-caps}
+use Rattle.meaning.proofs.DcsParts.{no-end}
 use Rattle.meaning.proofs.EachCall.{dcs-so-far}
 use Rattle.meaning.proofs.InkLaws.{Halts}
 use Rattle.meaning.proofs.SoFarLaws.{LeftBy, allRead, stoppedAt}
-use Rattle.payload.specs.History.{settingMeant, limitsMeant}
+use Rattle.payload.specs.History.{settingMeant, limitsMeant, Finishes}
 use Rattle.payload.specs.Judge.{openable}
 use Rattle.dcs.specs.declared.Answer.the-variants as answers
 use Rattle.dcs.specs.declared.Ending.{Ending}
-use Rattle.dcs.specs.Session.{fedBy}
+use Rattle.dcs.specs.Session.{fedBy, finishedBy}
 use Rattle.dcs.specs.History.{endMeant, answerMeant, Held, called, callsOf, properCalls}
 use Rattle.dcs.proofs.Callers.{endTold, may-told, CallerStands, sessionAt, run, fed-feeds, calls-stand}
 use Rattle.dcs.proofs.History as history
+use Rattle.dcs.proofs.Standing.{finish-stands, finished-meant, stands-long, stands-fit}
 
 -- ---- calls of the definition
 
@@ -96,15 +100,15 @@ unfolding calls.answered calls.tells calls.atEnd
 answered-end m q {n} {i} {x} e = each (q .how) (calls.dcsEnd (q .state)) e
   where
     ending : How → Option End → calls.Answer End
-    ending how over = calls.answered (λ (r : Phase). over) m (record { state = q .state; consumed = q .consumed; ink = q .ink; how = how }) .answer
+    ending how o = calls.answered (λ (r : Phase). o) m (record { state = q .state; consumed = q .consumed; ink = q .ink; how = how }) .answer
 
-    each : (how : How) (over : Option End) → calls.told n i (calls.ended x) ≡ ending how over → over ≡ some x
+    each : (how : How) (o : Option End) → calls.told n i (calls.ended x) ≡ ending how o → o ≡ some x
     each readAll none z = cc
     each readAll (some y) z = cc
-    each stopped over z = cc
+    each stopped o z = cc
     each halted none z = cc
     each halted (some y) z = cc
-    each (refusedBy k) over z = cc
+    each (refusedBy k) o z = cc
 
 -- what was told, of what a call came to
 told-stopped : (h : How) (o : Option End) → endTold h o ≡ stopped → h ≡ stopped
@@ -115,6 +119,25 @@ told-stopped stopped o e = refl
 told-stopped halted none e = cc
 told-stopped halted (some x) e = e
 told-stopped (refusedBy n) o e = e
+
+told-more : (h : How) (o : Option End) → endTold h o ≡ readAll → (o ≡ none) × (isRefused h ≡ false)
+unfolding endTold isRefused
+told-more readAll none e = (refl, refl)
+told-more readAll (some x) e = absurd (let never : _≡_ {A = ℕ} 0 1 = cc in omega arith)
+told-more stopped o e = absurd (let never : _≡_ {A = ℕ} 0 1 = cc in omega arith)
+told-more halted none e = (refl, refl)
+told-more halted (some x) e = absurd (let never : _≡_ {A = ℕ} 0 1 = cc in omega arith)
+told-more (refusedBy n) o e = absurd (let never : _≡_ {A = ℕ} 0 1 = cc in omega arith)
+
+-- finishing before the end is 8
+finish-before : (s : Setting) (t : Phase) → calls.dcsEnd t ≡ none → finishDcs s t ≡ turnedDown 8
+unfolding finishDcs calls.dcsEnd
+finish-before s start e = refl
+finish-before s introduced e = refl
+finish-before s (header bs) e = refl
+finish-before s (within r) e = refl
+finish-before s (afterEscape r) e = refl
+finish-before s (over d r) e = absurd (no-end (sym e))
 
 all-going : readAll ≡ stopped → ⊥
 all-going e = let never : _≡_ {A = ℕ} 0 1 = cc in omega arith
@@ -151,11 +174,29 @@ module _ (l : Limits) (stride : ℕ) (p : Palette) (opening : List ℕ) (opens :
       go halted q =
           let going : now .how ≡ stopped → ⊥ = λ z. all-going (sym e ∙ z) in
           let whole : readFrom (dcsStep setting p) start (stream ts) ≡ ranBy there = history.whole-state l stride p opening opens A ts enough ok going in
-          let over : HasEnd (there .state) =
+          let at-end : HasEnd (there .state) =
           subst (λ (q : Run Phase). q .how ≡ halted → HasEnd (q .state)) whole (reading-ends setting p start (stream ts)) q in
-          let z : readAll ≡ halted = told halted q ∙ ap (endTold halted) (over .1) in
+          let z : readAll ≡ halted = told halted q ∙ ap (endTold halted) (at-end .1) in
           absurd (let never : _≡_ {A = ℕ} 0 1 = cc in omega arith)
       go (refusedBy n) q = let z : readAll ≡ refusedBy n = told (refusedBy n) q in absurd (let never : _≡_ {A = ℕ} 0 1 = cc in omega arith)
+
+  -- So the end has not come.
+  pub not-ended : now .how ≡ readAll → calls.dcsEnd (there .state) ≡ none
+  not-ended e = told-more (there .how) (calls.dcsEnd (there .state)) (sym (stood .how) ∙ e) .0
+
+  -- A finish is 8 there, which leaves the canvas as it was.
+  pub unfinished : now .how ≡ readAll → (owner : Palette)
+      → Finishes (calls.shown stride (calls.drawingAtFinish setting (there .state)) opening) owner (now .state .1) (finishedBy (now .state .0) owner (now .state .1)) (turnedDown 8)
+  unfolding calls.dcsShownAtFinish settingMeant calls.settingFor calls.firstOf calls.misfits
+  unfinished e owner =
+      let m : calls.Session Phase = sessionAt l stride p opening there in
+      let fine : isRefused (there .how) ≡ false = told-more (there .how) (calls.dcsEnd (there .state)) (sym (stood .how) ∙ e) .1 in
+      let answer : calls.finishDcsSession m (length (now .state .1)) ≡ turnedDown 8 =
+      ap (calls.finishDcsSession m) (stands-long l stride p opening (stood .session))
+      ∙ finished-meant l stride p opening m (length opening) {o = none} (rw (fine, stands-fit l stride p opening (stood .session)) refl)
+      ∙ finish-before setting (there .state) (not-ended e) in
+      subst (Finishes (calls.shown stride (calls.drawingAtFinish setting (there .state)) opening) owner (now .state .1) (finishedBy (now .state .0) owner (now .state .1))) answer
+      (finish-stands l stride p opening owner (stood .session))
 
   module _ (t : Turn) (allowed : A ≤ allowanceOf t) (may : mayCall t (now .how) ≡ true) where
     live : isRefused (there .how) ≡ false

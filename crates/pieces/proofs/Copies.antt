@@ -13,6 +13,7 @@ use Rattle.canvas.specs.Picture.{Area, areaOf, fits}
 use Rattle.canvas.proofs.Covers.{and-both}
 use Rattle.canvas.proofs.Pictures.{length-picture}
 use Rattle.colours.specs.declared.Palette.{Palette}
+use Rattle.frame.specs.declared.Refusal.{Refusal}
 use Rattle.frame.specs.Numbers.{numberOf}
 use Rattle.meaning.specs.Calls as calls
 use Rattle.meaning.specs.Drawing.{Setting, Drawing}
@@ -21,24 +22,32 @@ use Rattle.meaning.specs.Payload as meant
 use Rattle.meaning.proofs.AreaLaws.{Roomy, payload-sound, payload-reports}
 use Rattle.meaning.proofs.CommandLaws.{Fits}
 use Rattle.payload.specs.declared.Finished.{Finished}
-use Rattle.payload.specs.declared.Finishing.{Finishing}
 use Rattle.payload.specs.declared.Finishing.the-variants as finishes
 use Rattle.payload.specs.declared.Report.{Report}
 use Rattle.payload.specs.History.{reportMeant, Finishes, pictures, declines}
 
--- what a finish's answer means
-meaningOf : Finishing → Palette → meant.Finished
-meaningOf (finishes.Picture r) p = meant.finished (reportMeant r p)
-meaningOf (finishes.Refused n) p = meant.turnedDown (numberOf n)
+-- a finish that is refused with a number leaves the owner's palette and the canvas
+pub record Declined (lent : List ℕ) (owner : Palette) (number : ℕ) (y : Finished × List ℕ) : Type 0 where
+  pub refusal : Refusal
+  pub numbered : numberOf refusal ≡ number
+  pub answers : y ≡ (record { answer = finishes.Refused refusal; palette = owner }, lent)
 
--- the canvas is the picture, and the report the definition's
-pub reports : {picture lent : List ℕ} {owner : Palette} {y : Finished × List ℕ} {z : meant.Finished} → Finishes picture owner lent y z
-    → {r : Report} {q : Palette} → y .0 ≡ record { answer = finishes.Picture r; palette = q } → (y .1 ≡ picture) × (z ≡ meant.finished (reportMeant r q))
-unfolding meaningOf
-reports pictures e = (refl, ap (λ (x : Finished). meaningOf (x .answer) (x .palette)) e)
-reports (declines n) {r} e =
-    let other : finishes.Refused n ≡ finishes.Picture r = ap (λ (x : Finished). x .answer) e in
-    absurd (let never : _≡_ {A = ℕ} 0 1 = cc in omega arith)
+pub declined : {picture lent : List ℕ} {owner : Palette} {y : Finished × List ℕ} {number : ℕ} → Finishes picture owner lent y (meant.turnedDown number)
+    → Declined lent owner number y
+declined (declines n) = record { refusal = n; numbered = refl; answers = refl }
+
+-- a finish with the definition's report, its palette committed and its picture on the canvas
+pub record Reported (picture : List ℕ) (y : Finished × List ℕ) (z : meant.Finished) : Type 0 where
+  pub report : Report
+  pub palette : Palette
+  pub answers : y ≡ (record { answer = finishes.Picture report; palette = palette }, picture)
+  pub means : z ≡ meant.finished (reportMeant report palette)
+
+-- so is every finish where the definition reports
+pub reported : {picture lent : List ℕ} {owner : Palette} {y : Finished × List ℕ} {z : meant.Finished} {r : meant.Report} → Finishes picture owner lent y z
+    → z ≡ meant.finished r → Reported picture y z
+reported (pictures {r} {p}) e = record { report = r; palette = p; answers = refl; means = refl }
+reported (declines n) e = absurd (let never : _≡_ {A = ℕ} 0 1 = cc in omega arith)
 
 -- a size that is reported has room
 pub report-fits : (s : Setting) (p : Palette) (bs : List ℕ) {r : meant.Report} → Roomy s → oneShot s p bs ≡ meant.finished r → Fits s (r .size)

@@ -8,15 +8,17 @@ use mathlib.Core.Path.{_≡_, refl, sym, ap, _∙_, subst}
 use Rattle.numbers.proofs.Laws.{cond-no}
 use Rattle.colours.specs.declared.Palette.{Palette}
 use Rattle.meaning.specs.Calls as calls
-use Rattle.meaning.specs.Drawing.{Setting}
-use Rattle.meaning.specs.OneShot.{Found, found, missing, findPayload, oneShot}
+use Rattle.meaning.specs.Drawing.{Setting, Outcome}
+use Rattle.meaning.specs.OneShot.{Found, found, missing, findPayload, answerOf, oneShot}
 use Rattle.meaning.specs.Payload as meant
-use Rattle.meaning.specs.Reader.{How, readAll, stopped, halted, refusedBy, isAll, Run, still, after, continued, follow, readFrom, thenRead}
+use Rattle.meaning.specs.Reader.{How, readAll, stopped, halted, refusedBy, isAll, isRefused, Run, still, after, continued, follow, readFrom, thenRead}
 use Rattle.meaning.specs.Sequence.{sequencePayload, sequenceInk}
 use Rattle.meaning.specs.Sessions.{End, Phase, start, introduced, header, within, afterEscape, over, dcsStep, finishDcs}
+use Rattle.meaning.proofs.AreaLaws.{Roomy, payload-reports}
 use Rattle.meaning.proofs.Cases.{cond-case}
-use Rattle.meaning.proofs.DcsLaws.{sequence-drawing, sequence-missing, sequence-finish, sequence-ink, sequence-refused, sequence-turned-down}
+use Rattle.meaning.proofs.DcsLaws.{sequence-over, sequence-drawing, sequence-missing, sequence-finish, sequence-ink, sequence-refused, sequence-turned-down}
 use Rattle.meaning.proofs.DcsParts.{Agrees, sequence-agrees, before-open, no-end}
+use Rattle.meaning.proofs.PayloadLaws.{readPayload, reading-settled, settled-none, halted-settled}
 use Rattle.meaning.proofs.RunLaws.{read-append}
 use Rattle.dcs.proofs.Callers.{endTold}
 use Rattle.pieces.specs.declared.Standing.{Standing}
@@ -52,6 +54,21 @@ drawing-whole s p bs {e} z = go (sequencePayload bs) refl (sequence-agrees bs)
     go : (f : Found) → sequencePayload bs ≡ f → Agrees bs f
         → calls.drawingAtFinish s (readFrom (dcsStep s p) start bs .state) ≡ calls.drawingFound s p (findPayload bs)
     go (found o part) q same = sequence-drawing s p bs q z ∙ ap (calls.drawingFound s p) (sym same)
+    go (missing n) q same = absurd (no-end (sym (before-open _ (sequence-missing s p bs q .0)) ∙ z))
+
+-- and it is always reported
+pub ended-reports : (s : Setting) (p : Palette) (bs : List ℕ) {e : End} → Roomy s → calls.dcsEnd (readFrom (dcsStep s p) start bs .state) ≡ some e
+    → (r : meant.Report) × (oneShot s p bs ≡ meant.finished r)
+unfolding oneShot answerOf isRefused
+ended-reports s p bs {e} roomy z = go (sequencePayload bs) refl (sequence-agrees bs)
+  where
+    go : (f : Found) → sequencePayload bs ≡ f → Agrees bs f → (r : meant.Report) × (oneShot s p bs ≡ meant.finished r)
+    go (found o part) q same =
+        let over-there = sequence-over s p bs q z in
+        let fine : meant.payload s o p part .refusal ≡ none =
+        ap (λ (out : Outcome). out .refusal)
+        (sym (reading-settled s o p part (ap isRefused (over-there .0))) ∙ settled-none s (readPayload s o p part .state) (halted-settled s o p part (over-there .0))) in
+        (_, ap (answerOf s p) same ∙ payload-reports roomy o p part fine)
     go (missing n) q same = absurd (no-end (sym (before-open _ (sequence-missing s p bs q .0)) ∙ z))
 
 -- ---- bytes after an end or a refusal make no difference

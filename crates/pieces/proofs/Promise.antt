@@ -4,7 +4,7 @@ use Prim.Native.Nat.{ℕ, _+_, _*_, _-_, _/_, _≤_, min}
 use native.Mathlib.Nat.{div-one}
 use native.Mathlib.Omega.{arith}
 use mathlib.Core.Bool.{true, false, cond}
-use mathlib.Core.Option.{Option, some}
+use mathlib.Core.Option.{Option, none, some}
 use mathlib.Core.List.{List, [], _++_, append-nil}
 use mathlib.Core.Path.{_≡_, refl, sym, ap, _∙_, subst}
 use lib.ListN.{length, drop}
@@ -19,12 +19,11 @@ use Rattle.meaning.specs.Calls as calls
 use Rattle.meaning.specs.Drawing.{Setting, Drawing}
 use Rattle.meaning.specs.OneShot.{missing, findPayload, oneShot}
 use Rattle.meaning.specs.Payload as meant
-use Rattle.meaning.specs.Reader.{How, stopped, refusedBy, isRefused, Run, readFrom, Turn, stream, pieces, Caller, ranBy}
+use Rattle.meaning.specs.Reader.{How, readAll, stopped, refusedBy, isRefused, Run, readFrom, Turn, stream, pieces, Caller, ranBy}
 use Rattle.meaning.specs.Sequence.{sequencePayload, sequenceInk}
 use Rattle.meaning.specs.Sessions.{Phase, start, dcsStep}
 use Rattle.meaning.proofs.AreaLaws.{Roomy, opens-roomy}
 use Rattle.payload.specs.declared.Finished.{Finished}
-use Rattle.payload.specs.declared.Finishing.the-variants as finishes
 use Rattle.payload.specs.declared.Report.{Report}
 use Rattle.payload.specs.History.{settingMeant, limitsMeant, reportMeant, Finishes}
 use Rattle.payload.specs.Judge.{inRange, limitsFit, openable}
@@ -35,13 +34,14 @@ use Rattle.dcs.specs.History.{endMeant, Held, properCalls}
 use Rattle.dcs.specs.Session as dcs
 use Rattle.dcs.proofs.Callers.{CallerStands, refused-told}
 use Rattle.dcs.proofs.History as history
+use Rattle.dcs.proofs.Progress.{not-ended, unfinished}
 use Rattle.pieces.specs.declared.Reader.{Reader}
 use Rattle.pieces.specs.declared.Standing.{Standing}
 use Rattle.pieces.specs.declared.Standing.the-variants as standings
 use Rattle.pieces.specs.Pieces.{openedBy, held, finishedAs, finishedBy}
 use Rattle.pieces.specs.Stream.{joined, takenAll, howStood}
-use Rattle.pieces.proofs.Copies.{reports, report-fits, copy-rows, length-shown}
-use Rattle.pieces.proofs.Ends.{stood-going, told-refused, ended-ink, ended-end, ended-consumed, ended-answer, ended-drawing, refused-ink, refused-answer}
+use Rattle.pieces.proofs.Copies.{Declined, declined, Reported, reported, report-fits, copy-rows, length-shown}
+use Rattle.pieces.proofs.Ends.{stood-going, told-refused, ended-reports, ended-ink, ended-end, ended-consumed, ended-answer, ended-drawing, refused-ink, refused-answer}
 use Rattle.pieces.proofs.Taking.{joined-append, length-append, start-follows, Taken, taken-all}
 use Rattle.pieces.proofs.Turns.{now, Follows}
 
@@ -163,6 +163,27 @@ module _ (l : Limits) (stride : ℕ) (p : Palette) (opening : List ℕ) (opens :
   unfolding finishedBy finishedAs
   refusal-repeated h owner = ap (λ (t : Standing). finishedAs t reader owner canvas) h
 
+  -- Where the stream has come to no end, so has its reading at once; a finish is 8 and leaves the canvas as it was.
+  module _ (reads : reader .standing ≡ standings.Reading) where
+    needs-more : caller .how ≡ readAll
+    unfolding howStood
+    needs-more = follows .how ∙ ap howStood reads
+
+    pub no-end-whole : calls.dcsEnd (readFrom (dcsStep setting p) start bytes .state) ≡ none
+    unfolding ranBy
+    no-end-whole =
+        ap (λ (bs : List ℕ). calls.dcsEnd (readFrom (dcsStep setting p) start bs .state)) (all-taken reads)
+        ∙ ap (λ (q : Run Phase). calls.dcsEnd (q .state)) ran
+        ∙ not-ended l stride p opening opens (6 * l .width) turns enough ok needs-more
+
+    pub unfinished-whole : (owner : Palette) → Declined canvas owner 8 (finishedBy reader owner canvas)
+    unfolding finishedBy finishedAs
+    unfinished-whole owner =
+        subst (λ (lent : List ℕ). Declined lent owner 8 (finishedBy reader owner lent)) (sym (follows .keeps .canvas))
+        (subst (Declined (caller .state .1) owner 8)
+        (sym (ap (λ (t : Standing). finishedAs t reader owner (caller .state .1)) reads ∙ ap (λ (s : Session). dcs.finishedBy s owner (caller .state .1)) (follows .keeps .session)))
+        (declined (unfinished l stride p opening opens (6 * l .width) turns enough ok needs-more owner)))
+
   -- ---- at an end
 
   module _ {e : Ending} (ended : reader .standing ≡ standings.Ended e) where
@@ -215,7 +236,7 @@ module _ (l : Limits) (stride : ℕ) (p : Palette) (opening : List ℕ) (opens :
         ∙ sym (ap (oneShot setting p) split ∙ ended-answer setting p taken (joined (all .later)) (end-taken ended))
 
     -- Demand 2, and the second sentence of demand 3: a finish answers what reading the whole stream at once does, with its picture on the canvas.
-    pub finish-whole : (owner : Palette) → Finishes picture owner canvas (finishedBy reader owner canvas) (oneShot setting p bytes)
+    finish-whole : (owner : Palette) → Finishes picture owner canvas (finishedBy reader owner canvas) (oneShot setting p bytes)
     finish-whole owner =
         let ends : Finished × List ℕ = dcs.finishedBy (caller .state .0) owner (caller .state .1) in
         let answers : Finishes (calls.shown stride (calls.drawingAtFinish setting (there .state)) opening) owner (caller .state .1) ends (oneShot setting p (stream turns)) =
@@ -229,19 +250,21 @@ module _ (l : Limits) (stride : ℕ) (p : Palette) (opening : List ℕ) (opens :
     unfolding settingMeant limitsMeant calls.opens calls.limitsHold calls.ranges openable limitsFit inRange
     roomy = opens-roomy (limitsMeant l) stride (length opening) opens
 
+    -- There is always a picture.
+    pub picture-reported : (owner : Palette) → Reported picture (finishedBy reader owner canvas) (oneShot setting p bytes)
+    picture-reported owner = reported (finish-whole owner) (ended-reports setting p bytes roomy end-whole .1)
+
     picture-long : length picture ≡ length opening
     picture-long = ap length (sym picture-whole) ∙ length-shown stride (calls.drawingAtFinish setting (there .state)) opening
 
-    -- A copy of the picture that is reported puts its rows without gaps at the front of the other buffer, whose later bytes stay.
-    pub copy-whole : (owner : Palette) {r : Report} {q : Palette} → finishedBy reader owner canvas .0 ≡ record { answer = finishes.Picture r; palette = q }
-        → (out : List ℕ) → sizeOf (areaOf (r .width) (r .height)) ≤ length out
-        → copied stride (areaOf (r .width) (r .height)) (finishedBy reader owner canvas .1) out
+    -- A copy of it puts its rows without gaps at the front of the other buffer, whose later bytes stay.
+    pub copy-whole : (r : Report) (q : Palette) → oneShot setting p bytes ≡ meant.finished (reportMeant r q) → (out : List ℕ)
+        → sizeOf (areaOf (r .width) (r .height)) ≤ length out
+        → copied stride (areaOf (r .width) (r .height)) picture out
         ≡ (0, packed stride (r .width) (r .height) picture ++ drop (sizeOf (areaOf (r .width) (r .height))) out)
     unfolding settingMeant limitsMeant calls.settingFor reportMeant
-    copy-whole owner {r} answers out room =
-        let told = reports (finish-whole owner) answers in
-        ap (λ (c : List ℕ). copied stride (areaOf (r .width) (r .height)) c out) (told .0)
-        ∙ copy-rows setting picture roomy (report-fits setting p bytes roomy (told .1)) (ap (λ (n : ℕ). rowsOf n stride) (sym picture-long)) out room
+    copy-whole r q means out room =
+        copy-rows setting picture roomy (report-fits setting p bytes roomy means) (ap (λ (n : ℕ). rowsOf n stride) (sym picture-long)) out room
 
     -- what is promised of a stream that was taken to its end, finished with an owner's palette and copied to another buffer
     pub record Kept (owner : Palette) (out : List ℕ) : Type 0 where
@@ -249,11 +272,10 @@ module _ (l : Limits) (stride : ℕ) (p : Palette) (opening : List ℕ) (opens :
       pub ink : reader .counts .ink ≡ held (sequenceInk setting p bytes)
       pub consumed : reader .counts .consumed ≡ held (readFrom (dcsStep setting p) start bytes .consumed)
       pub end : calls.dcsEnd (readFrom (dcsStep setting p) start bytes .state) ≡ some (endMeant e)
-      pub finish : Finishes picture owner canvas (finishedBy reader owner canvas) (oneShot setting p bytes)
-      pub copy : (r : Report) (q : Palette) → finishedBy reader owner canvas .0 ≡ record { answer = finishes.Picture r; palette = q }
-          → sizeOf (areaOf (r .width) (r .height)) ≤ length out
-          → copied stride (areaOf (r .width) (r .height)) (finishedBy reader owner canvas .1) out
-          ≡ (0, packed stride (r .width) (r .height) picture ++ drop (sizeOf (areaOf (r .width) (r .height))) out)
+      pub finish : Reported picture (finishedBy reader owner canvas) (oneShot setting p bytes)
+      pub copy : sizeOf (areaOf (finish .report .width) (finish .report .height)) ≤ length out
+          → copied stride (areaOf (finish .report .width) (finish .report .height)) picture out
+          ≡ (0, packed stride (finish .report .width) (finish .report .height) picture ++ drop (sizeOf (areaOf (finish .report .width) (finish .report .height))) out)
 
     -- The promise: the calls are at most the pieces and the ink, the counts and the end are the definition's, and so are the answer and the picture.
     pub promise : (owner : Palette) (out : List ℕ) → Kept owner out
@@ -263,6 +285,6 @@ module _ (l : Limits) (stride : ℕ) (p : Palette) (opening : List ℕ) (opens :
           ink = ink-whole answered;
           consumed = consumed-whole;
           end = end-whole;
-          finish = finish-whole owner;
-          copy = λ r q answers room. copy-whole owner answers out room;
+          finish = picture-reported owner;
+          copy = copy-whole (picture-reported owner .report) (picture-reported owner .palette) (picture-reported owner .means) out;
         }

@@ -1,25 +1,27 @@
 -- Any pieces taken one after the other, from the opening on, are a caller's calls: a new call for each piece until the end, and others after its stops.
 use Prim.Native.Nat.{ℕ, suc, _+_, _*_, _≤_}
 use native.Mathlib.Omega.{arith}
-use mathlib.Core.Bool.{true}
+use mathlib.Core.Bool.{true, false}
 use mathlib.Core.List.{List, [], _∷_, _++_, append-nil, append-assoc}
-use mathlib.Core.Path.{_≡_, refl, sym, ap, ap₂, _∙_, subst}
+use mathlib.Core.Path.{_≡_, refl, sym, ap, _∙_, subst}
 use lib.ListN.{length}
-use Rattle.numbers.proofs.Laws.{cond-yes}
+use Rattle.numbers.proofs.Laws.{cond-yes, cond-no}
 use Rattle.colours.specs.declared.Palette.{Palette}
 use Rattle.frame.specs.declared.Limits.{Limits}
+use Rattle.frame.specs.declared.Refusal.the-variants as refusals
 use Rattle.meaning.specs.Reader.{readAll, Turn, fresh, pieceOf, allowanceOf, stream, pieces, mayCall, ready}
 use Rattle.payload.specs.declared.Opened as payloadOpened
 use Rattle.payload.specs.declared.Opening.{Opening}
 use Rattle.payload.specs.declared.Opening.the-variants as openings
 use Rattle.payload.specs.Begin.{reservedBy}
 use Rattle.payload.specs.Judge.{openable}
+use Rattle.payload.specs.Session.{turnedAway}
 use Rattle.dcs.specs.History.{callsOf, properCalls}
 use Rattle.dcs.specs.Session as dcs
 use Rattle.pieces.specs.declared.Reader.{Reader}
 use Rattle.pieces.specs.declared.Standing.{Standing}
 use Rattle.pieces.specs.declared.Standing.the-variants as standings
-use Rattle.pieces.specs.Pieces.{beganAs, openedAs, openedBy, held, takenFor, takenIn, takenAs, takenBy}
+use Rattle.pieces.specs.Pieces.{beganAs, openedAs, openedBy, held, takenIn, takenAs, takenBy, finishedAs, finishedBy}
 use Rattle.pieces.specs.Stream.{joined, takenAll, howStood}
 use Rattle.dcs.proofs.Progress.{nothing-unread}
 use Rattle.pieces.proofs.Answered.{stream-append, pieces-append}
@@ -43,6 +45,14 @@ began l stride p size opens =
     ap (λ (a : Opening). openedAs a (dcs.openedBy l stride p size .session) (l .width))
     (ap (λ (o : payloadOpened.Opened). o .answer) (cond-yes _ _ opens))
 
+-- one whose opening fails is refused with 11
+refused-began : (l : Limits) (stride : ℕ) (p : Palette) (size : ℕ) → openable l stride size ≡ false
+    → openedBy l stride p size .standing ≡ standings.Refused refusals.Opening
+unfolding openedBy openedAs beganAs dcs.openedBy reservedBy
+refused-began l stride p size closed =
+    ap (λ (a : Opening). openedAs a (dcs.openedBy l stride p size .session) (l .width) .standing)
+    (ap (λ (o : payloadOpened.Opened). o .answer) (cond-no _ _ closed))
+
 -- after an end or a refusal no piece is taken
 over-stays : (r : Reader) (canvas z : List ℕ) → (r .standing ≡ standings.Reading → ⊥) → takenBy r canvas z ≡ (r, canvas)
 unfolding takenBy takenAs
@@ -58,6 +68,18 @@ unfolding takenAll
 over-all r canvas [] h = refl
 over-all r canvas (z ∷ zs) h =
     ap (λ (x : Reader × List ℕ). takenAll (x .0) (x .1) zs) (over-stays r canvas z h) ∙ over-all r canvas zs h
+
+-- An opening that fails: no piece is taken and nothing is written, and a finish is 11.
+pub closed-whole : (l : Limits) (stride : ℕ) (p : Palette) (opening : List ℕ) → openable l stride (length opening) ≡ false → (zs : List (List ℕ)) (owner : Palette)
+    → (takenAll (openedBy l stride p (length opening)) opening zs ≡ (openedBy l stride p (length opening), opening))
+    × (finishedBy (openedBy l stride p (length opening)) owner opening ≡ turnedAway owner refusals.Opening opening)
+unfolding finishedBy finishedAs
+closed-whole l stride p opening closed zs owner =
+    let r : Reader = openedBy l stride p (length opening) in
+    let stands : r .standing ≡ standings.Refused refusals.Opening = refused-began l stride p (length opening) closed in (
+      over-all r opening zs (λ z. absurd (let other : standings.Reading ≡ standings.Refused refusals.Opening = sym z ∙ stands in let never : _≡_ {A = ℕ} 0 1 = cc in omega arith)),
+      ap (λ (t : Standing). finishedAs t r owner opening) stands,
+    )
 
 module _ (l : Limits) (stride : ℕ) (p : Palette) (opening : List ℕ) (opens : openable l stride (length opening) ≡ true) where
   -- the opening follows a caller that has made no call

@@ -36,6 +36,7 @@ unfolding beganAs
 openedAs openings.Ready s w = beganAs s standings.Reading (6 * w)
 openedAs (openings.Refused n) s w = beganAs s (standings.Refused n) 0
 
+-- a reader is opened as its session is
 unfoldable pub openedBy : Limits → ℕ → Palette → ℕ → Reader
 unfolding openedAs
 openedBy l stride p size = let o : Opened = dcs.openedBy l stride p size in openedAs (o .answer) (o .session) (l .width)
@@ -46,6 +47,7 @@ openedBy l stride p size = let o : Opened = dcs.openedBy l stride p size in open
 unfoldable pub held : ℕ → ℕ
 held n = min n 18446744073709551615
 
+-- a count and more
 unfoldable pub heldSum : ℕ → ℕ → ℕ
 unfolding held
 heldSum count more = held (count + more)
@@ -56,6 +58,7 @@ unfolding heldSum
 countedAs c consumed ink =
     record { consumed = heldSum (c .consumed) consumed; ink = heldSum (c .ink) ink; calls = heldSum (c .calls) 1 }
 
+-- the reader after a call, with the session and what the answer told
 unfoldable pub afterCall : Reader → Session → Standing → ℕ → ℕ → Reader
 unfolding countedAs
 afterCall r s standing consumed ink =
@@ -69,6 +72,7 @@ calledAs (answers.Stopped c i) s r = record { reader = afterCall r s standings.R
 calledAs (answers.Ended c i e) s r = record { reader = afterCall r s (standings.Ended e) c i; stopped = 0 }
 calledAs (answers.Refused n) s r = record { reader = afterCall r s (standings.Refused n) 0 0; stopped = 0 }
 
+-- a call with the reader's allowance
 unfoldable pub calledBy : Reader → List ℕ → List ℕ → Called × List ℕ
 unfolding calledAs
 calledBy r canvas bytes =
@@ -97,12 +101,14 @@ takenAs standings.Reading r canvas bytes = takenIn r canvas bytes
 takenAs (standings.Ended e) r canvas bytes = (r, canvas)
 takenAs (standings.Refused n) r canvas bytes = (r, canvas)
 
+-- so a piece is taken
 unfoldable pub takenBy : Reader → List ℕ → List ℕ → Reader × List ℕ
 unfolding takenAs
 takenBy r canvas bytes = takenAs (r .standing) r canvas bytes
 
 -- ---- the end
 
+-- a reader that was not refused is finished as its session is
 unfoldable pub finishedAs : Standing → Reader → Palette → List ℕ → Finished × List ℕ
 finishedAs standings.Reading r owner canvas = dcs.finishedBy (r .session) owner canvas
 finishedAs (standings.Ended e) r owner canvas = dcs.finishedBy (r .session) owner canvas
