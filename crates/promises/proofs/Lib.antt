@@ -13,6 +13,8 @@ pub mod RefusedCopies
 pub mod RefusedPayload
 pub mod RefusedDcs
 pub mod RefusedAborts
+pub mod StoppedCalls
+pub mod Hollow
 pub mod OneAnswers
 pub mod OneNumbers
 pub mod OneCanvas
