@@ -15,6 +15,7 @@ pub mod RefusedDcs
 pub mod RefusedAborts
 pub mod StoppedCalls
 pub mod Hollow
+pub mod HollowCallers
 pub mod OneAnswers
 pub mod OneNumbers
 pub mod OneCanvas
