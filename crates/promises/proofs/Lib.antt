@@ -11,6 +11,7 @@ pub mod RefusedFinishes
 pub mod RefusedShots
 pub mod RefusedCopies
 pub mod RefusedPayload
+pub mod RefusedFeeds
 pub mod RefusedDcs
 pub mod RefusedAborts
 pub mod StoppedCalls
