@@ -11,8 +11,12 @@ pub mod RefusedFinishes
 pub mod RefusedShots
 pub mod RefusedCopies
 pub mod RefusedPayload
+pub mod RefusedFeeds
 pub mod RefusedDcs
 pub mod RefusedAborts
+pub mod StoppedCalls
+pub mod Hollow
+pub mod HollowCallers
 pub mod OneAnswers
 pub mod OneNumbers
 pub mod OneCanvas

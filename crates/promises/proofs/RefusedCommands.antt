@@ -34,6 +34,13 @@ AbovePixels s a x = s .limits .pixels < pixelsOf (grownTo a (x .width) (x .heigh
 abbrev pub AboveRoom : Setting → Area → Type 0
 AboveRoom s x = (s .stride < x .width) ⊎ (s .rows < x .height)
 
+-- in their order: 6 where it is not 5, 7 where it is neither
+abbrev pub SixNotFive : Setting → Area → Area → Type 0
+SixNotFive s a x = (¬ AboveLimits s x) × AbovePixels s a x
+
+abbrev pub SevenNotSix : Setting → Area → Area → Type 0
+SevenNotSix s a x = (¬ AboveLimits s x) × ((¬ AbovePixels s a x) × AboveRoom s x)
+
 module _ (s : Setting) (a x : Area) where
   limits-tell : Tells (ltb (s .limits .width) (x .width) || ltb (s .limits .height) (x .height)) (AboveLimits s x)
   limits-tell = tells-or (tells-less _ _) (tells-less _ _)
@@ -59,7 +66,7 @@ module _ (s : Setting) (a x : Area) where
       go false false e = let never : _≡_ {A = ℕ} 0 1 = cc in omega arith
 
   -- 6: not that, and the visible area would exceed M
-  pub size-six : (refusalOf ≡ some 6) ↔ ((¬ AboveLimits s x) × AbovePixels s a x)
+  pub size-six : (refusalOf ≡ some 6) ↔ SixNotFive s a x
   unfolding sizeRefusal
   size-six =
       later-case limits-tell (apart (λ q. omega arith))
@@ -70,7 +77,7 @@ module _ (s : Setting) (a x : Area) where
       go false e = let never : _≡_ {A = ℕ} 0 1 = cc in omega arith
 
   -- 7: neither, and it is above the stride or the rows
-  pub size-seven : (refusalOf ≡ some 7) ↔ ((¬ AboveLimits s x) × ((¬ AbovePixels s a x) × AboveRoom s x))
+  pub size-seven : (refusalOf ≡ some 7) ↔ SevenNotSix s a x
   unfolding sizeRefusal
   size-seven =
       later-case limits-tell (apart (λ q. omega arith))
@@ -187,11 +194,11 @@ module _ (s : Setting) (c : Command) (d : Drawing) where
   five-exactly = Iff·trans (size-exactly s c d 5 (λ q. omega arith)) (asks-map (askedSize c d) (size-five s (d .area)))
 
   -- 6 is given exactly when it does not, and the visible area, or the raster size, would exceed M pixels.
-  pub six-exactly : (drawCommand s c d ≡ refused 6) ↔ Asks (askedSize c d) (λ x. (¬ AboveLimits s x) × AbovePixels s (d .area) x)
+  pub six-exactly : (drawCommand s c d ≡ refused 6) ↔ Asks (askedSize c d) (SixNotFive s (d .area))
   six-exactly = Iff·trans (size-exactly s c d 6 (λ q. omega arith)) (asks-map (askedSize c d) (size-six s (d .area)))
 
   -- 7 is given exactly when neither holds, and the width is above the stride or the height above the rows.
-  pub seven-exactly : (drawCommand s c d ≡ refused 7) ↔ Asks (askedSize c d) (λ x. (¬ AboveLimits s x) × ((¬ AbovePixels s (d .area) x) × AboveRoom s x))
+  pub seven-exactly : (drawCommand s c d ≡ refused 7) ↔ Asks (askedSize c d) (SevenNotSix s (d .area))
   seven-exactly = Iff·trans (size-exactly s c d 7 (λ q. omega arith)) (asks-map (askedSize c d) (size-seven s (d .area)))
 
 -- ---- commands in their order

@@ -85,3 +85,25 @@ module _ {S : Type 0} (step : S → ℕ → Step S) (rest : S → S) where
     subst (λ (ys : List ℕ). (call step rest a s ys .how ≡ refusedBy n) × (call step rest a s ys .state ≡ t)) (sym (h .split))
     (refused-from (h .before) (h .byte) (h .later) a s (h .reads) (h .fits) (h .refuses)),
   )
+
+-- the bytes of a call come to one where this holds: those before it are read, with an ink that the allowance has
+pub record MeetsByte {S : Type 0} (step : S → ℕ → Step S) (a : ℕ) (s : S) (xs : List ℕ) (P : S → ℕ → Type 0) : Type 0 where
+  pub before : List ℕ
+  pub byte : ℕ
+  pub later : List ℕ
+  pub split : xs ≡ before ++ (byte ∷ later)
+  pub reads : readFrom step s before .how ≡ readAll
+  pub fits : readFrom step s before .ink ≤ a
+  pub holds : P (readFrom step s before .state) byte
+
+-- A call is refused exactly when its bytes come to one that is.
+pub meets-exactly : {S : Type 0} (step : S → ℕ → Step S) (rest : S → S) (a : ℕ) (s : S) (xs : List ℕ) (n : ℕ) (P : S → ℕ → Type 0)
+    → ((t : S) (b : ℕ) → ((u : S) × (step t b ≡ refuse u n)) ↔ P t b) → RunRefused step a s xs (call step rest a s xs .state) n ↔ MeetsByte step a s xs P
+meets-exactly {S} step rest a s xs n P k = (
+  λ h. record { before = h .before; byte = h .byte; later = h .later; split = h .split; reads = h .reads; fits = h .fits; holds = k _ (h .byte) .0 (_, h .refuses) },
+  λ h.
+  let u = k _ (h .byte) .1 (h .holds) in
+  let r : RunRefused step a s xs (u .0) n =
+  record { before = h .before; byte = h .byte; later = h .later; split = h .split; reads = h .reads; fits = h .fits; refuses = u .1 } in
+  run-exactly step rest a s xs (call step rest a s xs .state) n .0 (run-exactly step rest a s xs (u .0) n .1 r .0, refl),
+)
