@@ -1,5 +1,5 @@
 -- The bench's reading: one law for each way through it.
-use Prim.Native.Nat.{ℕ, _+_, _*_, _^_, _≤_}
+use Prim.Native.Nat.{ℕ, _+_, _*_, _≤_}
 use native.Mathlib.Omega.{arith}
 use mathlib.Core.Bool.{Bool, true, false}
 use mathlib.Core.List.{List}
@@ -24,7 +24,7 @@ use Rattle.payload.specs.History.{givenMeant, parametersMeant, limitsMeant, set
 use Rattle.payload.specs.Judge.{openable}
 use Rattle.oneshot.specs.OneShot.{Read, readOutcome, readPart, finishMeant, readMeant}
 use Rattle.oneshot.proofs.PartLaws.{opens-meant}
-use Rattle.boundary.specs.Bench.{house, noParameters, sizeOrNumber, benchDecoded, SizeWithin, sizeOrNumberOf}
+use Rattle.boundary.specs.Bench.{house, noParameters, sizeOrNumber, benchDecoded, SizeWithin}
 
 -- ---- an answer's number
 
@@ -35,13 +35,13 @@ module _ {a : Finishing} (fits : SizeWithin a) where
   pub height-fits : {r : Report} → a ≡ Picture r → r .height ≤ 768
   height-fits e = subst SizeWithin e fits .1
 
-pub picture-number : {a : Finishing} {r : Report} → a ≡ Picture r → r .width * 4294967296 + r .height ≡ sizeOrNumberOf a
-unfolding sizeOrNumberOf
-picture-number e = ap sizeOrNumberOf (sym e)
+pub picture-number : {a : Finishing} {r : Report} (p : Palette) → a ≡ Picture r → r .width * 4294967296 + r .height ≡ sizeOrNumber (finishMeant a p)
+unfolding sizeOrNumber finishMeant reportMeant
+picture-number p e = ap (λ (b : Finishing). sizeOrNumber (finishMeant b p)) (sym e)
 
-pub refused-number : {a : Finishing} {n : Refusal} {x : ℕ} → a ≡ Refused n → x ≡ numberOf n → x ≡ sizeOrNumberOf a
-unfolding sizeOrNumberOf
-refused-number e k = k ∙ ap sizeOrNumberOf (sym e)
+pub refused-number : {a : Finishing} {n : Refusal} {x : ℕ} (p : Palette) → a ≡ Refused n → x ≡ numberOf n → x ≡ sizeOrNumber (finishMeant a p)
+unfolding sizeOrNumber finishMeant
+refused-number p e k = k ∙ ap (λ (b : Finishing). sizeOrNumber (finishMeant b p)) (sym e)
 
 pub ruleset numbered = (width-fits, height-fits, picture-number, refused-number)
 
@@ -63,11 +63,6 @@ within-house : (s : Setting) (a : Finishing) (p : Palette) → s .limits ≡ hou
 unfolding finishMeant reportMeant house
 within-house s (Picture r) p e h = (subst (λ l. r .width ≤ l .width) e (h .0), subst (λ l. r .height ≤ l .height) e (h .1))
 within-house s (Refused n) p e h = tt
-
-number-meant : (a : Finishing) (p : Palette) → sizeOrNumberOf a ≡ sizeOrNumber (finishMeant a p)
-unfolding finishMeant reportMeant sizeOrNumber sizeOrNumberOf
-number-meant (Picture r) p = refl
-number-meant (Refused n) p = refl
 
 -- ---- the reading
 
@@ -109,10 +104,10 @@ module _ {t : Bool} (stride : ℕ) (canvas bytes : List ℕ) {l : Limits} (limit
         within-house setting (x .answer) (x .palette) refl
         (subst (Within setting) (sym answer) (finish-within noParameters (meant.payload setting noParameters standard bytes) (payload-sound (opens-roomy house stride (length canvas) (known ∙ h)) noParameters standard bytes)))
 
-    pub bench-read : {r : ℕ} → r ≡ sizeOrNumberOf (x .answer) → (r, l₁) ≡ benchDecoded stride canvas bytes
+    pub bench-read : {r : ℕ} → r ≡ sizeOrNumber (finishMeant (x .answer) (x .palette)) → (r, l₁) ≡ benchDecoded stride canvas bytes
     unfolding benchDecoded readMeant readPart readOutcome settingFor
     bench-read m =
-        ap (λ (n : ℕ). (n, l₁)) (m ∙ number-meant (x .answer) (x .palette))
+        ap (λ (n : ℕ). (n, l₁)) m
         ∙ ap (λ (y : Read). (sizeOrNumber (y .answer), y .canvas)) read
         ∙ sym (cond-yes _ _ (known ∙ h))
 

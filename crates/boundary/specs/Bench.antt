@@ -5,7 +5,6 @@ use mathlib.Core.List.{List}
 use mathlib.Core.Option.{none, some}
 use lib.ListN.{length}
 use Rattle.colours.specs.Palette.{standard}
-use Rattle.frame.specs.Numbers.{numberOf}
 use Rattle.meaning.specs.Calls.{settingFor, opens, shown}
 use Rattle.meaning.specs.Drawing.{Limits, Setting, Outcome}
 use Rattle.meaning.specs.Payload.{Parameters, payload, Finished, finished, turnedDown, finish}
@@ -33,13 +32,7 @@ benchDecoded stride canvas bytes =
     let out : Outcome = payload s noParameters standard bytes in
     cond (opens house stride (length canvas)) (sizeOrNumber (finish s noParameters out), shown stride (some (out .drawing)) canvas) (11, canvas)
 
--- ---- the same of the code's answers
-
--- a picture no larger than the house's limits
+-- a picture of the code no larger than the house's limits
 abbrev pub SizeWithin : Finishing → Type 0
 SizeWithin (Picture r) = (r .width ≤ 1024) × (r .height ≤ 768)
 SizeWithin (Refused n) = Unit {0}
-
-unfoldable pub sizeOrNumberOf : Finishing → ℕ
-sizeOrNumberOf (Picture r) = r .width * 2 ^ 32 + r .height
-sizeOrNumberOf (Refused n) = numberOf n

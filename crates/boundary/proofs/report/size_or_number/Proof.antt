@@ -1,8 +1,8 @@
 use Rattle.boundary.proofs.BenchLaws.{width-fits, height-fits, numbered}
 use borrow.Author.Needs.{needs}
 use native.Mathlib.Omega.{arith}
-use Rattle.boundary.proofs.size_or_number.Statement.{statement}
-use Rattle.boundary.proofs.size_or_number.Tie as tie
+use Rattle.boundary.proofs.report.size_or_number.Statement.{statement}
+use Rattle.boundary.proofs.report.size_or_number.Tie as tie
 
 enum-known-answer : tie.Need-enum-known-answer
 enum-known-answer c = search needs
