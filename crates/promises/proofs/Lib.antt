@@ -27,3 +27,4 @@ pub mod OnePayload
 pub mod OneDcs
 pub mod OneOneshot
 pub mod Demands
+pub mod DcsDemands
