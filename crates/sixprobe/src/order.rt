@@ -1,6 +1,6 @@
 // What a line orders, judged by its form alone and by the room there is.
-use crate::fields::Value;
 use crate::fields::Parameter;
+use crate::fields::Value;
 use crate::fields::bytes_at;
 use crate::fields::count;
 use crate::fields::field;
@@ -18,18 +18,36 @@ pub(crate) struct Setting {
     pub(crate) stride: usize,
 }
 
+// What is asked of a session; `count` is how many bytes the line had.
+pub(crate) enum Ask {
+    Payload {
+        setting: Setting,
+        settings: Settings,
+    },
+    Dcs(Setting),
+    Feed {
+        allowance: usize,
+        count: usize,
+    },
+    Finish,
+    Abort,
+}
+
 pub(crate) enum Order {
     Bad,
     Canvas(usize),
     Lend(usize),
-    Payload { setting: Setting, settings: Settings },
-    Dcs(Setting),
-    // `count` is how many bytes the line had.
-    Feed { allowance: usize, count: usize },
-    Finish,
-    Abort,
-    OneShot { setting: Setting, count: usize },
-    Copy { stride: usize, width: usize, height: usize, length: usize },
+    Session(Ask),
+    OneShot {
+        setting: Setting,
+        count: usize,
+    },
+    Copy {
+        stride: usize,
+        width: usize,
+        height: usize,
+        length: usize,
+    },
     Palette,
     Reset,
 }
@@ -57,10 +75,10 @@ fn begins(line: &[u8], word: &[u8]) -> bool {
 
 fn alone(line: &[u8]) -> Order {
     if begins(line, b"finish") {
-        return Order::Finish;
+        return Order::Session(Ask::Finish);
     }
     if begins(line, b"abort") {
-        return Order::Abort;
+        return Order::Session(Ask::Abort);
     }
     if begins(line, b"palette") {
         return Order::Palette;
@@ -95,7 +113,7 @@ fn feed(line: &[u8], bytes: &mut [u8]) -> Order {
     let Value::Of(count) = bytes_at(line, 2, bytes) else {
         return Order::Bad;
     };
-    Order::Feed { allowance, count }
+    Order::Session(Ask::Feed { allowance, count })
 }
 
 fn copy(line: &[u8]) -> Order {
@@ -163,7 +181,7 @@ fn dcs(line: &[u8]) -> Order {
     let Asked::Of(setting) = opening(line) else {
         return Order::Bad;
     };
-    Order::Dcs(setting)
+    Order::Session(Ask::Dcs(setting))
 }
 
 fn one_shot(line: &[u8], bytes: &mut [u8]) -> Order {
@@ -193,5 +211,5 @@ fn payload(line: &[u8]) -> Order {
         return Order::Bad;
     };
     let settings = Settings { p1, p2 };
-    Order::Payload { setting, settings }
+    Order::Session(Ask::Payload { setting, settings })
 }
