@@ -1,7 +1,7 @@
 // Carries an order out and says what it came to, but for the canvas's checksum.
 use crate::order::Ask;
+use crate::order::Bounds;
 use crate::order::Order;
-use crate::order::Setting;
 use crate::rooms;
 use crate::rooms::first;
 use crate::rooms::held;
@@ -32,9 +32,9 @@ fn lend(mut state: State, lent: usize) -> State {
     state
 }
 
-fn read_whole(owner: Palette, lent: &mut [u8], setting: Setting, bytes: &[u8]) -> Palette {
-    let limits = setting.limits;
-    let stride = setting.stride;
+fn read_whole(owner: Palette, lent: &mut [u8], bounds: Bounds, bytes: &[u8]) -> Palette {
+    let limits = bounds.limits;
+    let stride = bounds.stride;
     let part = oneshot::payload_part(limits, stride, lent.len(), bytes).len();
     let finished = oneshot::read(limits, stride, owner, lent, bytes);
     let answer = finished.answer;
@@ -43,12 +43,12 @@ fn read_whole(owner: Palette, lent: &mut [u8], setting: Setting, bytes: &[u8]) -
     finished.palette
 }
 
-fn one_shot(mut state: State, lent: &mut [u8], setting: Setting, bytes: &[u8]) -> State {
+fn one_shot(mut state: State, lent: &mut [u8], bounds: Bounds, bytes: &[u8]) -> State {
     if state.is_busy() {
         say::words(b"busy");
         return state;
     }
-    let palette = read_whole(state.palette, lent, setting, bytes);
+    let palette = read_whole(state.palette, lent, bounds, bytes);
     state.palette = palette;
     state
 }
@@ -102,8 +102,8 @@ fn reset(mut state: State) -> State {
 
 fn obey_session(wish: Ask, state: State, lent: &mut [u8], bytes: &[u8]) -> State {
     match wish {
-        Ask::Payload { setting, settings } => open_payload(state, lent, setting, settings),
-        Ask::Dcs(setting) => open_dcs(state, lent.len(), setting),
+        Ask::Payload { bounds, settings } => open_payload(state, lent, bounds, settings),
+        Ask::Dcs(bounds) => open_dcs(state, lent.len(), bounds),
         Ask::Feed { allowance, count } => feed(state, lent, first(bytes, count), allowance),
         Ask::Finish => finish(state, lent),
         Ask::Abort => abort(state),
@@ -117,7 +117,7 @@ fn obey_lent(order: Order, state: State, lent: &mut [u8], bytes: &[u8]) -> State
         Order::Canvas(_) => state,
         Order::Lend(length) => lend(state, length),
         Order::Session(wish) => obey_session(wish, state, lent, bytes),
-        Order::OneShot { setting, count } => one_shot(state, lent, setting, first(bytes, count)),
+        Order::OneShot { bounds, count } => one_shot(state, lent, bounds, first(bytes, count)),
         Order::Copy {
             stride,
             width,

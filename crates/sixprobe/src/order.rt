@@ -13,22 +13,16 @@ use frame::Limits;
 use payload::Settings;
 
 // The limits and the stride of an opening.
-pub(crate) struct Setting {
+pub(crate) struct Bounds {
     pub(crate) limits: Limits,
     pub(crate) stride: usize,
 }
 
 // What is asked of a session; `count` is how many bytes the line had.
 pub(crate) enum Ask {
-    Payload {
-        setting: Setting,
-        settings: Settings,
-    },
-    Dcs(Setting),
-    Feed {
-        allowance: usize,
-        count: usize,
-    },
+    Payload { bounds: Bounds, settings: Settings },
+    Dcs(Bounds),
+    Feed { allowance: usize, count: usize },
     Finish,
     Abort,
 }
@@ -39,7 +33,7 @@ pub(crate) enum Order {
     Lend(usize),
     Session(Ask),
     OneShot {
-        setting: Setting,
+        bounds: Bounds,
         count: usize,
     },
     Copy {
@@ -145,7 +139,7 @@ fn copy(line: &[u8]) -> Order {
 
 enum Asked {
     Bad,
-    Of(Setting),
+    Of(Bounds),
 }
 
 // W, H, R, M and S, the first five fields after the word.
@@ -171,37 +165,37 @@ fn opening(line: &[u8]) -> Asked {
         repeats,
         pixels,
     };
-    Asked::Of(Setting { limits, stride })
+    Asked::Of(Bounds { limits, stride })
 }
 
 fn dcs(line: &[u8]) -> Order {
     if !begins(line, b"dcs") {
         return Order::Bad;
     }
-    let Asked::Of(setting) = opening(line) else {
+    let Asked::Of(bounds) = opening(line) else {
         return Order::Bad;
     };
-    Order::Session(Ask::Dcs(setting))
+    Order::Session(Ask::Dcs(bounds))
 }
 
 fn one_shot(line: &[u8], bytes: &mut [u8]) -> Order {
     if !begins(line, b"oneshot") {
         return Order::Bad;
     }
-    let Asked::Of(setting) = opening(line) else {
+    let Asked::Of(bounds) = opening(line) else {
         return Order::Bad;
     };
     let Value::Of(count) = bytes_at(line, 6, bytes) else {
         return Order::Bad;
     };
-    Order::OneShot { setting, count }
+    Order::OneShot { bounds, count }
 }
 
 fn payload(line: &[u8]) -> Order {
     if !begins(line, b"payload") {
         return Order::Bad;
     }
-    let Asked::Of(setting) = opening(line) else {
+    let Asked::Of(bounds) = opening(line) else {
         return Order::Bad;
     };
     let Parameter::Of(p1) = parameter_at(line, 6) else {
@@ -211,5 +205,5 @@ fn payload(line: &[u8]) -> Order {
         return Order::Bad;
     };
     let settings = Settings { p1, p2 };
-    Order::Session(Ask::Payload { setting, settings })
+    Order::Session(Ask::Payload { bounds, settings })
 }

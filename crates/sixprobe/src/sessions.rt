@@ -1,5 +1,5 @@
 // Orders to a session: opening, feeding, finishing and dropping one, on what is lent of the canvas.
-use crate::order::Setting;
+use crate::order::Bounds;
 use crate::say;
 use crate::state::Open;
 use crate::state::State;
@@ -25,12 +25,12 @@ fn is_ready(answer: Opening) -> bool {
 pub(crate) fn open_payload(
     state: State,
     lent: &mut [u8],
-    setting: Setting,
+    bounds: Bounds,
     settings: Settings,
 ) -> State {
     let palette = state.palette;
-    let limits = setting.limits;
-    let opened = payload::open(limits, setting.stride, settings, palette, lent);
+    let limits = bounds.limits;
+    let opened = payload::open(limits, bounds.stride, settings, palette, lent);
     let answer = opened.answer;
     if is_ready(answer) {
         return state.with_payload(opened.session);
@@ -38,10 +38,10 @@ pub(crate) fn open_payload(
     state.closed(palette)
 }
 
-pub(crate) fn open_dcs(state: State, length: usize, setting: Setting) -> State {
+pub(crate) fn open_dcs(state: State, length: usize, bounds: Bounds) -> State {
     let palette = state.palette;
-    let limits = setting.limits;
-    let opened = dcs::open(limits, setting.stride, palette, length);
+    let limits = bounds.limits;
+    let opened = dcs::open(limits, bounds.stride, palette, length);
     let answer = opened.answer;
     if is_ready(answer) {
         return state.with_dcs(opened.session);
