@@ -1,16 +1,20 @@
 // Carries an order out and says what it came to, but for the canvas's checksum.
+use crate::order::Ask;
+use crate::order::Bounds;
 use crate::order::Order;
-use crate::order::Setting;
 use crate::rooms;
 use crate::rooms::first;
 use crate::rooms::held;
 use crate::say;
-use crate::sessions;
+use crate::sessions::abort;
+use crate::sessions::feed;
+use crate::sessions::finish;
+use crate::sessions::open_dcs;
+use crate::sessions::open_payload;
 use crate::state::State;
 use canvas::Copied;
 use colours::Palette;
 use frame::Refusal;
-use payload::Settings;
 
 fn new_canvas(mut state: State, canvas: &mut [u8], length: usize) -> State {
     let room = canvas.len();
@@ -28,43 +32,9 @@ fn lend(mut state: State, lent: usize) -> State {
     state
 }
 
-fn open_payload(mut state: State, lent: &mut [u8], setting: Setting, settings: Settings) -> State {
-    let after = sessions::open_payload(state.sessions, state.palette, lent, setting, settings);
-    state.sessions = after;
-    state
-}
-
-fn open_dcs(mut state: State, length: usize, setting: Setting) -> State {
-    let after = sessions::open_dcs(state.sessions, state.palette, length, setting);
-    state.sessions = after;
-    state
-}
-
-fn feed(mut state: State, lent: &mut [u8], bytes: &[u8], allowance: usize) -> State {
-    let after = sessions::feed(state.sessions, lent, bytes, allowance);
-    state.sessions = after;
-    state
-}
-
-fn finish(mut state: State, lent: &mut [u8]) -> State {
-    let palette = sessions::finish(state.sessions, state.palette, lent);
-    let after = state.sessions.without();
-    state.palette = palette;
-    state.sessions = after;
-    state
-}
-
-fn abort(mut state: State) -> State {
-    let palette = sessions::abort(state.sessions, state.palette);
-    let after = state.sessions.without();
-    state.palette = palette;
-    state.sessions = after;
-    state
-}
-
-fn read_whole(owner: Palette, lent: &mut [u8], setting: Setting, bytes: &[u8]) -> Palette {
-    let limits = setting.limits;
-    let stride = setting.stride;
+fn read_whole(owner: Palette, lent: &mut [u8], bounds: Bounds, bytes: &[u8]) -> Palette {
+    let limits = bounds.limits;
+    let stride = bounds.stride;
     let part = oneshot::payload_part(limits, stride, lent.len(), bytes).len();
     let finished = oneshot::read(limits, stride, owner, lent, bytes);
     let answer = finished.answer;
@@ -73,12 +43,12 @@ fn read_whole(owner: Palette, lent: &mut [u8], setting: Setting, bytes: &[u8]) -
     finished.palette
 }
 
-fn one_shot(mut state: State, lent: &mut [u8], setting: Setting, bytes: &[u8]) -> State {
-    if state.sessions.is_open() {
+fn one_shot(mut state: State, lent: &mut [u8], bounds: Bounds, bytes: &[u8]) -> State {
+    if state.is_busy() {
         say::words(b"busy");
         return state;
     }
-    let palette = read_whole(state.palette, lent, setting, bytes);
+    let palette = read_whole(state.palette, lent, bounds, bytes);
     state.palette = palette;
     state
 }
@@ -120,7 +90,7 @@ fn say_palette(palette: Palette) {
 }
 
 fn reset(mut state: State) -> State {
-    if state.sessions.is_open() {
+    if state.is_busy() {
         say::words(b"busy");
         return state;
     }
@@ -130,18 +100,24 @@ fn reset(mut state: State) -> State {
     state
 }
 
+fn obey_session(wish: Ask, state: State, lent: &mut [u8], bytes: &[u8]) -> State {
+    match wish {
+        Ask::Payload { bounds, settings } => open_payload(state, lent, bounds, settings),
+        Ask::Dcs(bounds) => open_dcs(state, lent.len(), bounds),
+        Ask::Feed { allowance, count } => feed(state, lent, first(bytes, count), allowance),
+        Ask::Finish => finish(state, lent),
+        Ask::Abort => abort(state),
+    }
+}
+
 // All orders but `canvas`, on what is lent.
 fn obey_lent(order: Order, state: State, lent: &mut [u8], bytes: &[u8]) -> State {
     match order {
         Order::Bad => state,
         Order::Canvas(_) => state,
         Order::Lend(length) => lend(state, length),
-        Order::Payload { setting, settings } => open_payload(state, lent, setting, settings),
-        Order::Dcs(setting) => open_dcs(state, lent.len(), setting),
-        Order::Feed { allowance, count } => feed(state, lent, first(bytes, count), allowance),
-        Order::Finish => finish(state, lent),
-        Order::Abort => abort(state),
-        Order::OneShot { setting, count } => one_shot(state, lent, setting, first(bytes, count)),
+        Order::Session(wish) => obey_session(wish, state, lent, bytes),
+        Order::OneShot { bounds, count } => one_shot(state, lent, bounds, first(bytes, count)),
         Order::Copy {
             stride,
             width,

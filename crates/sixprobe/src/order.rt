@@ -1,6 +1,6 @@
 // What a line orders, judged by its form alone and by the room there is.
-use crate::fields::Value;
 use crate::fields::Parameter;
+use crate::fields::Value;
 use crate::fields::bytes_at;
 use crate::fields::count;
 use crate::fields::field;
@@ -13,23 +13,35 @@ use frame::Limits;
 use payload::Settings;
 
 // The limits and the stride of an opening.
-pub(crate) struct Setting {
+pub(crate) struct Bounds {
     pub(crate) limits: Limits,
     pub(crate) stride: usize,
+}
+
+// What is asked of a session; `count` is how many bytes the line had.
+pub(crate) enum Ask {
+    Payload { bounds: Bounds, settings: Settings },
+    Dcs(Bounds),
+    Feed { allowance: usize, count: usize },
+    Finish,
+    Abort,
 }
 
 pub(crate) enum Order {
     Bad,
     Canvas(usize),
     Lend(usize),
-    Payload { setting: Setting, settings: Settings },
-    Dcs(Setting),
-    // `count` is how many bytes the line had.
-    Feed { allowance: usize, count: usize },
-    Finish,
-    Abort,
-    OneShot { setting: Setting, count: usize },
-    Copy { stride: usize, width: usize, height: usize, length: usize },
+    Session(Ask),
+    OneShot {
+        bounds: Bounds,
+        count: usize,
+    },
+    Copy {
+        stride: usize,
+        width: usize,
+        height: usize,
+        length: usize,
+    },
     Palette,
     Reset,
 }
@@ -57,10 +69,10 @@ fn begins(line: &[u8], word: &[u8]) -> bool {
 
 fn alone(line: &[u8]) -> Order {
     if begins(line, b"finish") {
-        return Order::Finish;
+        return Order::Session(Ask::Finish);
     }
     if begins(line, b"abort") {
-        return Order::Abort;
+        return Order::Session(Ask::Abort);
     }
     if begins(line, b"palette") {
         return Order::Palette;
@@ -95,7 +107,7 @@ fn feed(line: &[u8], bytes: &mut [u8]) -> Order {
     let Value::Of(count) = bytes_at(line, 2, bytes) else {
         return Order::Bad;
     };
-    Order::Feed { allowance, count }
+    Order::Session(Ask::Feed { allowance, count })
 }
 
 fn copy(line: &[u8]) -> Order {
@@ -127,7 +139,7 @@ fn copy(line: &[u8]) -> Order {
 
 enum Asked {
     Bad,
-    Of(Setting),
+    Of(Bounds),
 }
 
 // W, H, R, M and S, the first five fields after the word.
@@ -153,37 +165,37 @@ fn opening(line: &[u8]) -> Asked {
         repeats,
         pixels,
     };
-    Asked::Of(Setting { limits, stride })
+    Asked::Of(Bounds { limits, stride })
 }
 
 fn dcs(line: &[u8]) -> Order {
     if !begins(line, b"dcs") {
         return Order::Bad;
     }
-    let Asked::Of(setting) = opening(line) else {
+    let Asked::Of(bounds) = opening(line) else {
         return Order::Bad;
     };
-    Order::Dcs(setting)
+    Order::Session(Ask::Dcs(bounds))
 }
 
 fn one_shot(line: &[u8], bytes: &mut [u8]) -> Order {
     if !begins(line, b"oneshot") {
         return Order::Bad;
     }
-    let Asked::Of(setting) = opening(line) else {
+    let Asked::Of(bounds) = opening(line) else {
         return Order::Bad;
     };
     let Value::Of(count) = bytes_at(line, 6, bytes) else {
         return Order::Bad;
     };
-    Order::OneShot { setting, count }
+    Order::OneShot { bounds, count }
 }
 
 fn payload(line: &[u8]) -> Order {
     if !begins(line, b"payload") {
         return Order::Bad;
     }
-    let Asked::Of(setting) = opening(line) else {
+    let Asked::Of(bounds) = opening(line) else {
         return Order::Bad;
     };
     let Parameter::Of(p1) = parameter_at(line, 6) else {
@@ -193,5 +205,5 @@ fn payload(line: &[u8]) -> Order {
         return Order::Bad;
     };
     let settings = Settings { p1, p2 };
-    Order::Payload { setting, settings }
+    Order::Session(Ask::Payload { bounds, settings })
 }

@@ -1,10 +1,10 @@
 // Orders to a session: opening, feeding, finishing and dropping one, on what is lent of the canvas.
-use crate::order::Setting;
+use crate::order::Bounds;
 use crate::say;
 use crate::state::Open;
-use crate::state::Sessions;
-use colours::Palette;
+use crate::state::State;
 use dcs::Ending;
+use payload::Finished;
 use payload::Opening;
 use payload::Settings;
 
@@ -23,36 +23,30 @@ fn is_ready(answer: Opening) -> bool {
 }
 
 pub(crate) fn open_payload(
-    sessions: Sessions,
-    owner: Palette,
+    state: State,
     lent: &mut [u8],
-    setting: Setting,
+    bounds: Bounds,
     settings: Settings,
-) -> Sessions {
-    let limits = setting.limits;
-    let opened = payload::open(limits, setting.stride, settings, owner, lent);
+) -> State {
+    let palette = state.palette;
+    let limits = bounds.limits;
+    let opened = payload::open(limits, bounds.stride, settings, palette, lent);
     let answer = opened.answer;
-    let session = opened.session;
     if is_ready(answer) {
-        return sessions.with_payload(session);
+        return state.with_payload(opened.session);
     }
-    sessions.without()
+    state.closed(palette)
 }
 
-pub(crate) fn open_dcs(
-    sessions: Sessions,
-    owner: Palette,
-    length: usize,
-    setting: Setting,
-) -> Sessions {
-    let limits = setting.limits;
-    let opened = dcs::open(limits, setting.stride, owner, length);
+pub(crate) fn open_dcs(state: State, length: usize, bounds: Bounds) -> State {
+    let palette = state.palette;
+    let limits = bounds.limits;
+    let opened = dcs::open(limits, bounds.stride, palette, length);
     let answer = opened.answer;
-    let session = opened.session;
     if is_ready(answer) {
-        return sessions.with_dcs(session);
+        return state.with_dcs(opened.session);
     }
-    sessions.without()
+    state.closed(palette)
 }
 
 fn say_payload(answer: payload::Answer) {
@@ -89,78 +83,65 @@ fn say_dcs(answer: dcs::Answer) {
     }
 }
 
-fn feed_payload(sessions: Sessions, lent: &mut [u8], bytes: &[u8], allowance: usize) -> Sessions {
-    let session = sessions.payload;
-    let fed = payload::feed(session, lent, bytes, allowance);
+fn feed_payload(state: State, lent: &mut [u8], bytes: &[u8], allowance: usize) -> State {
+    let fed = payload::feed(state.payload, lent, bytes, allowance);
     let answer = fed.answer;
-    let after = fed.session;
     say_payload(answer);
-    sessions.with_payload(after)
+    state.with_payload(fed.session)
 }
 
-fn feed_dcs(sessions: Sessions, lent: &mut [u8], bytes: &[u8], allowance: usize) -> Sessions {
-    let session = sessions.dcs;
-    let fed = dcs::feed(session, lent, bytes, allowance);
+fn feed_dcs(state: State, lent: &mut [u8], bytes: &[u8], allowance: usize) -> State {
+    let fed = dcs::feed(state.dcs, lent, bytes, allowance);
     let answer = fed.answer;
-    let after = fed.session;
     say_dcs(answer);
-    sessions.with_dcs(after)
+    state.with_dcs(fed.session)
 }
 
-pub(crate) fn feed(sessions: Sessions, lent: &mut [u8], bytes: &[u8], allowance: usize) -> Sessions {
-    let open = sessions.open;
+pub(crate) fn feed(state: State, lent: &mut [u8], bytes: &[u8], allowance: usize) -> State {
+    let open = state.open;
     match open {
         Open::Nothing => {
             say::words(b"none");
-            sessions
+            state
         }
-        Open::Payload => feed_payload(sessions, lent, bytes, allowance),
-        Open::Dcs => feed_dcs(sessions, lent, bytes, allowance),
+        Open::Payload => feed_payload(state, lent, bytes, allowance),
+        Open::Dcs => feed_dcs(state, lent, bytes, allowance),
     }
 }
 
-fn finish_payload(session: payload::Session, owner: Palette, lent: &mut [u8]) -> Palette {
-    let finished = payload::finish(session, owner, lent);
-    let answer = finished.answer;
+// Says what a finish came to. The session is gone, and the palette is the owner's.
+fn finished(state: State, end: Finished) -> State {
+    let answer = end.answer;
     say::finishing(answer);
-    finished.palette
+    state.closed(end.palette)
 }
 
-fn finish_dcs(session: dcs::Session, owner: Palette, lent: &mut [u8]) -> Palette {
-    let finished = dcs::finish(session, owner, lent);
-    let answer = finished.answer;
-    say::finishing(answer);
-    finished.palette
-}
-
-// The owner's palette after a finish.
-pub(crate) fn finish(sessions: Sessions, owner: Palette, lent: &mut [u8]) -> Palette {
-    let open = sessions.open;
+pub(crate) fn finish(state: State, lent: &mut [u8]) -> State {
+    let open = state.open;
     match open {
         Open::Nothing => {
             say::words(b"none");
-            owner
+            state
         }
-        Open::Payload => finish_payload(sessions.payload, owner, lent),
-        Open::Dcs => finish_dcs(sessions.dcs, owner, lent),
+        Open::Payload => finished(state, payload::finish(state.payload, state.palette, lent)),
+        Open::Dcs => finished(state, dcs::finish(state.dcs, state.palette, lent)),
     }
 }
 
-// The owner's palette after a session is dropped.
-pub(crate) fn abort(sessions: Sessions, owner: Palette) -> Palette {
-    let open = sessions.open;
+pub(crate) fn abort(state: State) -> State {
+    let open = state.open;
     match open {
         Open::Nothing => {
             say::words(b"none");
-            owner
+            state
         }
         Open::Payload => {
             say::words(b"aborted");
-            payload::abort(sessions.payload, owner)
+            state.closed(payload::abort(state.payload, state.palette))
         }
         Open::Dcs => {
             say::words(b"aborted");
-            dcs::abort(sessions.dcs, owner)
+            state.closed(dcs::abort(state.dcs, state.palette))
         }
     }
 }

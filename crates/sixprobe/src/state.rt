@@ -11,51 +11,59 @@ pub(crate) enum Open {
     Dcs,
 }
 
-// A place for a session of each kind; one that `open` does not name is never used again.
-pub(crate) struct Sessions {
+// The owner's palette; a place for a session of each kind, of which only the one that is open is ever used; the canvas's length,
+// and how many of its first bytes are lent.
+pub(crate) struct State {
+    pub(crate) palette: Palette,
     pub(crate) open: Open,
     pub(crate) payload: payload::Session,
     pub(crate) dcs: dcs::Session,
-}
-
-// The owner's palette, the sessions, the canvas's length, and how many of its first bytes are lent.
-pub(crate) struct State {
-    pub(crate) palette: Palette,
-    pub(crate) sessions: Sessions,
     pub(crate) length: usize,
     pub(crate) lent: usize,
 }
 
-impl Sessions {
-    pub(crate) fn with_payload(self, session: payload::Session) -> Sessions {
+impl State {
+    pub(crate) fn with_payload(self, session: payload::Session) -> State {
+        let palette = self.palette;
         let other = self.dcs;
-        Sessions {
+        State {
+            palette,
             open: Open::Payload,
             payload: session,
             dcs: other,
+            length: self.length,
+            lent: self.lent,
         }
     }
 
-    pub(crate) fn with_dcs(self, session: dcs::Session) -> Sessions {
+    pub(crate) fn with_dcs(self, session: dcs::Session) -> State {
+        let palette = self.palette;
         let other = self.payload;
-        Sessions {
+        State {
+            palette,
             open: Open::Dcs,
             payload: other,
             dcs: session,
+            length: self.length,
+            lent: self.lent,
         }
     }
 
-    pub(crate) fn without(self) -> Sessions {
+    // No session, and a palette of the owner's.
+    pub(crate) fn closed(self, palette: Palette) -> State {
         let one = self.payload;
         let other = self.dcs;
-        Sessions {
+        State {
+            palette,
             open: Open::Nothing,
             payload: one,
             dcs: other,
+            length: self.length,
+            lent: self.lent,
         }
     }
 
-    pub(crate) fn is_open(self) -> bool {
+    pub(crate) fn is_busy(self) -> bool {
         let open = self.open;
         match open {
             Open::Nothing => false,
@@ -75,8 +83,9 @@ fn no_limits() -> Limits {
     }
 }
 
-// Refused openings fill the places.
-fn no_sessions(palette: Palette) -> Sessions {
+// The standard palette and no canvas. Refused openings fill the places of the sessions.
+pub(crate) fn at_start() -> State {
+    let palette = Palette::standard();
     let settings = Settings {
         p1: Given::Nothing,
         p2: Given::Nothing,
@@ -86,18 +95,11 @@ fn no_sessions(palette: Palette) -> Sessions {
     let other = dcs::open(no_limits(), 0, palette, 0);
     let payload_place = one.session;
     let dcs_place = other.session;
-    Sessions {
+    State {
+        palette,
         open: Open::Nothing,
         payload: payload_place,
         dcs: dcs_place,
-    }
-}
-
-pub(crate) fn at_start() -> State {
-    let palette = Palette::standard();
-    State {
-        palette,
-        sessions: no_sessions(palette),
         length: 0,
         lent: 0,
     }
