@@ -28,3 +28,8 @@ pub mod OneDcs
 pub mod OneOneshot
 pub mod Demands
 pub mod DcsDemands
+pub mod OneText
+pub mod OneDump
+pub mod OnePieces
+pub mod OneInplace
+pub mod OneBoundary
