@@ -13,6 +13,8 @@ pub mod RefusedCopies
 pub mod RefusedPayload
 pub mod RefusedFeeds
 pub mod RefusedDcs
+pub mod RefusedDcsBytes
+pub mod RefusedDcsFeeds
 pub mod RefusedAborts
 pub mod StoppedCalls
 pub mod Hollow

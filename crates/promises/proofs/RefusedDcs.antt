@@ -114,15 +114,15 @@ module _ (l : Limits) (stride : ℕ) (p : Palette) (opening : List ℕ) where
     dcs-feed-keeps x high e = refused-before c x (dcs-first p m (length c) a bs (numberOf x) high (dcs-feed-exactly x .0 e))
 
     -- A failed session is 9, whichever canvas is lent, and all stays as it was.
-    pub dcs-feed-nine : (lent : List ℕ) → m .failed ≡ true → fedBy s lent bs a ≡ (record { answer = answers.Refused Failed; session = s }, lent)
+    pub dcs-nine-keeps : (lent : List ℕ) → m .failed ≡ true → fedBy s lent bs a ≡ (record { answer = answers.Refused Failed; session = s }, lent)
     unfolding numberOf
-    dcs-feed-nine lent h = refused-before lent Failed (dcs-first p m (length lent) a bs 9 (omega arith) (dcs-nine p m (length lent) a bs .1 h))
+    dcs-nine-keeps lent h = refused-before lent Failed (dcs-first p m (length lent) a bs 9 (omega arith) (dcs-nine p m (length lent) a bs .1 h))
 
     -- Another is 12 on a canvas that does not fit, and all stays as it was.
-    pub dcs-feed-twelve : (lent : List ℕ) → ¬ (m .failed ≡ true) → any.Misfits dcsArea m (length lent)
+    pub dcs-twelve-keeps : (lent : List ℕ) → ¬ (m .failed ≡ true) → any.Misfits dcsArea m (length lent)
         → fedBy s lent bs a ≡ (record { answer = answers.Refused Canvas; session = s }, lent)
     unfolding numberOf
-    dcs-feed-twelve lent h misfit =
+    dcs-twelve-keeps lent h misfit =
         refused-before lent Canvas (dcs-first p m (length lent) a bs 12 (omega arith) (dcs-twelve p m (length lent) a bs .1 (h, misfit)))
 
     -- 1 to 7 leave the canvas showing what came before the refused byte or command; before `q` nothing is written.

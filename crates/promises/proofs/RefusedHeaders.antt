@@ -85,7 +85,7 @@ header-refusal got (b ∷ bs) = go (skipped b) (ofValues b) (λ more. header-ref
     go false false later = own (eqb b 0x71) (ends b)
 
 -- `q` is none of those
-cut-not-q : {b : ℕ} → Cuts b → ¬ (b ≡ 0x71)
+pub cut-not-q : {b : ℕ} → Cuts b → ¬ (b ≡ 0x71)
 cut-not-q (inl e) q = omega arith
 cut-not-q (inr (inl h)) q = omega arith
 cut-not-q (inr (inr h)) q = omega arith

@@ -82,15 +82,15 @@ module _ {opening : List ℕ} {s : Session} {l : List ℕ} {m : calls.Session Re
   payload-feed-keeps x high e = refused-before l x (payload-first m (length l) a bs (numberOf x) high (payload-feed-exactly x .0 e))
 
   -- A failed session is 9, whichever canvas is lent, and all stays as it was.
-  pub payload-feed-nine : (lent : List ℕ) → m .failed ≡ true → fedBy s lent bs a ≡ (record { answer = answers.Refused Failed; session = s }, lent)
+  pub payload-nine-keeps : (lent : List ℕ) → m .failed ≡ true → fedBy s lent bs a ≡ (record { answer = answers.Refused Failed; session = s }, lent)
   unfolding numberOf
-  payload-feed-nine lent h = refused-before lent Failed (payload-first m (length lent) a bs 9 (omega arith) (payload-nine m (length lent) a bs .1 h))
+  payload-nine-keeps lent h = refused-before lent Failed (payload-first m (length lent) a bs 9 (omega arith) (payload-nine m (length lent) a bs .1 h))
 
   -- Another is 12 on a canvas that does not fit, and all stays as it was.
-  pub payload-feed-twelve : (lent : List ℕ) → ¬ (m .failed ≡ true) → any.Misfits payloadArea m (length lent)
+  pub payload-twelve-keeps : (lent : List ℕ) → ¬ (m .failed ≡ true) → any.Misfits payloadArea m (length lent)
       → fedBy s lent bs a ≡ (record { answer = answers.Refused Canvas; session = s }, lent)
   unfolding numberOf
-  payload-feed-twelve lent h misfit =
+  payload-twelve-keeps lent h misfit =
       refused-before lent Canvas (payload-first m (length lent) a bs 12 (omega arith) (payload-twelve m (length lent) a bs .1 (h, misfit)))
 
   -- 4 to 7 leave the canvas showing what came before the refused byte or command.
