@@ -15,6 +15,7 @@ pub mod RefusedFeeds
 pub mod RefusedDcs
 pub mod RefusedDcsBytes
 pub mod RefusedDcsFeeds
+pub mod RefusedEnds
 pub mod RefusedAborts
 pub mod StoppedCalls
 pub mod Hollow
