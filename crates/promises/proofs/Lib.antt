@@ -16,6 +16,7 @@ pub mod RefusedDcs
 pub mod RefusedDcsBytes
 pub mod RefusedDcsFeeds
 pub mod RefusedEnds
+pub mod RefusedReads
 pub mod RefusedAborts
 pub mod StoppedCalls
 pub mod Hollow

@@ -137,12 +137,12 @@ module _ (l : Limits) (stride : ℕ) (p : Palette) (opening : List ℕ) where
           ∙ ap (λ (t : calls.Session Phase). calls.dcsShown t opening) (dcs-fails p m (length c) a bs (numberOf x) low d),
         )
 
-    -- ---- finish
+  -- ---- finish
 
-    -- The code's finish is refused with a number exactly when the definition's is.
-    pub dcs-finish-exactly : (owner : Palette) (x : Refusal)
-        → (finishedBy s owner c .0 .answer ≡ finishes.Refused x) ↔ (calls.finishDcsSession m (length c) ≡ meant.turnedDown (numberOf x))
-    dcs-finish-exactly owner = finishes-exactly (finish-stands l stride p opening owner k)
+  -- The code's finish is refused with a number exactly when the definition's is.
+  pub dcs-finish-exactly : {s : Session} {c : List ℕ} {m : calls.Session Phase} → Stands l stride p opening s c m → (owner : Palette) (x : Refusal)
+      → (finishedBy s owner c .0 .answer ≡ finishes.Refused x) ↔ (calls.finishDcsSession m (length c) ≡ meant.turnedDown (numberOf x))
+  dcs-finish-exactly k owner = finishes-exactly (finish-stands l stride p opening owner k)
 
   -- ---- opening
 

@@ -120,20 +120,20 @@ module _ (l : Limits) (stride : ℕ) (p : Palette) (opening : List ℕ) {s : dcs
     (owner : Palette) where
   pub dcs-end-nine : (dcsCoded.finishedBy s owner c .0 .answer ≡ finishes.Refused Failed) ↔ (m .failed ≡ true)
   unfolding numberOf
-  dcs-end-nine = Iff·trans (dcs-finish-exactly l stride p opening k [] 0 owner Failed) (dcs-finish-nine m (length c))
+  dcs-end-nine = Iff·trans (dcs-finish-exactly l stride p opening k owner Failed) (dcs-finish-nine m (length c))
 
   pub dcs-end-twelve : (dcsCoded.finishedBy s owner c .0 .answer ≡ finishes.Refused Canvas) ↔ ((¬ (m .failed ≡ true)) × any.Misfits dcsArea m (length c))
   unfolding numberOf
-  dcs-end-twelve = Iff·trans (dcs-finish-exactly l stride p opening k [] 0 owner Canvas) (dcs-finish-twelve m (length c))
+  dcs-end-twelve = Iff·trans (dcs-finish-exactly l stride p opening k owner Canvas) (dcs-finish-twelve m (length c))
 
   -- 8 is given exactly when it is finished before its end.
   pub dcs-end-eight : (dcsCoded.finishedBy s owner c .0 .answer ≡ finishes.Refused Unfinished)
       ↔ ((¬ (m .failed ≡ true)) × ((¬ any.Misfits dcsArea m (length c)) × (calls.dcsEnd (m .state) ≡ none)))
   unfolding numberOf
-  dcs-end-eight = Iff·trans (dcs-finish-exactly l stride p opening k [] 0 owner Unfinished) (dcs-finish-eight m (length c))
+  dcs-end-eight = Iff·trans (dcs-finish-exactly l stride p opening k owner Unfinished) (dcs-finish-eight m (length c))
 
   -- Any other number is given exactly when, at the end, the payload is turned down so.
   pub dcs-end-pending : (x : Refusal) → ¬ (numberOf x ≡ 8) → ¬ (numberOf x ≡ 9) → ¬ (numberOf x ≡ 12)
       → (dcsCoded.finishedBy s owner c .0 .answer ≡ finishes.Refused x)
       ↔ ((¬ (m .failed ≡ true)) × ((¬ any.Misfits dcsArea m (length c)) × AtEnd (m .state) (λ r. finishReading (m .setting) r ≡ turnedDown (numberOf x))))
-  dcs-end-pending x a b d = Iff·trans (dcs-finish-exactly l stride p opening k [] 0 owner x) (dcs-finish-pending m (length c) (numberOf x) a b d)
+  dcs-end-pending x a b d = Iff·trans (dcs-finish-exactly l stride p opening k owner x) (dcs-finish-pending m (length c) (numberOf x) a b d)
