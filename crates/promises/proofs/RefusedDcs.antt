@@ -1,22 +1,21 @@
 -- The refusals of the code's DCS sessions are the definition's, and leave what document 01 says ('Refusal numbers').
 use Prim.Native.Nat.{ℕ, _*_, _≤_}
-use mathlib.Core.Bool.{Bool, true, false, cond, not, _||_}
+use mathlib.Core.Bool.{Bool, true, false}
 use mathlib.Core.List.{List, [], _∷_}
 use mathlib.Core.Logic.{_↔_, Iff·trans}
-use mathlib.Core.Option.{none, some}
-use mathlib.Core.Path.{_≡_, refl, sym, ap, _∙_, subst}
+use mathlib.Core.Option.{some}
+use mathlib.Core.Path.{_≡_, refl, sym, ap, _∙_}
 use native.Mathlib.Omega.{arith}
-use borrow.Author.Tests.{le-leb, eqb-true, eq-eqb}
-use lib.Dec.{leb, ltb, eqb}
+use borrow.Author.Tests.{eqb-true}
+use lib.Dec.{ltb, eqb}
 use lib.ListN.{length}
 use Rattle.numbers.specs.declared.Parameters.{Parameters}
 use Rattle.colours.specs.declared.Palette.{Palette}
-use Rattle.canvas.specs.Picture.{rowsOf, fits}
 use Rattle.canvas.proofs.Covers.{by-test}
 use Rattle.frame.specs.Numbers.{numberOf}
 use Rattle.frame.specs.declared.Limits.{Limits}
 use Rattle.frame.specs.declared.Refusal.{Refusal}
-use Rattle.frame.specs.declared.Refusal.the-variants.{Failed, Opening, Canvas, Unfinished}
+use Rattle.frame.specs.declared.Refusal.the-variants.{Failed, Opening, Canvas}
 use Rattle.meaning.specs.Calls as calls
 use Rattle.meaning.specs.Payload as meant
 use Rattle.meaning.specs.Sessions.{Reading, opened, Phase, start, dcsStep}
@@ -39,7 +38,6 @@ use Rattle.dcs.specs.declared.Session.{Session}
 use Rattle.dcs.specs.declared.lead.Place.{Place}
 use Rattle.dcs.specs.Session.{openedBy, fedAs, fedBy, finishedIn, finishedAs, finishedBy}
 use Rattle.dcs.specs.History.{answerMeant, SamePlace, heldAt, Stands, before, refused, inside, escaped, ended, Opens, isReady, isRefused}
-use Rattle.dcs.proofs.Before.{waiting, place-area}
 use Rattle.dcs.proofs.Standing.{feed-stands, open-stands, finish-stands, stands-shows, stands-fit}
 use Rattle.promises.proofs.Meanings.{refusal-known}
 use Rattle.promises.proofs.RefusedCalls as any

@@ -1,7 +1,7 @@
 -- 1, 2, 3 and, without a `q`, 8 are given exactly when document 01 says ('Refusal numbers'): of a header, of a DCS sequence and of an input read at
 -- once.
 use Prim.Native.Nat.{ℕ, _≤_}
-use mathlib.Core.Bool.{Bool, true, false, cond, _||_, true≢false}
+use mathlib.Core.Bool.{Bool, true, false, cond, _||_}
 use mathlib.Core.List.{List, [], _∷_, _++_}
 use mathlib.Core.Logic.{_↔_, _⊎_, inl, inr, Iff·trans}
 use mathlib.Core.Option.{Option, none, some}
@@ -19,7 +19,7 @@ use Rattle.meaning.specs.Sequence.{Introducer, c1, escaped, afterFirstEscape, s
 use Rattle.meaning.specs.Sessions.{escape, HeaderByte, goesOn, settles, wrong, parametersOf, headerByte}
 use Rattle.meaning.proofs.DcsParts.{introducer-sequence}
 use Rattle.meaning.proofs.DcsLaws.{readSequence, sequence-refused}
-use Rattle.promises.proofs.Choices.{Tells, tells-itself, tells-most, tells-equal, tells-or, tells-and, tells-fails, first-case, later-case, either-case}
+use Rattle.promises.proofs.Choices.{Tells, tells-most, tells-equal, tells-or, tells-and, first-case, later-case, either-case}
 
 -- two numbers that differ, and a number and none
 apart : {m n : ℕ} → (m ≡ n → ⊥) → some m ≡ some n → ⊥

@@ -3,8 +3,8 @@ use Prim.Native.Nat.{ℕ, _≤_}
 use mathlib.Core.Bool.{true}
 use mathlib.Core.List.{List}
 use mathlib.Core.Logic.{_↔_, Iff·trans}
-use mathlib.Core.Option.{Option, none, some}
-use mathlib.Core.Path.{_≡_, refl, sym, ap, _∙_, subst}
+use mathlib.Core.Option.{some}
+use mathlib.Core.Path.{_≡_, refl, sym, ap, _∙_}
 use native.Mathlib.Omega.{arith}
 use lib.ListN.{length}
 use Rattle.colours.specs.declared.Palette.{Palette}
@@ -18,13 +18,10 @@ use Rattle.frame.specs.declared.Refusal.the-variants.{Failed, Opening, Canvas}
 use Rattle.frame.specs.Commands.{Ended, ended}
 use Rattle.meaning.specs.Calls as calls
 use Rattle.meaning.specs.Payload as meant
-use Rattle.meaning.specs.Reader.{Run}
 use Rattle.meaning.specs.Sessions.{Reading, opened, payloadStep}
 use Rattle.payload.specs.declared.Answer.{Answer}
 use Rattle.payload.specs.declared.Answer.the-variants as answers
-use Rattle.payload.specs.declared.Fed.{Fed}
 use Rattle.payload.specs.declared.Finished.{Finished}
-use Rattle.payload.specs.declared.Finishing.{Finishing}
 use Rattle.payload.specs.declared.Finishing.the-variants as finishes
 use Rattle.payload.specs.declared.Opened.{Opened}
 use Rattle.payload.specs.declared.Opening.the-variants as openings
@@ -34,10 +31,10 @@ use Rattle.payload.specs.declared.judge.Judged.{Judged}
 use Rattle.payload.specs.declared.judge.Judged.the-variants as judged
 use Rattle.payload.specs.Judge.{feedJudged, finishJudged, finalJudged}
 use Rattle.payload.specs.Session.{openedBy, fedAs, fedBy, turnedAway, pictured, finishedIf, finishedIn, finishedLive, finishedAs, finishedBy}
-use Rattle.payload.specs.History.{parametersMeant, limitsMeant, answerMeant, Stands, Opens, isReady, isRefused, Feeds, Finishes, pictures, declines}
+use Rattle.payload.specs.History.{parametersMeant, limitsMeant, answerMeant, Stands, Opens, isReady, isRefused, Finishes, pictures, declines}
 use Rattle.payload.proofs.Openings.{open-stands}
 use Rattle.payload.proofs.Judgements.{judgedMeant, feed-judged, stands-shows}
-use Rattle.payload.proofs.Feedings.{fed-meant, feed-stands}
+use Rattle.payload.proofs.Feedings.{feed-stands}
 use Rattle.payload.proofs.Finishings.{finish-stands}
 use Rattle.promises.proofs.Meanings.{refusal-known}
 use Rattle.promises.proofs.RefusedCalls as any

@@ -13,7 +13,7 @@ use Rattle.frame.specs.declared.Refusal.the-variants.{HeaderEnded, HeaderByte, 
 use Rattle.meaning.specs.Calls.{settingFor}
 use Rattle.meaning.specs.Commands.{Command, Placed, commands}
 use Rattle.meaning.specs.Drawing.{Limits, Setting, Drawing, blank, refused, drawCommand, drawAll}
-use Rattle.meaning.specs.OneShot.{missing, afterIntroducer, headerFrom, findPayload}
+use Rattle.meaning.specs.OneShot.{missing, afterIntroducer, headerFrom}
 use Rattle.payload.specs.declared.Finished.{Finished}
 use Rattle.payload.specs.declared.Finishing.the-variants as finishes
 use Rattle.oneshot.specs.OneShot.{readWhole, readMeant}
