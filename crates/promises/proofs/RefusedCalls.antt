@@ -15,12 +15,6 @@ use Rattle.meaning.specs.Calls.{Session, Status, Answer, told, refused, Fed, se
 use Rattle.promises.proofs.Choices.{Tells, tells-itself, tells-less, tells-most, tells-equal, tells-not, tells-or, tells-and, first-case, later-case}
 use Rattle.promises.proofs.RefusedRuns.{RunRefused, run-exactly}
 
-apart : {m n : ℕ} → ¬ (m ≡ n) → some m ≡ some n → ⊥
-apart differ e = differ (cc)
-
-none-some : {n : ℕ} {X : Type 0} → none ≡ some n → X
-none-some e = let never : _≡_ {A = ℕ} 0 1 = cc in absurd (omega arith)
-
 -- what is said of one of two equal things
 along : {A B : Type 0} {x y z : A} → x ≡ y → (y ≡ z) ↔ B → (x ≡ z) ↔ B
 along e k = (λ h. k .0 (sym e ∙ h), λ b. e ∙ k .1 b)

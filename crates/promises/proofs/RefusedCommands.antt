@@ -14,11 +14,7 @@ use Rattle.meaning.specs.Commands.{repeat, colour, raster, Command, argued, ret
 use Rattle.meaning.specs.Drawing.{Setting, Raster, Drawing, Drawn, drawn, refused, repeated, pixelsOf, sizeRefusal, unless, rasterAfter, withRaster, stretched, rastered, sixelled, drawCommand, Outcome, andThen, drawAll, blank}
 use Rattle.meaning.specs.Payload.{Parameters, payload}
 use Rattle.meaning.proofs.AreaLaws.{drawOn-none, drawAll-append}
-use Rattle.promises.proofs.Choices.{Tells, tells-less, tells-or, first-case, later-case}
-
--- two refusals that differ, and a refusal and none
-apart : {m n : ℕ} → (m ≡ n → ⊥) → some m ≡ some n → ⊥
-apart differ e = differ (cc)
+use Rattle.promises.proofs.Choices.{apart, Tells, tells-less, tells-or, first-case, later-case}
 
 -- ---- one size: 5, 6, 7, in this order
 
