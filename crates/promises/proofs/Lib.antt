@@ -1,6 +1,7 @@
 pub mod One
 pub mod Meanings
 pub mod Choices
+pub mod RefusedSizes
 pub mod RefusedCommands
 pub mod RefusedHeaders
 pub mod RefusedBytes

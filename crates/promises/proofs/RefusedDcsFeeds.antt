@@ -22,13 +22,14 @@ use Rattle.dcs.specs.Session.{fedBy}
 use Rattle.dcs.specs.History.{Stands}
 use Rattle.promises.proofs.RefusedBytes.{DcsRefused, dcs-byte-exactly}
 use Rattle.promises.proofs.RefusedCalls as any
-use Rattle.promises.proofs.RefusedCommands.{AboveRepeats, AboveLimits, SixNotFive, SevenNotSix, askedSize, Asks, four-exactly, five-exactly, six-exactly, seven-exactly}
+use Rattle.promises.proofs.RefusedCommands.{AboveRepeats, askedSize, Asks, four-exactly, five-exactly, six-exactly, seven-exactly}
 use Rattle.promises.proofs.RefusedDcs.{dcs-feed-exactly}
 use Rattle.promises.proofs.RefusedDcsBytes.{NotIntroducing, InHeader, InPayload, Strange, one-byte, two-byte, three-byte, payload-byte}
 use Rattle.promises.proofs.RefusedFeeds.{Strikes}
 use Rattle.promises.proofs.RefusedHeaders.{Cuts}
 use Rattle.promises.proofs.RefusedRuns.{RunRefused, MeetsByte, meets-exactly}
 use Rattle.promises.proofs.RefusedSessions.{dcsArea, dcsRan, dcs-nine, dcs-twelve, dcs-thirteen, dcs-bytes}
+use Rattle.promises.proofs.RefusedSizes.{AboveLimits, SixNotFive, SevenNotSix}
 
 module _ (l : Limits) (stride : ℕ) (p : Palette) (opening : List ℕ) {s : Session} {c : List ℕ} {m : calls.Session Phase} (k : Stands l stride p opening s c m) (bs : List ℕ) (a : ℕ) where
   -- the session has not failed, the canvas fits, the allowance is at least 6W, and the bytes come to one where this holds

@@ -26,11 +26,12 @@ use Rattle.dcs.specs.declared.Session as dcsSession
 use Rattle.dcs.specs.History as dcs
 use Rattle.dcs.specs.Session as dcsCoded
 use Rattle.promises.proofs.RefusedCalls as any
-use Rattle.promises.proofs.RefusedCommands.{AboveRepeats, AboveLimits, SixNotFive, SevenNotSix, askedSize, Asks, RefusedAt, commands-exactly, four-exactly, five-exactly, six-exactly, seven-exactly}
+use Rattle.promises.proofs.RefusedCommands.{AboveRepeats, askedSize, Asks, RefusedAt, commands-exactly, four-exactly, five-exactly, six-exactly, seven-exactly}
 use Rattle.promises.proofs.RefusedDcs.{dcs-finish-exactly}
 use Rattle.promises.proofs.RefusedFinishes.{payload-finish-nine, payload-finish-twelve, payload-finish-pending, dcs-finish-nine, dcs-finish-twelve, dcs-finish-eight, AtEnd, dcs-finish-pending}
 use Rattle.promises.proofs.RefusedPayload.{payload-finish-exactly}
 use Rattle.promises.proofs.RefusedSessions.{payloadArea, dcsArea}
+use Rattle.promises.proofs.RefusedSizes.{AboveLimits, SixNotFive, SevenNotSix}
 
 -- there is a pending command, and this holds of it
 abbrev pub Pending : Option Begun → Drawing → (Command → Drawing → Type 0) → Type 0

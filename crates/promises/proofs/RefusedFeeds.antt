@@ -21,10 +21,11 @@ use Rattle.payload.specs.Session.{fedBy}
 use Rattle.payload.specs.History.{Stands}
 use Rattle.promises.proofs.RefusedBytes.{commandsAt, leftWith, ByteRefused, byte-exactly}
 use Rattle.promises.proofs.RefusedCalls as any
-use Rattle.promises.proofs.RefusedCommands.{RefusedAt, AboveRepeats, AboveLimits, SixNotFive, SevenNotSix, askedSize, Asks, four-exactly, five-exactly, six-exactly, seven-exactly}
+use Rattle.promises.proofs.RefusedCommands.{RefusedAt, AboveRepeats, askedSize, Asks, four-exactly, five-exactly, six-exactly, seven-exactly}
 use Rattle.promises.proofs.RefusedPayload.{payload-feed-exactly}
 use Rattle.promises.proofs.RefusedRuns.{RunRefused, MeetsByte, meets-exactly}
 use Rattle.promises.proofs.RefusedSessions.{payloadArea, payloadRan, payload-nine, payload-twelve, payload-thirteen, payload-bytes}
+use Rattle.promises.proofs.RefusedSizes.{AboveLimits, SixNotFive, SevenNotSix}
 
 -- a byte ends or is a command of which this holds: the payload goes on, and the commands before it are drawn
 pub record Strikes (s : Setting) (r : Reading) (b : ℕ) (P : Command → Drawing → Type 0) : Type 0 where

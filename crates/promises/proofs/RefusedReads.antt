@@ -17,10 +17,11 @@ use Rattle.meaning.specs.OneShot.{missing, afterIntroducer, headerFrom}
 use Rattle.payload.specs.declared.Finished.{Finished}
 use Rattle.payload.specs.declared.Finishing.the-variants as finishes
 use Rattle.oneshot.specs.OneShot.{readWhole, readMeant}
-use Rattle.promises.proofs.RefusedCommands.{AboveRepeats, AboveLimits, SixNotFive, SevenNotSix, askedSize, Asks, RefusedAt, four-exactly, five-exactly, six-exactly, seven-exactly}
+use Rattle.promises.proofs.RefusedCommands.{AboveRepeats, askedSize, Asks, RefusedAt, four-exactly, five-exactly, six-exactly, seven-exactly}
 use Rattle.promises.proofs.RefusedHeaders.{Cuts, Other, firstOther, two-exactly, three-exactly, eight-exactly, shot-exactly}
 use Rattle.promises.proofs.RefusedSessions.{Openable}
 use Rattle.promises.proofs.RefusedShots.{Finds, shot-eleven, shot-header, shot-bytes, read-exactly}
+use Rattle.promises.proofs.RefusedSizes.{AboveLimits, SixNotFive, SevenNotSix}
 
 -- among commands there is one of which this holds, and those before it are drawn
 pub record Strikes (s : Setting) (cs : List Placed) (d : Drawing) (P : Command → Drawing → Type 0) : Type 0 where
