@@ -3,8 +3,9 @@ use Prim.Native.Nat.{ℕ, _≤_, _<_}
 use native.Mathlib.Omega.{arith}
 use mathlib.Core.Bool.{Bool, true, false, cond, not, _&&_, _||_, true≢false}
 use mathlib.Core.Logic.{_↔_, _⊎_, inl, inr}
+use mathlib.Core.Option.{none, some}
 use mathlib.Core.Path.{_≡_, refl, sym, ap, _∙_}
-use borrow.Author.Tests.{ltb-true, ltb-false, leb-true, leb-false, eqb-true, lt-ltb, le-leb, eq-eqb}
+use borrow.Author.Tests.{ltb-true, leb-true, eqb-true, lt-ltb, le-leb, eq-eqb}
 use lib.Dec.{leb, ltb, eqb}
 
 -- a test holds exactly when a fact does
@@ -96,3 +97,13 @@ module _ {A : Type 0} {t : Bool} {T : Type 0} (k : Tells t T) where
       go : (u : Bool) → t ≡ u → cond u x y ≡ z → T × U
       go true q e = (k .0 q, k₁ .0 e)
       go false q e = absurd (other e)
+
+-- ---- numbers that may be
+
+-- two that differ
+pub apart : {m n : ℕ} → ¬ (m ≡ n) → some m ≡ some n → ⊥
+apart differ e = differ (cc)
+
+-- one and none
+pub none-some : {n : ℕ} {X : Type 0} → none ≡ some n → X
+none-some e = let never : _≡_ {A = ℕ} 0 1 = cc in absurd (omega arith)

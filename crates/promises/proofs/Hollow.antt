@@ -1,13 +1,11 @@
 -- The five hollow readers of document 01 ('What callers may rely on') are rejected: no function that behaves so keeps the promise of a feed.
-use Prim.Native.Nat.{ℕ, _+_, _*_, _≤_}
-use mathlib.Core.Bool.{Bool, true, false}
+use Prim.Native.Nat.{ℕ, _*_, _≤_}
+use mathlib.Core.Bool.{false}
 use mathlib.Core.List.{List, [], _∷_}
 use mathlib.Core.Option.{Option, none, some}
 use mathlib.Core.Path.{_≡_, refl, sym, ap, _∙_, subst}
 use native.Mathlib.Omega.{arith}
-use lib.Dec.{eqb}
 use lib.ListN.{length, getD}
-use Rattle.colours.specs.declared.Palette.{Palette}
 use Rattle.colours.specs.Palette.{standard}
 use Rattle.canvas.specs.Picture.{span}
 use Rattle.canvas.specs.Picture as pictures
@@ -18,7 +16,6 @@ use Rattle.meaning.specs.Calls as calls
 use Rattle.meaning.specs.Reader.{still, call}
 use Rattle.meaning.specs.Sessions.{Reading, opened}
 use Rattle.meaning.proofs.Trials.{computed}
-use Rattle.payload.specs.declared.Answer.{Answer}
 use Rattle.payload.specs.declared.Answer.the-variants as answers
 use Rattle.payload.specs.declared.Fed.{Fed}
 use Rattle.payload.specs.declared.Given.the-variants as givens

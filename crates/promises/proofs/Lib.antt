@@ -1,6 +1,7 @@
 pub mod One
 pub mod Meanings
 pub mod Choices
+pub mod RefusedSizes
 pub mod RefusedCommands
 pub mod RefusedHeaders
 pub mod RefusedBytes
@@ -13,6 +14,10 @@ pub mod RefusedCopies
 pub mod RefusedPayload
 pub mod RefusedFeeds
 pub mod RefusedDcs
+pub mod RefusedDcsBytes
+pub mod RefusedDcsFeeds
+pub mod RefusedEnds
+pub mod RefusedReads
 pub mod RefusedAborts
 pub mod StoppedCalls
 pub mod Hollow

@@ -1,20 +1,20 @@
 -- 1 to 7 of a session's next byte are given exactly when document 01 says ('Refusal numbers'): by a payload, and by a DCS sequence.
-use Prim.Native.Nat.{ℕ, suc, _-_, _≤_}
-use mathlib.Core.Bool.{Bool, true, false, cond, _||_, true≢false}
+use Prim.Native.Nat.{ℕ, _≤_}
+use mathlib.Core.Bool.{Bool, true, false, cond, _||_}
 use mathlib.Core.List.{List, [], _∷_, _++_}
-use mathlib.Core.Logic.{_↔_, _⊎_, inl, inr, Iff·trans}
+use mathlib.Core.Logic.{_↔_, _⊎_, inl, inr}
 use mathlib.Core.Option.{Option, none, some}
 use mathlib.Core.Path.{_≡_, refl, sym, ap, ap₂, _∙_, subst}
 use native.Mathlib.Omega.{arith}
 use lib.Dec.{eqb}
-use Rattle.numbers.specs.Bytes.{between, skipped, digit, ends}
+use Rattle.numbers.specs.Bytes.{skipped, ends}
 use Rattle.colours.specs.declared.Palette.{Palette}
 use Rattle.meaning.specs.Commands.{Placed, Scanned, ofValues, closed, scanByte}
-use Rattle.meaning.specs.Drawing.{Setting, Drawing, Outcome, drawAll, inkOfAll}
+use Rattle.meaning.specs.Drawing.{Setting, Drawing, Outcome, drawAll}
 use Rattle.meaning.specs.Reader.{Step, next, halt, refuse}
-use Rattle.meaning.specs.Sessions.{Reading, opened, settled, endedAt, wentOn, readByte, payloadStep, complete, cancelled, interrupted, escape, Phase, start, introduced, header, within, afterEscape, over, HeaderByte, goesOn, settles, wrong, headerByte, parametersOf, startStep, introducedStep, headerStep, endStep, withinStep, escapeStep, dcsStep}
+use Rattle.meaning.specs.Sessions.{Reading, opened, settled, endedAt, wentOn, readByte, payloadStep, complete, cancelled, interrupted, escape, Phase, start, introduced, header, within, afterEscape, over, goesOn, settles, wrong, headerByte, parametersOf, startStep, introducedStep, headerStep, endStep, withinStep, escapeStep, dcsStep}
 use Rattle.meaning.proofs.AreaLaws.{FourToSeven, drawAll-numbers}
-use Rattle.promises.proofs.Choices.{Tells, tells-itself, tells-equal, tells-fails, first-case, later-case, either-case}
+use Rattle.promises.proofs.Choices.{tells-itself, tells-equal, later-case, either-case}
 use Rattle.promises.proofs.RefusedCommands.{RefusedAt, commands-exactly}
 use Rattle.promises.proofs.RefusedHeaders.{Cuts, tells-ends}
 

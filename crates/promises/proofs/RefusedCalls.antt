@@ -1,25 +1,19 @@
 -- The refusals of a feed, a finish and an opening, in their order, said once of any reader (document 01, 'Refusal numbers').
 use Prim.Native.Nat.{ℕ, _*_, _≤_, _<_}
-use mathlib.Core.Bool.{Bool, true, false, cond, not, _||_, true≢false}
-use mathlib.Core.List.{List, [], _∷_}
-use mathlib.Core.Logic.{_↔_, _⊎_, inl, inr}
+use mathlib.Core.Bool.{Bool, true, false, cond, true≢false}
+use mathlib.Core.List.{List}
+use mathlib.Core.Logic.{_↔_, _⊎_}
 use mathlib.Core.Option.{Option, none, some}
 use mathlib.Core.Path.{_≡_, refl, sym, ap, _∙_, subst}
 use native.Mathlib.Omega.{arith}
-use lib.Dec.{leb, ltb, eqb}
+use lib.Dec.{ltb}
 use Rattle.canvas.specs.Picture.{Area, rowsOf, fits}
 use Rattle.meaning.specs.Drawing.{Setting}
 use Rattle.meaning.specs.Payload.{Finished, turnedDown}
 use Rattle.meaning.specs.Reader.{Step, refuse, How, readAll, stopped, halted, refusedBy, isRefused, Run, call}
 use Rattle.meaning.specs.Calls.{Session, Status, Answer, told, refused, Fed, sessionAfter, tells, answered, firstOf, misfits, feedRefusal, finishSession, feed}
-use Rattle.promises.proofs.Choices.{Tells, tells-itself, tells-less, tells-most, tells-equal, tells-not, tells-or, tells-and, tells-fails, first-case, later-case}
+use Rattle.promises.proofs.Choices.{Tells, tells-itself, tells-less, tells-most, tells-equal, tells-not, tells-or, tells-and, first-case, later-case}
 use Rattle.promises.proofs.RefusedRuns.{RunRefused, run-exactly}
-
-apart : {m n : ℕ} → ¬ (m ≡ n) → some m ≡ some n → ⊥
-apart differ e = differ (cc)
-
-none-some : {n : ℕ} {X : Type 0} → none ≡ some n → X
-none-some e = let never : _≡_ {A = ℕ} 0 1 = cc in absurd (omega arith)
 
 -- what is said of one of two equal things
 along : {A B : Type 0} {x y z : A} → x ≡ y → (y ≡ z) ↔ B → (x ≡ z) ↔ B

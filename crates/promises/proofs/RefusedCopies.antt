@@ -11,7 +11,7 @@ use Rattle.canvas.specs.Copy.{numberOf, hasPicture, packed, sizeOf, copied}
 use Rattle.canvas.specs.Picture.{Area, rowsOf, fits}
 use Rattle.canvas.specs.declared.Copied.{Copied}
 use Rattle.canvas.specs.declared.Copied.the-variants.{Done, Misfit, Short}
-use Rattle.promises.proofs.Choices.{Tells, tells-less, tells-most, tells-and, tells-fails, later-case, only-case}
+use Rattle.promises.proofs.Choices.{Tells, tells-less, tells-most, tells-and, later-case, only-case}
 
 -- neither the stride nor the size is 0, and the canvas has room for the size
 abbrev pub HasPicture : ℕ → ℕ → Area → Type 0

@@ -1,22 +1,21 @@
 -- The refusals of the code's DCS sessions are the definition's, and leave what document 01 says ('Refusal numbers').
 use Prim.Native.Nat.{ℕ, _*_, _≤_}
-use mathlib.Core.Bool.{Bool, true, false, cond, not, _||_}
+use mathlib.Core.Bool.{Bool, true, false}
 use mathlib.Core.List.{List, [], _∷_}
 use mathlib.Core.Logic.{_↔_, Iff·trans}
-use mathlib.Core.Option.{none, some}
-use mathlib.Core.Path.{_≡_, refl, sym, ap, _∙_, subst}
+use mathlib.Core.Option.{some}
+use mathlib.Core.Path.{_≡_, refl, sym, ap, _∙_}
 use native.Mathlib.Omega.{arith}
-use borrow.Author.Tests.{le-leb, eqb-true, eq-eqb}
-use lib.Dec.{leb, ltb, eqb}
+use borrow.Author.Tests.{eqb-true}
+use lib.Dec.{ltb, eqb}
 use lib.ListN.{length}
 use Rattle.numbers.specs.declared.Parameters.{Parameters}
 use Rattle.colours.specs.declared.Palette.{Palette}
-use Rattle.canvas.specs.Picture.{rowsOf, fits}
 use Rattle.canvas.proofs.Covers.{by-test}
 use Rattle.frame.specs.Numbers.{numberOf}
 use Rattle.frame.specs.declared.Limits.{Limits}
 use Rattle.frame.specs.declared.Refusal.{Refusal}
-use Rattle.frame.specs.declared.Refusal.the-variants.{Failed, Opening, Canvas, Unfinished}
+use Rattle.frame.specs.declared.Refusal.the-variants.{Failed, Opening, Canvas}
 use Rattle.meaning.specs.Calls as calls
 use Rattle.meaning.specs.Payload as meant
 use Rattle.meaning.specs.Sessions.{Reading, opened, Phase, start, dcsStep}
@@ -39,7 +38,6 @@ use Rattle.dcs.specs.declared.Session.{Session}
 use Rattle.dcs.specs.declared.lead.Place.{Place}
 use Rattle.dcs.specs.Session.{openedBy, fedAs, fedBy, finishedIn, finishedAs, finishedBy}
 use Rattle.dcs.specs.History.{answerMeant, SamePlace, heldAt, Stands, before, refused, inside, escaped, ended, Opens, isReady, isRefused}
-use Rattle.dcs.proofs.Before.{waiting, place-area}
 use Rattle.dcs.proofs.Standing.{feed-stands, open-stands, finish-stands, stands-shows, stands-fit}
 use Rattle.promises.proofs.Meanings.{refusal-known}
 use Rattle.promises.proofs.RefusedCalls as any
@@ -114,15 +112,15 @@ module _ (l : Limits) (stride : ℕ) (p : Palette) (opening : List ℕ) where
     dcs-feed-keeps x high e = refused-before c x (dcs-first p m (length c) a bs (numberOf x) high (dcs-feed-exactly x .0 e))
 
     -- A failed session is 9, whichever canvas is lent, and all stays as it was.
-    pub dcs-feed-nine : (lent : List ℕ) → m .failed ≡ true → fedBy s lent bs a ≡ (record { answer = answers.Refused Failed; session = s }, lent)
+    pub dcs-nine-keeps : (lent : List ℕ) → m .failed ≡ true → fedBy s lent bs a ≡ (record { answer = answers.Refused Failed; session = s }, lent)
     unfolding numberOf
-    dcs-feed-nine lent h = refused-before lent Failed (dcs-first p m (length lent) a bs 9 (omega arith) (dcs-nine p m (length lent) a bs .1 h))
+    dcs-nine-keeps lent h = refused-before lent Failed (dcs-first p m (length lent) a bs 9 (omega arith) (dcs-nine p m (length lent) a bs .1 h))
 
     -- Another is 12 on a canvas that does not fit, and all stays as it was.
-    pub dcs-feed-twelve : (lent : List ℕ) → ¬ (m .failed ≡ true) → any.Misfits dcsArea m (length lent)
+    pub dcs-twelve-keeps : (lent : List ℕ) → ¬ (m .failed ≡ true) → any.Misfits dcsArea m (length lent)
         → fedBy s lent bs a ≡ (record { answer = answers.Refused Canvas; session = s }, lent)
     unfolding numberOf
-    dcs-feed-twelve lent h misfit =
+    dcs-twelve-keeps lent h misfit =
         refused-before lent Canvas (dcs-first p m (length lent) a bs 12 (omega arith) (dcs-twelve p m (length lent) a bs .1 (h, misfit)))
 
     -- 1 to 7 leave the canvas showing what came before the refused byte or command; before `q` nothing is written.
@@ -137,12 +135,12 @@ module _ (l : Limits) (stride : ℕ) (p : Palette) (opening : List ℕ) where
           ∙ ap (λ (t : calls.Session Phase). calls.dcsShown t opening) (dcs-fails p m (length c) a bs (numberOf x) low d),
         )
 
-    -- ---- finish
+  -- ---- finish
 
-    -- The code's finish is refused with a number exactly when the definition's is.
-    pub dcs-finish-exactly : (owner : Palette) (x : Refusal)
-        → (finishedBy s owner c .0 .answer ≡ finishes.Refused x) ↔ (calls.finishDcsSession m (length c) ≡ meant.turnedDown (numberOf x))
-    dcs-finish-exactly owner = finishes-exactly (finish-stands l stride p opening owner k)
+  -- The code's finish is refused with a number exactly when the definition's is.
+  pub dcs-finish-exactly : {s : Session} {c : List ℕ} {m : calls.Session Phase} → Stands l stride p opening s c m → (owner : Palette) (x : Refusal)
+      → (finishedBy s owner c .0 .answer ≡ finishes.Refused x) ↔ (calls.finishDcsSession m (length c) ≡ meant.turnedDown (numberOf x))
+  dcs-finish-exactly k owner = finishes-exactly (finish-stands l stride p opening owner k)
 
   -- ---- opening
 

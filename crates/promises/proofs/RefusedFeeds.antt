@@ -4,7 +4,7 @@ use mathlib.Core.Bool.{true}
 use mathlib.Core.List.{List, _∷_, _++_}
 use mathlib.Core.Logic.{_↔_, Iff·trans}
 use mathlib.Core.Option.{none}
-use mathlib.Core.Path.{_≡_, refl, sym, ap, _∙_}
+use mathlib.Core.Path.{_≡_, refl}
 use native.Mathlib.Omega.{arith}
 use lib.ListN.{length}
 use Rattle.frame.specs.Numbers.{numberOf}
@@ -21,10 +21,11 @@ use Rattle.payload.specs.Session.{fedBy}
 use Rattle.payload.specs.History.{Stands}
 use Rattle.promises.proofs.RefusedBytes.{commandsAt, leftWith, ByteRefused, byte-exactly}
 use Rattle.promises.proofs.RefusedCalls as any
-use Rattle.promises.proofs.RefusedCommands.{RefusedAt, AboveRepeats, AboveLimits, SixNotFive, SevenNotSix, askedSize, Asks, four-exactly, five-exactly, six-exactly, seven-exactly}
+use Rattle.promises.proofs.RefusedCommands.{RefusedAt, AboveRepeats, askedSize, Asks, four-exactly, five-exactly, six-exactly, seven-exactly}
 use Rattle.promises.proofs.RefusedPayload.{payload-feed-exactly}
 use Rattle.promises.proofs.RefusedRuns.{RunRefused, MeetsByte, meets-exactly}
 use Rattle.promises.proofs.RefusedSessions.{payloadArea, payloadRan, payload-nine, payload-twelve, payload-thirteen, payload-bytes}
+use Rattle.promises.proofs.RefusedSizes.{AboveLimits, SixNotFive, SevenNotSix}
 
 -- a byte ends or is a command of which this holds: the payload goes on, and the commands before it are drawn
 pub record Strikes (s : Setting) (r : Reading) (b : ℕ) (P : Command → Drawing → Type 0) : Type 0 where
@@ -92,37 +93,37 @@ module _ {opening : List ℕ} {s : Session} {l : List ℕ} {m : calls.Session Re
           (λ r b. strikes-exactly (m .setting) r b (numberOf x) P f)
 
   -- 4 is given exactly when a repeat command ends with a value above R.
-  pub feed-four : (fedBy s l bs a .0 .answer ≡ answers.Refused Repeat) ↔ Comes (λ c d. AboveRepeats (m .setting) c)
+  pub payload-feed-four : (fedBy s l bs a .0 .answer ≡ answers.Refused Repeat) ↔ Comes (λ c d. AboveRepeats (m .setting) c)
   unfolding numberOf
-  feed-four = comes Repeat (λ c d. AboveRepeats (m .setting) c) (omega arith) (four-exactly (m .setting))
+  payload-feed-four = comes Repeat (λ c d. AboveRepeats (m .setting) c) (omega arith) (four-exactly (m .setting))
 
   -- 5 is given exactly when a sixel or raster size exceeds W or H.
-  pub feed-five : (fedBy s l bs a .0 .answer ≡ answers.Refused Size) ↔ Comes (λ c d. Asks (askedSize c d) (AboveLimits (m .setting)))
+  pub payload-feed-five : (fedBy s l bs a .0 .answer ≡ answers.Refused Size) ↔ Comes (λ c d. Asks (askedSize c d) (AboveLimits (m .setting)))
   unfolding numberOf
-  feed-five = comes Size (λ c d. Asks (askedSize c d) (AboveLimits (m .setting))) (omega arith) (five-exactly (m .setting))
+  payload-feed-five = comes Size (λ c d. Asks (askedSize c d) (AboveLimits (m .setting))) (omega arith) (five-exactly (m .setting))
 
   -- 6 is given exactly when it does not, and the visible area, or the raster size, would exceed M pixels.
-  pub feed-six : (fedBy s l bs a .0 .answer ≡ answers.Refused Pixels) ↔ Comes (λ c d. Asks (askedSize c d) (SixNotFive (m .setting) (d .area)))
+  pub payload-feed-six : (fedBy s l bs a .0 .answer ≡ answers.Refused Pixels) ↔ Comes (λ c d. Asks (askedSize c d) (SixNotFive (m .setting) (d .area)))
   unfolding numberOf
-  feed-six = comes Pixels (λ c d. Asks (askedSize c d) (SixNotFive (m .setting) (d .area))) (omega arith) (six-exactly (m .setting))
+  payload-feed-six = comes Pixels (λ c d. Asks (askedSize c d) (SixNotFive (m .setting) (d .area))) (omega arith) (six-exactly (m .setting))
 
   -- 7 is given exactly when neither holds, and the width is above the stride or the height above the rows.
-  pub feed-seven : (fedBy s l bs a .0 .answer ≡ answers.Refused Room) ↔ Comes (λ c d. Asks (askedSize c d) (SevenNotSix (m .setting) (d .area)))
+  pub payload-feed-seven : (fedBy s l bs a .0 .answer ≡ answers.Refused Room) ↔ Comes (λ c d. Asks (askedSize c d) (SevenNotSix (m .setting) (d .area)))
   unfolding numberOf
-  feed-seven = comes Room (λ c d. Asks (askedSize c d) (SevenNotSix (m .setting) (d .area))) (omega arith) (seven-exactly (m .setting))
+  payload-feed-seven = comes Room (λ c d. Asks (askedSize c d) (SevenNotSix (m .setting) (d .area))) (omega arith) (seven-exactly (m .setting))
 
   -- 9 is given exactly when the session has already been refused by 1-7.
-  pub feed-nine : (fedBy s l bs a .0 .answer ≡ answers.Refused Failed) ↔ (m .failed ≡ true)
+  pub payload-feed-nine : (fedBy s l bs a .0 .answer ≡ answers.Refused Failed) ↔ (m .failed ≡ true)
   unfolding numberOf
-  feed-nine = Iff·trans (payload-feed-exactly k bs a Failed) (payload-nine m (length l) a bs)
+  payload-feed-nine = Iff·trans (payload-feed-exactly k bs a Failed) (payload-nine m (length l) a bs)
 
   -- 12 is given exactly when it has not, and the canvas length differs from the opening's or the picture does not fit it.
-  pub feed-twelve : (fedBy s l bs a .0 .answer ≡ answers.Refused Canvas) ↔ ((¬ (m .failed ≡ true)) × any.Misfits payloadArea m (length l))
+  pub payload-feed-twelve : (fedBy s l bs a .0 .answer ≡ answers.Refused Canvas) ↔ ((¬ (m .failed ≡ true)) × any.Misfits payloadArea m (length l))
   unfolding numberOf
-  feed-twelve = Iff·trans (payload-feed-exactly k bs a Canvas) (payload-twelve m (length l) a bs)
+  payload-feed-twelve = Iff·trans (payload-feed-exactly k bs a Canvas) (payload-twelve m (length l) a bs)
 
   -- 13 is given exactly when neither holds, and the allowance is below 6W.
-  pub feed-thirteen : (fedBy s l bs a .0 .answer ≡ answers.Refused Allowance)
+  pub payload-feed-thirteen : (fedBy s l bs a .0 .answer ≡ answers.Refused Allowance)
       ↔ ((¬ (m .failed ≡ true)) × ((¬ any.Misfits payloadArea m (length l)) × (a < 6 * m .setting .limits .width)))
   unfolding numberOf
-  feed-thirteen = Iff·trans (payload-feed-exactly k bs a Allowance) (payload-thirteen m (length l) a bs)
+  payload-feed-thirteen = Iff·trans (payload-feed-exactly k bs a Allowance) (payload-thirteen m (length l) a bs)

@@ -1,7 +1,7 @@
 -- 1, 2, 3 and, without a `q`, 8 are given exactly when document 01 says ('Refusal numbers'): of a header, of a DCS sequence and of an input read at
 -- once.
 use Prim.Native.Nat.{ℕ, _≤_}
-use mathlib.Core.Bool.{Bool, true, false, cond, _||_, true≢false}
+use mathlib.Core.Bool.{Bool, true, false, cond, _||_}
 use mathlib.Core.List.{List, [], _∷_, _++_}
 use mathlib.Core.Logic.{_↔_, _⊎_, inl, inr, Iff·trans}
 use mathlib.Core.Option.{Option, none, some}
@@ -19,14 +19,7 @@ use Rattle.meaning.specs.Sequence.{Introducer, c1, escaped, afterFirstEscape, s
 use Rattle.meaning.specs.Sessions.{escape, HeaderByte, goesOn, settles, wrong, parametersOf, headerByte}
 use Rattle.meaning.proofs.DcsParts.{introducer-sequence}
 use Rattle.meaning.proofs.DcsLaws.{readSequence, sequence-refused}
-use Rattle.promises.proofs.Choices.{Tells, tells-itself, tells-most, tells-equal, tells-or, tells-and, tells-fails, first-case, later-case, either-case}
-
--- two numbers that differ, and a number and none
-apart : {m n : ℕ} → (m ≡ n → ⊥) → some m ≡ some n → ⊥
-apart differ e = differ (cc)
-
-nothing : {n : ℕ} {X : Type 0} → none ≡ some n → X
-nothing e = let never : _≡_ {A = ℕ} 0 1 = cc in absurd (omega arith)
+use Rattle.promises.proofs.Choices.{apart, none-some, Tells, tells-most, tells-equal, tells-or, tells-and, first-case, later-case, either-case}
 
 -- ---- a header
 
@@ -61,7 +54,7 @@ missingOf (missing n) = some n
 
 missing-exactly : (f : Found) (n : ℕ) → (f ≡ missing n) ↔ (missingOf f ≡ some n)
 unfolding missingOf
-missing-exactly (found o part) n = (λ e. let never : _≡_ {A = ℕ} 0 1 = cc in absurd (omega arith), nothing)
+missing-exactly (found o part) n = (λ e. let never : _≡_ {A = ℕ} 0 1 = cc in absurd (omega arith), none-some)
 missing-exactly (missing m) n = (λ e. cc, λ e. cc)
 
 header-refusal : (got bs : List ℕ) → missingOf (headerFrom got bs) ≡ refusalAt (firstOther bs)
@@ -85,7 +78,7 @@ header-refusal got (b ∷ bs) = go (skipped b) (ofValues b) (λ more. header-ref
     go false false later = own (eqb b 0x71) (ends b)
 
 -- `q` is none of those
-cut-not-q : {b : ℕ} → Cuts b → ¬ (b ≡ 0x71)
+pub cut-not-q : {b : ℕ} → Cuts b → ¬ (b ≡ 0x71)
 cut-not-q (inl e) q = omega arith
 cut-not-q (inr (inl h)) q = omega arith
 cut-not-q (inr (inr h)) q = omega arith
@@ -94,7 +87,7 @@ cut-not-q (inr (inr h)) q = omega arith
 other-exactly : (o : Option ℕ) (n : ℕ) (P : ℕ → Type 0) → ¬ (8 ≡ n) → ((b : ℕ) → (refusalAt (some b) ≡ some n) ↔ P b)
     → (refusalAt o ≡ some n) ↔ ((b : ℕ) × (o ≡ some b) × P b)
 unfolding refusalAt
-other-exactly none n P differ k = (λ e. absurd (apart differ e), λ h. nothing (h .1))
+other-exactly none n P differ k = (λ e. absurd (apart differ e), λ h. none-some (h .1))
 other-exactly (some b) n P differ k = (
   λ e. (b, refl, k b .0 e),
   λ h. let same : b ≡ h .0 = cc (h .1) in k b .1 (subst P (sym same) (h .2)),
@@ -114,7 +107,7 @@ module _ (got bs : List ℕ) where
       (other-exactly (firstOther bs) 2 Cuts (λ q. omega arith)
       (λ b.
       let k : (refusalAt (some b) ≡ some 2) ↔ ((¬ (b ≡ 0x71)) × Cuts b) =
-      later-case (tells-equal b 0x71) nothing (first-case (tells-ends b) (apart (λ q. omega arith))) in
+      later-case (tells-equal b 0x71) none-some (first-case (tells-ends b) (apart (λ q. omega arith))) in
       (λ e. k .0 e .1, λ h. k .1 (cut-not-q h, h))))
 
   -- 3 is given exactly when that byte is any other than `q`.
@@ -125,7 +118,7 @@ module _ (got bs : List ℕ) where
       (other-exactly (firstOther bs) 3 (λ b. (¬ (b ≡ 0x71)) × (¬ Cuts b)) (λ q. omega arith)
       (λ b.
       let k : (refusalAt (some b) ≡ some 3) ↔ ((¬ (b ≡ 0x71)) × ((¬ Cuts b) × Unit {0})) =
-      later-case (tells-equal b 0x71) nothing (later-case (tells-ends b) (apart (λ q. omega arith)) (λ e. tt, λ h. refl)) in
+      later-case (tells-equal b 0x71) none-some (later-case (tells-ends b) (apart (λ q. omega arith)) (λ e. tt, λ h. refl)) in
       (λ e. (k .0 e .0, k .0 e .1 .0), λ h. k .1 (h .0, (h .1, tt)))))
 
   -- 8 is given exactly when there is no such byte.
@@ -134,13 +127,13 @@ module _ (got bs : List ℕ) where
   eight-exactly = header-as (go (firstOther bs))
     where
       not-eight : (t u : Bool) → _≡_ {A = Option ℕ} (cond t none (cond u (some 2) (some 3))) (some 8) → ⊥
-      not-eight true u e = nothing e
+      not-eight true u e = none-some e
       not-eight false true e = apart (λ q. omega arith) e
       not-eight false false e = apart (λ q. omega arith) e
 
       go : (o : Option ℕ) → (refusalAt o ≡ some 8) ↔ (o ≡ none)
       go none = (λ e. refl, λ e. refl)
-      go (some b) = (λ e. absurd (not-eight (eqb b 0x71) (ends b) e), λ e. nothing (sym e))
+      go (some b) = (λ e. absurd (not-eight (eqb b 0x71) (ends b) e), λ e. none-some (sym e))
 
   -- and no other number
   pub header-numbers : {n : ℕ} → headerFrom got bs ≡ missing n → ((2 ≤ n) × (n ≤ 3)) ⊎ (n ≡ 8)
@@ -148,7 +141,7 @@ module _ (got bs : List ℕ) where
   header-numbers {n} e = go (firstOther bs) (sym (header-refusal got bs) ∙ missing-exactly (headerFrom got bs) n .0 e)
     where
       byte : (t u : Bool) → _≡_ {A = Option ℕ} (cond t none (cond u (some 2) (some 3))) (some n) → ((2 ≤ n) × (n ≤ 3)) ⊎ (n ≡ 8)
-      byte true u e = nothing e
+      byte true u e = none-some e
       byte false true e = let same : 2 ≡ n = cc in inl (omega arith, omega arith)
       byte false false e = let same : 3 ≡ n = cc in inl (omega arith, omega arith)
 

@@ -3,8 +3,8 @@ use Prim.Native.Nat.{ℕ, _≤_}
 use mathlib.Core.Bool.{true}
 use mathlib.Core.List.{List}
 use mathlib.Core.Logic.{_↔_, Iff·trans}
-use mathlib.Core.Option.{Option, none, some}
-use mathlib.Core.Path.{_≡_, refl, sym, ap, _∙_, subst}
+use mathlib.Core.Option.{some}
+use mathlib.Core.Path.{_≡_, refl, sym, ap, _∙_}
 use native.Mathlib.Omega.{arith}
 use lib.ListN.{length}
 use Rattle.colours.specs.declared.Palette.{Palette}
@@ -18,13 +18,10 @@ use Rattle.frame.specs.declared.Refusal.the-variants.{Failed, Opening, Canvas}
 use Rattle.frame.specs.Commands.{Ended, ended}
 use Rattle.meaning.specs.Calls as calls
 use Rattle.meaning.specs.Payload as meant
-use Rattle.meaning.specs.Reader.{Run}
 use Rattle.meaning.specs.Sessions.{Reading, opened, payloadStep}
 use Rattle.payload.specs.declared.Answer.{Answer}
 use Rattle.payload.specs.declared.Answer.the-variants as answers
-use Rattle.payload.specs.declared.Fed.{Fed}
 use Rattle.payload.specs.declared.Finished.{Finished}
-use Rattle.payload.specs.declared.Finishing.{Finishing}
 use Rattle.payload.specs.declared.Finishing.the-variants as finishes
 use Rattle.payload.specs.declared.Opened.{Opened}
 use Rattle.payload.specs.declared.Opening.the-variants as openings
@@ -34,10 +31,10 @@ use Rattle.payload.specs.declared.judge.Judged.{Judged}
 use Rattle.payload.specs.declared.judge.Judged.the-variants as judged
 use Rattle.payload.specs.Judge.{feedJudged, finishJudged, finalJudged}
 use Rattle.payload.specs.Session.{openedBy, fedAs, fedBy, turnedAway, pictured, finishedIf, finishedIn, finishedLive, finishedAs, finishedBy}
-use Rattle.payload.specs.History.{parametersMeant, limitsMeant, answerMeant, Stands, Opens, isReady, isRefused, Feeds, Finishes, pictures, declines}
+use Rattle.payload.specs.History.{parametersMeant, limitsMeant, answerMeant, Stands, Opens, isReady, isRefused, Finishes, pictures, declines}
 use Rattle.payload.proofs.Openings.{open-stands}
 use Rattle.payload.proofs.Judgements.{judgedMeant, feed-judged, stands-shows}
-use Rattle.payload.proofs.Feedings.{fed-meant, feed-stands}
+use Rattle.payload.proofs.Feedings.{feed-stands}
 use Rattle.payload.proofs.Finishings.{finish-stands}
 use Rattle.promises.proofs.Meanings.{refusal-known}
 use Rattle.promises.proofs.RefusedCalls as any
@@ -82,15 +79,15 @@ module _ {opening : List ℕ} {s : Session} {l : List ℕ} {m : calls.Session Re
   payload-feed-keeps x high e = refused-before l x (payload-first m (length l) a bs (numberOf x) high (payload-feed-exactly x .0 e))
 
   -- A failed session is 9, whichever canvas is lent, and all stays as it was.
-  pub payload-feed-nine : (lent : List ℕ) → m .failed ≡ true → fedBy s lent bs a ≡ (record { answer = answers.Refused Failed; session = s }, lent)
+  pub payload-nine-keeps : (lent : List ℕ) → m .failed ≡ true → fedBy s lent bs a ≡ (record { answer = answers.Refused Failed; session = s }, lent)
   unfolding numberOf
-  payload-feed-nine lent h = refused-before lent Failed (payload-first m (length lent) a bs 9 (omega arith) (payload-nine m (length lent) a bs .1 h))
+  payload-nine-keeps lent h = refused-before lent Failed (payload-first m (length lent) a bs 9 (omega arith) (payload-nine m (length lent) a bs .1 h))
 
   -- Another is 12 on a canvas that does not fit, and all stays as it was.
-  pub payload-feed-twelve : (lent : List ℕ) → ¬ (m .failed ≡ true) → any.Misfits payloadArea m (length lent)
+  pub payload-twelve-keeps : (lent : List ℕ) → ¬ (m .failed ≡ true) → any.Misfits payloadArea m (length lent)
       → fedBy s lent bs a ≡ (record { answer = answers.Refused Canvas; session = s }, lent)
   unfolding numberOf
-  payload-feed-twelve lent h misfit =
+  payload-twelve-keeps lent h misfit =
       refused-before lent Canvas (payload-first m (length lent) a bs 12 (omega arith) (payload-twelve m (length lent) a bs .1 (h, misfit)))
 
   -- 4 to 7 leave the canvas showing what came before the refused byte or command.

@@ -1,11 +1,10 @@
 -- The refusals of a reading all at once, in their order: 11, then 2, 3 or 8, then the payload's; and what each leaves (document 01, 'Refusal
 -- numbers').
 use Prim.Native.Nat.{ℕ, _≤_}
-use mathlib.Core.Bool.{Bool, true, false, cond}
 use mathlib.Core.List.{List, []}
 use mathlib.Core.Logic.{_↔_, _⊎_, inl, inr}
 use mathlib.Core.Option.{some}
-use mathlib.Core.Path.{_≡_, refl, sym, ap, _∙_, subst}
+use mathlib.Core.Path.{_≡_, refl, sym, ap, _∙_}
 use native.Mathlib.Omega.{arith}
 use lib.ListN.{length}
 use Rattle.colours.specs.declared.Palette.{Palette}
@@ -14,15 +13,15 @@ use Rattle.frame.specs.declared.Refusal.{Refusal}
 use Rattle.meaning.specs.Commands.{commands}
 use Rattle.meaning.specs.Drawing.{Limits, Setting, Drawing, Outcome, blank}
 use Rattle.meaning.specs.OneShot.{Found, found, missing, findPayload, answerOf, oneShot}
-use Rattle.meaning.specs.Payload.{Parameters, payload, Finished, turnedDown, finish}
-use Rattle.meaning.specs.Calls.{opens, settingFor, shown, readOneShot, partHandedBack}
+use Rattle.meaning.specs.Payload.{Parameters, payload, Finished, turnedDown}
+use Rattle.meaning.specs.Calls.{settingFor, shown, readOneShot, partHandedBack}
 use Rattle.meaning.proofs.AreaLaws.{Sound, opens-roomy, blank-sound}
 use Rattle.payload.specs.declared.Finished as coded
 use Rattle.payload.specs.declared.Finishing.{Finishing}
 use Rattle.payload.specs.declared.Finishing.the-variants as finishes
 use Rattle.oneshot.specs.OneShot.{Read, paletteAfter, readWhole, readPart, readOutcome, finishMeant, readMeant}
 use Rattle.oneshot.proofs.WholeLaws.{part-read, part-missing, part-unopened}
-use Rattle.promises.proofs.Choices.{Tells, tells-fails, later-case, only-case}
+use Rattle.promises.proofs.Choices.{tells-fails, later-case, only-case}
 use Rattle.promises.proofs.Meanings.{refusal-known}
 use Rattle.promises.proofs.RefusedCommands.{RefusedAt, payload-exactly}
 use Rattle.promises.proofs.RefusedHeaders.{header-numbers, shot-exactly}
