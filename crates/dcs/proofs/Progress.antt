@@ -24,13 +24,13 @@ use Rattle.meaning.proofs.DcsParts.{no-end}
 use Rattle.meaning.proofs.EachCall.{dcs-so-far}
 use Rattle.meaning.proofs.InkLaws.{Halts}
 use Rattle.meaning.proofs.SoFarLaws.{LeftBy, allRead, stoppedAt}
-use Rattle.payload.specs.History.{settingMeant, limitsMeant, Finishes}
+use Rattle.payload.specs.History.{settingMeant, Finishes}
 use Rattle.payload.specs.Judge.{openable}
 use Rattle.dcs.specs.declared.Answer.the-variants as answers
 use Rattle.dcs.specs.declared.Ending.{Ending}
 use Rattle.dcs.specs.Session.{fedBy, finishedBy}
 use Rattle.dcs.specs.History.{endMeant, answerMeant, Held, called, callsOf, properCalls}
-use Rattle.dcs.proofs.Callers.{endTold, may-told, CallerStands, sessionAt, run, fed-feeds, calls-stand}
+use Rattle.dcs.proofs.Callers.{endTold, may-told, CallerStands, sessionAt, fed-feeds, calls-stand}
 use Rattle.dcs.proofs.History as history
 use Rattle.dcs.proofs.Standing.{finish-stands, finished-meant, stands-long, stands-fit}
 

@@ -1,13 +1,13 @@
 -- Turns of a caller that are added at the end, and what a call's answer makes of a reader.
-use Prim.Native.Nat.{ℕ, _+_, _<_, min}
+use Prim.Native.Nat.{ℕ, _+_, _<_}
 use native.Mathlib.Omega.{arith}
-use mathlib.Core.Bool.{true, _&&_}
+use mathlib.Core.Bool.{true}
 use mathlib.Core.List.{List, [], _∷_, _++_, append-assoc}
 use mathlib.Core.Path.{_≡_, refl, sym, ap, _∙_}
 use lib.Dec.{leb}
 use lib.ListN.{length}
 use Rattle.canvas.proofs.Covers.{and-both}
-use Rattle.meaning.specs.Reader.{Step, How, stopped, Turn, fresh, again, pieceOf, allowanceOf, stream, pieces, Caller, mayCall, turn, turns}
+use Rattle.meaning.specs.Reader.{Step, stopped, Turn, fresh, again, pieceOf, allowanceOf, stream, pieces, Caller, mayCall, turn, turns}
 use Rattle.meaning.proofs.Cases.{both}
 use Rattle.dcs.specs.declared.Answer.{Answer}
 use Rattle.dcs.specs.declared.Answer.the-variants as answers

@@ -1,7 +1,6 @@
 -- What the promise asks of the definition: at an end the picture is that of the whole stream, and bytes after an end or a refusal make no difference.
 use Prim.Native.Nat.{ℕ, _≤_}
 use native.Mathlib.Omega.{arith}
-use mathlib.Core.Bool.{true, cond}
 use mathlib.Core.Option.{Option, none, some}
 use mathlib.Core.List.{List, [], _∷_, _++_}
 use mathlib.Core.Path.{_≡_, refl, sym, ap, _∙_, subst}
@@ -46,7 +45,7 @@ told-refused (refusedBy m) o e = e
 
 -- ---- the picture at the end is that of the whole stream
 
-drawing-whole : (s : Setting) (p : Palette) (bs : List ℕ) {e : End} → calls.dcsEnd (readFrom (dcsStep s p) start bs .state) ≡ some e
+pub drawing-whole : (s : Setting) (p : Palette) (bs : List ℕ) {e : End} → calls.dcsEnd (readFrom (dcsStep s p) start bs .state) ≡ some e
     → calls.drawingAtFinish s (readFrom (dcsStep s p) start bs .state) ≡ calls.drawingFound s p (findPayload bs)
 unfolding calls.drawingFound
 drawing-whole s p bs {e} z = go (sequencePayload bs) refl (sequence-agrees bs)
@@ -108,7 +107,11 @@ module _ (s : Setting) (p : Palette) where
     pub ended-ink : {e : End} → calls.dcsEnd (readFrom (dcsStep s p) start xs .state) ≡ some e → sequenceInk s p (xs ++ ys) ≡ sequenceInk s p xs
     ended-ink h = sym (sequence-ink s p (xs ++ ys)) ∙ over-more h .2 ∙ sequence-ink s p xs
 
-    pub ended-end : {e : End} → calls.dcsEnd (readFrom (dcsStep s p) start xs .state) ≡ some e → calls.dcsEnd (readFrom (dcsStep s p) start (xs ++ ys) .state) ≡ some e
+    pub ended-state : {e : End} → calls.dcsEnd (readFrom (dcsStep s p) start xs .state) ≡ some e
+        → readFrom (dcsStep s p) start (xs ++ ys) .state ≡ readFrom (dcsStep s p) start xs .state
+    ended-state h = over-more h .0
+
+    ended-end : {e : End} → calls.dcsEnd (readFrom (dcsStep s p) start xs .state) ≡ some e → calls.dcsEnd (readFrom (dcsStep s p) start (xs ++ ys) .state) ≡ some e
     ended-end h = ap calls.dcsEnd (over-more h .0) ∙ h
 
     pub ended-consumed : {e : End} → calls.dcsEnd (readFrom (dcsStep s p) start xs .state) ≡ some e
@@ -118,12 +121,12 @@ module _ (s : Setting) (p : Palette) where
     pub ended-answer : {e : End} → calls.dcsEnd (readFrom (dcsStep s p) start xs .state) ≡ some e → oneShot s p (xs ++ ys) ≡ oneShot s p xs
     ended-answer h = sym (sequence-finish s p (xs ++ ys) (ended-end h)) ∙ ap (finishDcs s) (over-more h .0) ∙ sequence-finish s p xs h
 
-    pub ended-drawing : {e : End} → calls.dcsEnd (readFrom (dcsStep s p) start xs .state) ≡ some e
-        → calls.drawingAtFinish s (readFrom (dcsStep s p) start xs .state) ≡ calls.drawingFound s p (findPayload (xs ++ ys))
-    ended-drawing h = sym (ap (calls.drawingAtFinish s) (over-more h .0)) ∙ drawing-whole s p (xs ++ ys) (ended-end h)
-
     pub refused-ink : {n : ℕ} → readFrom (dcsStep s p) start xs .how ≡ refusedBy n → sequenceInk s p (xs ++ ys) ≡ sequenceInk s p xs
     refused-ink h = sym (sequence-ink s p (xs ++ ys)) ∙ ap (λ (q : Run Phase). q .ink) (refused-more h) ∙ sequence-ink s p xs
+
+    pub refused-state : {n : ℕ} → readFrom (dcsStep s p) start xs .how ≡ refusedBy n
+        → readFrom (dcsStep s p) start (xs ++ ys) .state ≡ readFrom (dcsStep s p) start xs .state
+    refused-state h = ap (λ (q : Run Phase). q .state) (refused-more h)
 
     -- a refusal is what introducer and header are refused with, or what reading the whole at once answers
     pub refused-answer : {n : ℕ} → readFrom (dcsStep s p) start xs .how ≡ refusedBy n

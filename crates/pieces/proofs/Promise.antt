@@ -1,9 +1,9 @@
 -- The promise of a reader that takes its stream in pieces, from the promises of the DCS session: at the end the picture is the definition's, and the
 -- calls are at most the pieces and the ink.
-use Prim.Native.Nat.{ℕ, _+_, _*_, _-_, _/_, _≤_, min}
+use Prim.Native.Nat.{ℕ, _+_, _*_, _-_, _/_, _≤_}
 use native.Mathlib.Nat.{div-one}
 use native.Mathlib.Omega.{arith}
-use mathlib.Core.Bool.{true, false, cond}
+use mathlib.Core.Bool.{true, false}
 use mathlib.Core.Option.{Option, none, some}
 use mathlib.Core.List.{List, [], _++_, append-nil}
 use mathlib.Core.Path.{_≡_, refl, sym, ap, _∙_, subst}
@@ -17,9 +17,9 @@ use Rattle.frame.specs.declared.Refusal.{Refusal}
 use Rattle.frame.specs.Numbers.{numberOf}
 use Rattle.meaning.specs.Calls as calls
 use Rattle.meaning.specs.Drawing.{Setting, Drawing}
-use Rattle.meaning.specs.OneShot.{missing, findPayload, oneShot}
+use Rattle.meaning.specs.OneShot.{missing, oneShot}
 use Rattle.meaning.specs.Payload as meant
-use Rattle.meaning.specs.Reader.{How, readAll, stopped, refusedBy, isRefused, Run, readFrom, Turn, stream, pieces, Caller, ranBy}
+use Rattle.meaning.specs.Reader.{readAll, stopped, refusedBy, isRefused, Run, readFrom, Turn, stream, pieces, Caller, ranBy}
 use Rattle.meaning.specs.Sequence.{sequencePayload, sequenceInk}
 use Rattle.meaning.specs.Sessions.{Phase, start, dcsStep}
 use Rattle.meaning.proofs.AreaLaws.{Roomy, opens-roomy}
@@ -41,7 +41,7 @@ use Rattle.pieces.specs.declared.Standing.the-variants as standings
 use Rattle.pieces.specs.Pieces.{openedBy, held, finishedAs, finishedBy}
 use Rattle.pieces.specs.Stream.{joined, takenAll, howStood}
 use Rattle.pieces.proofs.Copies.{Declined, declined, Reported, reported, report-fits, copy-rows, length-shown}
-use Rattle.pieces.proofs.Ends.{stood-going, told-refused, ended-reports, ended-ink, ended-end, ended-consumed, ended-answer, ended-drawing, refused-ink, refused-answer}
+use Rattle.pieces.proofs.Ends.{stood-going, told-refused, drawing-whole, ended-reports, ended-ink, ended-state, ended-consumed, ended-answer, refused-ink, refused-state, refused-answer}
 use Rattle.pieces.proofs.Taking.{joined-append, length-append, start-follows, Taken, taken-all}
 use Rattle.pieces.proofs.Turns.{now, Follows}
 
@@ -130,7 +130,27 @@ module _ (l : Limits) (stride : ℕ) (p : Palette) (opening : List ℕ) (opens :
       go (standings.Ended e) h = sym (ap (sequenceInk setting p) split ∙ ended-ink setting p taken (joined (all .later)) (end-taken h))
       go (standings.Refused n) h = sym (ap (sequenceInk setting p) split ∙ refused-ink setting p taken (joined (all .later)) (refusal-taken h))
 
+  -- nor lead elsewhere
+  state-taken : readFrom (dcsStep setting p) start taken .state ≡ readFrom (dcsStep setting p) start bytes .state
+  state-taken = go (reader .standing) refl
+    where
+      reached : List ℕ → Phase
+      reached bs = readFrom (dcsStep setting p) start bs .state
+
+      go : (t : Standing) → reader .standing ≡ t → reached taken ≡ reached bytes
+      go standings.Reading h = ap reached (sym (all-taken h))
+      go (standings.Ended e) h = sym (ap reached split ∙ ended-state setting p taken (joined (all .later)) (end-taken h))
+      go (standings.Refused n) h = sym (ap reached split ∙ refused-state setting p taken (joined (all .later)) (refusal-taken h))
+
   -- ---- what may be relied on
+
+  -- The canvas shows the drawing that reading the whole stream at once comes to; after a refusal, what came before it.
+  pub canvas-whole : canvas ≡ calls.shown stride (calls.drawingOf (readFrom (dcsStep setting p) start bytes .state)) opening
+  unfolding ranBy
+  canvas-whole =
+      follows .keeps .canvas
+      ∙ history.canvas-shows l stride p opening opens (6 * l .width) turns enough ok
+      ∙ ap (λ (t : Phase). calls.shown stride (calls.drawingOf t) opening) (sym (ap (λ (q : Run Phase). q .state) ran) ∙ state-taken)
 
   -- Demand 3, its first sentence: the calls are at most the pieces and I, the ink of the whole stream.
   pub calls-few : reader .counts .calls ≤ length zs + sequenceInk setting p bytes
@@ -172,7 +192,7 @@ module _ (l : Limits) (stride : ℕ) (p : Palette) (opening : List ℕ) (opens :
     pub no-end-whole : calls.dcsEnd (readFrom (dcsStep setting p) start bytes .state) ≡ none
     unfolding ranBy
     no-end-whole =
-        ap (λ (bs : List ℕ). calls.dcsEnd (readFrom (dcsStep setting p) start bs .state)) (all-taken reads)
+        sym (ap calls.dcsEnd state-taken)
         ∙ ap (λ (q : Run Phase). calls.dcsEnd (q .state)) ran
         ∙ not-ended l stride p opening opens (6 * l .width) turns enough ok needs-more
 
@@ -193,9 +213,7 @@ module _ (l : Limits) (stride : ℕ) (p : Palette) (opening : List ℕ) (opens :
 
     -- The end is the one that reading the whole stream at once comes to.
     pub end-whole : calls.dcsEnd (readFrom (dcsStep setting p) start bytes .state) ≡ some (endMeant e)
-    end-whole =
-        ap (λ (bs : List ℕ). calls.dcsEnd (readFrom (dcsStep setting p) start bs .state)) split
-        ∙ ended-end setting p taken (joined (all .later)) (end-taken ended)
+    end-whole = sym (ap calls.dcsEnd state-taken) ∙ end-taken ended
 
     -- So are the bytes consumed, held.
     pub consumed-whole : reader .counts .consumed ≡ held (readFrom (dcsStep setting p) start bytes .consumed)
@@ -219,8 +237,8 @@ module _ (l : Limits) (stride : ℕ) (p : Palette) (opening : List ℕ) (opens :
     picture-whole =
         ap (λ (d : Option Drawing). calls.shown stride d opening)
         (sym (ap (λ (q : Run Phase). calls.drawingAtFinish setting (q .state)) ran)
-        ∙ ended-drawing setting p taken (joined (all .later)) (end-taken ended)
-        ∙ ap (λ (bs : List ℕ). calls.drawingFound setting p (findPayload bs)) (sym split))
+        ∙ ap (calls.drawingAtFinish setting) state-taken
+        ∙ drawing-whole setting p bytes end-whole)
         ∙ sym (cond-yes _ _ opens)
 
     finish-same : (owner : Palette) → finishedBy reader owner canvas ≡ dcs.finishedBy (caller .state .0) owner (caller .state .1)

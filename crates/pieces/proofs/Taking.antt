@@ -1,5 +1,5 @@
 -- Any pieces taken one after the other, from the opening on, are a caller's calls: a new call for each piece until the end, and others after its stops.
-use Prim.Native.Nat.{ℕ, suc, _+_, _*_, _≤_}
+use Prim.Native.Nat.{ℕ, suc, _+_, _*_}
 use native.Mathlib.Omega.{arith}
 use mathlib.Core.Bool.{true, false}
 use mathlib.Core.List.{List, [], _∷_, _++_, append-nil, append-assoc}
@@ -12,7 +12,6 @@ use Rattle.frame.specs.declared.Refusal.the-variants as refusals
 use Rattle.meaning.specs.Reader.{readAll, Turn, fresh, pieceOf, allowanceOf, stream, pieces, mayCall, ready}
 use Rattle.payload.specs.declared.Opened as payloadOpened
 use Rattle.payload.specs.declared.Opening.{Opening}
-use Rattle.payload.specs.declared.Opening.the-variants as openings
 use Rattle.payload.specs.Begin.{reservedBy}
 use Rattle.payload.specs.Judge.{openable}
 use Rattle.payload.specs.Session.{turnedAway}

@@ -2,7 +2,7 @@
 -- canvas. What a single call does is said by the DCS session's definitions, which stay closed here.
 use Prim.Native.Nat.{ℕ, zero, suc, _+_, _*_, min}
 use mathlib.Core.Bool.{cond}
-use mathlib.Core.List.{List, [], _∷_}
+use mathlib.Core.List.{List}
 use lib.Dec.{eqb}
 use lib.ListN.{length, drop}
 use Rattle.colours.specs.declared.Palette.{Palette}
