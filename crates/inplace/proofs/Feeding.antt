@@ -13,7 +13,7 @@ use contract.Lifetimes.{Lfts}
 use contract.Monad.{fact}
 use denote.RattleType.{RattleType}
 use denote.Builtin.{u8, usize, RefMutOf, SliceRefMutOf, SliceRefOf}
-use denote.Ref.{name, now}
+use denote.Ref.{now}
 use denote.Struct.Struct.{Plains, layout, struct-lawful, struct-pure}
 use denote.Struct.Declared as structs
 use denote.Struct.Laws as structLaws

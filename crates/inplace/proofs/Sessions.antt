@@ -1,5 +1,8 @@
--- The two sessions that are fed in place.
+-- The two sessions that are fed in place, and that each takes at most 2 KiB there.
+use Prim.Native.Nat.{_≤_}
 use mathlib.Core.Path.{refl}
+use lib.Dec.{lit≤}
+use prog.Memory.{size}
 use Rattle.dcs.specs.declared.Fed as dcsFed
 use Rattle.dcs.specs.Session as dcsSaid
 use Rattle.dcs.proofs.Answer as dcsAnswer
@@ -16,7 +19,7 @@ use Rattle.payload.proofs.Fed as payloadReturned
 use Rattle.payload.proofs.Session as payloadSession
 use Rattle.payload.proofs.Session.Laws as payloadSessionLaws
 use Rattle.payload.proofs.feed.Symbol as payloadFeed
-use Rattle.inplace.proofs.Feeding.{Feeding}
+use Rattle.inplace.proofs.Feeding.{Feeding, session-ty}
 
 abbrev pub payload : Feeding
 payload = record {
@@ -63,3 +66,9 @@ dcs = record {
   feed = dcsFeed.name;
   fedBy = dcsSaid.fedBy;
 }
+
+pub payload-size : size (session-ty payload) ≤ 2048
+payload-size = lit≤ tt
+
+pub dcs-size : size (session-ty dcs) ≤ 2048
+dcs-size = lit≤ tt
