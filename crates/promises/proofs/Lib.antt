@@ -18,6 +18,7 @@ pub mod RefusedDcsBytes
 pub mod RefusedDcsFeeds
 pub mod RefusedEnds
 pub mod RefusedReads
+pub mod RefusedCanvases
 pub mod RefusedAborts
 pub mod StoppedCalls
 pub mod Hollow
