@@ -23,6 +23,7 @@ pub mod RefusedAborts
 pub mod StoppedCalls
 pub mod Hollow
 pub mod HollowCallers
+pub mod HollowReads
 pub mod OneAnswers
 pub mod OneNumbers
 pub mod OneCanvas
