@@ -24,6 +24,7 @@ pub mod StoppedCalls
 pub mod Hollow
 pub mod HollowCallers
 pub mod HollowReads
+pub mod HollowDcs
 pub mod OneAnswers
 pub mod OneNumbers
 pub mod OneCanvas
