@@ -1,6 +1,6 @@
 -- The five hollow readers (document 01, 'What callers may rely on') are rejected of DCS sessions too.
 use Prim.Native.Nat.{ℕ, _*_, _≤_}
-use mathlib.Core.Bool.{true, false}
+use mathlib.Core.Bool.{false}
 use mathlib.Core.List.{List, [], _∷_}
 use mathlib.Core.Path.{_≡_, refl, sym, ap, _∙_}
 use native.Mathlib.Omega.{arith}
@@ -28,6 +28,7 @@ use Rattle.dcs.specs.declared.lead.Place.the-variants as places
 use Rattle.dcs.specs.Session.{sessionOf}
 use Rattle.dcs.specs.History.{answerMeant, inkTold, atStart, heldAt, Stands, before, Feeds}
 use Rattle.dcs.proofs.Standing.{stands-shows}
+use Rattle.promises.proofs.Hollow.{house, fresh}
 use Rattle.promises.proofs.StoppedCalls.{Worked, dcs-stop-works}
 
 -- a feed: of a session, a canvas, bytes and an allowance it makes an answer, a session and a canvas
@@ -62,16 +63,10 @@ module _ (f : Reader) (meets : Meets f) (l : Limits) (stride : ℕ) (p : Palette
 
 -- ---- the smallest example: house limits, a canvas of 1 x 6 pixels whose bytes are 1, the standard palette; the bytes are 90 `q~`
 
-house : Limits
-house = record { width = 1024; height = 768; repeats = 1024; pixels = 786432 }
-
-pub fresh : List ℕ
-fresh = 1 ∷ 1 ∷ 1 ∷ 1 ∷ 1 ∷ 1 ∷ 1 ∷ 1 ∷ 1 ∷ 1 ∷ 1 ∷ 1 ∷ 1 ∷ 1 ∷ 1 ∷ 1 ∷ 1 ∷ 1 ∷ 1 ∷ 1 ∷ 1 ∷ 1 ∷ 1 ∷ 1 ∷ []
-
-pub sixel : List ℕ
+unfoldable pub sixel : List ℕ
 sixel = 0x90 ∷ 0x71 ∷ 0x7E ∷ []
 
-pub s₀ : Session
+unfoldable pub s₀ : Session
 s₀ = sessionOf (sessionFor house 1 (length fresh) noSettings standard lives.Live) (numbers.opened 3) (phases.Before places.Start)
 
 m₀ : calls.Session Phase

@@ -16,6 +16,7 @@ use Rattle.meaning.proofs.Trials.{computed}
 use Rattle.payload.specs.declared.Finished.{Finished}
 use Rattle.payload.specs.declared.Finishing.the-variants as finishes
 use Rattle.oneshot.specs.OneShot.{Read, readWhole, finishMeant, readMeant}
+use Rattle.promises.proofs.Hollow.{fresh}
 
 -- a reading: of limits, a stride, a palette, a canvas and bytes it makes an answer with a palette, and a canvas
 abbrev pub Reader : Type 0
@@ -29,9 +30,6 @@ Meets f = (l : Limits) (stride : ℕ) (p : Palette) (canvas bs : List ℕ) → r
 
 house : Limits
 house = record { width = 1024; height = 768; repeats = 1024; pixels = 786432 }
-
-fresh : List ℕ
-fresh = 1 ∷ 1 ∷ 1 ∷ 1 ∷ 1 ∷ 1 ∷ 1 ∷ 1 ∷ 1 ∷ 1 ∷ 1 ∷ 1 ∷ 1 ∷ 1 ∷ 1 ∷ 1 ∷ 1 ∷ 1 ∷ 1 ∷ 1 ∷ 1 ∷ 1 ∷ 1 ∷ 1 ∷ []
 
 read₀ : List ℕ → Read
 read₀ bs = readWhole house 1 standard fresh bs
