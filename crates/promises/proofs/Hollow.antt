@@ -67,20 +67,20 @@ module _ (f : Reader) (meets : Meets f) {opening : List ℕ} {s : Session} {l : 
 
 -- ---- the smallest example: house limits, a canvas of 1 x 6 pixels whose bytes are 1, the standard palette, and P2 is 1
 
-house : Limits
+unfoldable pub house : Limits
 house = record { width = 1024; height = 768; repeats = 1024; pixels = 786432 }
 
-clear : Settings
+unfoldable pub clear : Settings
 clear = record { p1 = givens.Nothing; p2 = givens.Number 1 }
 
-fresh : List ℕ
+unfoldable pub fresh : List ℕ
 fresh = 1 ∷ 1 ∷ 1 ∷ 1 ∷ 1 ∷ 1 ∷ 1 ∷ 1 ∷ 1 ∷ 1 ∷ 1 ∷ 1 ∷ 1 ∷ 1 ∷ 1 ∷ 1 ∷ 1 ∷ 1 ∷ 1 ∷ 1 ∷ 1 ∷ 1 ∷ 1 ∷ 1 ∷ []
 
 -- the session, its canvas and the definition's session at the opening
-pub s₀ : Session
+unfoldable pub s₀ : Session
 s₀ = sessionFor house 1 (length fresh) clear standard lives.Live
 
-pub l₀ : List ℕ
+unfoldable pub l₀ : List ℕ
 l₀ = painted (span 0 1) (backgroundFor standard (clear .p2)) fresh
 
 m₀ : calls.Session Reading

@@ -18,10 +18,13 @@ pub mod RefusedDcsBytes
 pub mod RefusedDcsFeeds
 pub mod RefusedEnds
 pub mod RefusedReads
+pub mod RefusedCanvases
 pub mod RefusedAborts
 pub mod StoppedCalls
 pub mod Hollow
 pub mod HollowCallers
+pub mod HollowReads
+pub mod HollowDcs
 pub mod OneAnswers
 pub mod OneNumbers
 pub mod OneCanvas

@@ -39,6 +39,7 @@ use Rattle.dcs.specs.declared.lead.Place.{Place}
 use Rattle.dcs.specs.Session.{openedBy, fedAs, fedBy, finishedIn, finishedAs, finishedBy}
 use Rattle.dcs.specs.History.{answerMeant, SamePlace, heldAt, Stands, before, refused, inside, escaped, ended, Opens, isReady, isRefused}
 use Rattle.dcs.proofs.Standing.{feed-stands, open-stands, finish-stands, stands-shows, stands-fit}
+use Rattle.promises.proofs.Choices.{tells-itself, tells-fails}
 use Rattle.promises.proofs.Meanings.{refusal-known}
 use Rattle.promises.proofs.RefusedCalls as any
 use Rattle.promises.proofs.RefusedPayload.{judged-known, finishes-exactly, Untouched, payload-finish-keeps}
@@ -141,6 +142,39 @@ module _ (l : Limits) (stride : ℕ) (p : Palette) (opening : List ℕ) where
   pub dcs-finish-exactly : {s : Session} {c : List ℕ} {m : calls.Session Phase} → Stands l stride p opening s c m → (owner : Palette) (x : Refusal)
       → (finishedBy s owner c .0 .answer ≡ finishes.Refused x) ↔ (calls.finishDcsSession m (length c) ≡ meant.turnedDown (numberOf x))
   dcs-finish-exactly k owner = finishes-exactly (finish-stands l stride p opening owner k)
+
+  finish-meant : {s : Session} {c : List ℕ} {m : calls.Session Phase} → Stands l stride p opening s c m → (size : ℕ)
+      → judgements.judgedMeant (finishJudged (s .payload) size)
+      ≡ calls.firstOf (record { holds = m .failed; number = 9 } ∷ record { holds = calls.misfits dcsArea m size; number = 12 } ∷ [])
+  unfolding judgements.judgedMeant judgements.misfit finishJudged isFailed coded.sessionFor numberOf calls.firstOf calls.misfits calls.visibleArea calls.drawingOf
+  finish-meant (before opens same) size =
+      judgements.finish-judged (ready-stands l stride noSettings p opening opens) size
+      ∙ ap (λ (u : Bool). calls.firstOf (record { holds = false; number = 9 } ∷ record { holds = u; number = 12 } ∷ [])) (waits-alike opens same size)
+  finish-meant (refused same) size = refl
+  finish-meant (inside k over) size = judgements.finish-judged k size
+  finish-meant (escaped k) size = judgements.finish-judged k size
+  finish-meant (ended k) size = judgements.finish-judged k size
+
+  module _ {s : Session} {c : List ℕ} {m : calls.Session Phase} (k : Stands l stride p opening s c m) (owner : Palette) (lent : List ℕ) where
+    -- refused before the end is asked for, whichever canvas is lent
+    ended-before : (x : Refusal)
+        → calls.firstOf (record { holds = m .failed; number = 9 } ∷ record { holds = calls.misfits dcsArea m (length lent); number = 12 } ∷ []) ≡ some (numberOf x)
+        → finishedBy s owner lent ≡ (record { answer = finishes.Refused x; palette = owner }, lent)
+    unfolding finishedBy finishedAs coded.turnedAway
+    ended-before x e =
+        ap (λ (j : Judged). finishedAs j s owner lent) (judged-known (finishJudged (s .payload) (length lent)) x (finish-meant k (length lent) ∙ e))
+
+    -- A finish of a failed session is 9, whichever canvas is lent.
+    pub dcs-finish-nine-keeps : m .failed ≡ true → finishedBy s owner lent ≡ (record { answer = finishes.Refused Failed; palette = owner }, lent)
+    unfolding numberOf calls.firstOf
+    dcs-finish-nine-keeps h = ended-before Failed (rw h refl)
+
+    -- One of another is 12 on a canvas that does not fit.
+    pub dcs-finish-twelve-keeps : ¬ (m .failed ≡ true) → any.Misfits dcsArea m (length lent)
+        → finishedBy s owner lent ≡ (record { answer = finishes.Refused Canvas; palette = owner }, lent)
+    unfolding numberOf calls.firstOf calls.misfits
+    dcs-finish-twelve-keeps live misfits =
+        ended-before Canvas (rw (tells-fails tells-itself .1 live, any.tells-misfits dcsArea m (length lent) .1 misfits) refl)
 
   -- ---- opening
 

@@ -83,15 +83,15 @@ cut-strange {b} h = (λ e. skip h (tells-skipped .0 e), (λ e. value h (tells-va
 -- ---- each number by the byte
 
 -- what a header's byte is refused with
-abbrev Headed : List ℕ → ℕ → Phase → ℕ → Type 0
+abbrev pub Headed : List ℕ → ℕ → Phase → ℕ → Type 0
 Headed bs b u n = (Cuts b × ((u ≡ header bs) × (n ≡ 2))) ⊎ ((¬ Cuts b) × ((u ≡ header bs) × (n ≡ 3)))
 
-headed-number : {bs : List ℕ} {b n : ℕ} {u : Phase} → Headed bs b u n → (2 ≤ n) × (n ≤ 3)
+pub headed-number : {bs : List ℕ} {b n : ℕ} {u : Phase} → Headed bs b u n → (2 ≤ n) × (n ≤ 3)
 headed-number {n = n} (inl h) = let number : n ≡ 2 = h .1 .1 in (omega arith, omega arith)
 headed-number {n = n} (inr h) = let number : n ≡ 3 = h .1 .1 in (omega arith, omega arith)
 
 module _ (s : Setting) (b : ℕ) where
-  struck-number : {r t : Reading} {n : ℕ} → ByteRefused s r b t n → (4 ≤ n) × (n ≤ 7)
+  pub struck-number : {r t : Reading} {n : ℕ} → ByteRefused s r b t n → (4 ≤ n) × (n ≤ 7)
   struck-number {r} {t} {n} h = byte-numbers s r b (byte-exactly s r b t n .1 h)
 
   pub one-byte : (t : Phase) → ((u : Phase) × DcsRefused s t b u 1) ↔ NotIntroducing t b

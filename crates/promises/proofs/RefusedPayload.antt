@@ -1,7 +1,7 @@
 -- The refusals of the code's payload sessions are the definition's, and leave what document 01 says ('Refusal numbers').
 use Prim.Native.Nat.{ℕ, _≤_}
 use mathlib.Core.Bool.{true}
-use mathlib.Core.List.{List}
+use mathlib.Core.List.{List, [], _∷_}
 use mathlib.Core.Logic.{_↔_, Iff·trans}
 use mathlib.Core.Option.{some}
 use mathlib.Core.Path.{_≡_, refl, sym, ap, _∙_}
@@ -33,9 +33,10 @@ use Rattle.payload.specs.Judge.{feedJudged, finishJudged, finalJudged}
 use Rattle.payload.specs.Session.{openedBy, fedAs, fedBy, turnedAway, pictured, finishedIf, finishedIn, finishedLive, finishedAs, finishedBy}
 use Rattle.payload.specs.History.{parametersMeant, limitsMeant, answerMeant, Stands, Opens, isReady, isRefused, Finishes, pictures, declines}
 use Rattle.payload.proofs.Openings.{open-stands}
-use Rattle.payload.proofs.Judgements.{judgedMeant, feed-judged, stands-shows}
+use Rattle.payload.proofs.Judgements.{judgedMeant, misfit, feed-judged, finish-judged, stands-shows}
 use Rattle.payload.proofs.Feedings.{feed-stands}
 use Rattle.payload.proofs.Finishings.{finish-stands}
+use Rattle.promises.proofs.Choices.{tells-itself, tells-fails}
 use Rattle.promises.proofs.Meanings.{refusal-known}
 use Rattle.promises.proofs.RefusedCalls as any
 use Rattle.promises.proofs.RefusedRuns.{RunRefused}
@@ -113,6 +114,27 @@ finishes-exactly (declines n) x = (λ e. let same : n ≡ x = cc in ap (λ (y : 
 pub payload-finish-exactly : {opening : List ℕ} {s : Session} {l : List ℕ} {m : calls.Session Reading} → Stands opening s l m → (owner : Palette) (x : Refusal)
     → (finishedBy s owner l .0 .answer ≡ finishes.Refused x) ↔ (calls.finishPayload m (length l) ≡ meant.turnedDown (numberOf x))
 payload-finish-exactly k owner = finishes-exactly (finish-stands k owner)
+
+module _ {opening : List ℕ} {s : Session} {l : List ℕ} {m : calls.Session Reading} (k : Stands opening s l m) (owner : Palette) (lent : List ℕ) where
+  -- refused before the pending command, whichever canvas is lent
+  ended-before : (x : Refusal)
+      → calls.firstOf (record { holds = m .failed; number = 9 } ∷ record { holds = calls.misfits payloadArea m (length lent); number = 12 } ∷ []) ≡ some (numberOf x)
+      → finishedBy s owner lent ≡ (record { answer = finishes.Refused x; palette = owner }, lent)
+  unfolding finishedBy finishedAs turnedAway misfit
+  ended-before x e =
+      ap (λ (j : Judged). finishedAs j s owner lent) (judged-known (finishJudged s (length lent)) x (finish-judged k (length lent) ∙ e))
+
+  -- A finish of a failed session is 9, whichever canvas is lent.
+  pub payload-finish-nine-keeps : m .failed ≡ true → finishedBy s owner lent ≡ (record { answer = finishes.Refused Failed; palette = owner }, lent)
+  unfolding numberOf calls.firstOf
+  payload-finish-nine-keeps h = ended-before Failed (rw h refl)
+
+  -- One of another is 12 on a canvas that does not fit.
+  pub payload-finish-twelve-keeps : ¬ (m .failed ≡ true) → any.Misfits payloadArea m (length lent)
+      → finishedBy s owner lent ≡ (record { answer = finishes.Refused Canvas; palette = owner }, lent)
+  unfolding numberOf calls.firstOf calls.misfits
+  payload-finish-twelve-keeps live misfits =
+      ended-before Canvas (rw (tells-fails tells-itself .1 live, any.tells-misfits payloadArea m (length lent) .1 misfits) refl)
 
 -- a refused finish is this
 abbrev pub Untouched : Palette → List ℕ → Finished × List ℕ → Type 0
