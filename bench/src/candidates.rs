@@ -25,7 +25,7 @@ pub fn rust(payload: &[u8], chunk: usize) -> (Vec<u8>, usize, usize) {
     let mut frame = decoder.begin_frame(DcsSettings::new(None, None, None)).expect("a frame begins");
     let piece = if chunk == 0 { payload.len() } else { chunk };
     for bytes in payload.chunks(piece) {
-        frame.feed(bytes).expect("the Rust reads this payload");
+        let _ = frame.feed(bytes).expect("the Rust reads this payload");
     }
     let image = frame.finish().expect("the Rust finishes this payload");
     (image.pixels, image.width, image.height)

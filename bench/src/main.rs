@@ -61,7 +61,9 @@ fn main() {
         let (mut theirs, mut mine, mut others) = (f64::INFINITY, f64::INFINITY, f64::INFINITY);
         for _ in 0..rounds {
             best(&mut theirs, timed(|| drop(std::hint::black_box(rust(&input.payload, input.chunk)))));
-            best(&mut mine, timed(|| drop(std::hint::black_box(ours(&mut canvas, &input.payload, input.chunk)))));
+            best(&mut mine, timed(|| {
+                let _ = std::hint::black_box(ours(&mut canvas, &input.payload, input.chunk));
+            }));
             if let Some(decode) = other {
                 best(&mut others, timed(|| libsixel::decode(decode, &input.payload)));
             }
