@@ -122,7 +122,7 @@ unfolding reportMeant reportAt
 report-back p r =
     ap
     (λ (x : Ratio).
-        record { width = r .width; height = r .height; right = r .right; bottom = r .bottom; ratio = x; transparent = r .transparent })
+    record { width = r .width; height = r .height; right = r .right; bottom = r .bottom; ratio = x; transparent = r .transparent })
     (ratio-back (r .ratio))
 
 finishingAt : meant.Finished → Finishing

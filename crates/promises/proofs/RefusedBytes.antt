@@ -59,14 +59,14 @@ module _ (s : Setting) (r : Reading) (b : ℕ) where
   )
   made-refused (some m) d on t n other = (
     λ e.
-    let left : leftWith r d ≡ t = cc in
-    let number : m ≡ n = cc in
-    let drawing : d ≡ t .drawing = ap (λ (x : Reading). x .drawing) left in
-    (sym left ∙ ap (leftWith r) drawing, ap₂ (λ (x : Drawing) (k : ℕ). record { drawing = x; refusal = some k }) drawing number),
+        let left : leftWith r d ≡ t = cc in
+        let number : m ≡ n = cc in
+        let drawing : d ≡ t .drawing = ap (λ (x : Reading). x .drawing) left in
+        (sym left ∙ ap (leftWith r) drawing, ap₂ (λ (x : Drawing) (k : ℕ). record { drawing = x; refusal = some k }) drawing number),
     λ h.
-    let number : some m ≡ some n = ap (λ (x : Outcome). x .refusal) (h .1) in
-    let drawing : d ≡ t .drawing = ap (λ (x : Outcome). x .drawing) (h .1) in
-    ap₂ refuse (ap (leftWith r) drawing ∙ sym (h .0)) (cc),
+        let number : some m ≡ some n = ap (λ (x : Outcome). x .refusal) (h .1) in
+        let drawing : d ≡ t .drawing = ap (λ (x : Outcome). x .drawing) (h .1) in
+        ap₂ refuse (ap (leftWith r) drawing ∙ sym (h .0)) (cc),
   )
 
   read-refused : (t : Reading) (n : ℕ) → (readByte s r b ≡ refuse t n) ↔ Leaves (drawAll s (commandsAt r b) (r .drawing)) t n
@@ -151,10 +151,10 @@ module _ (s : Setting) (p : Palette) (b : ℕ) (u : Phase) (n : ℕ) where
   header-step bs = go (skipped b) (ofValues b) (eqb b 0x71) (ends b)
     where
       go : (t v w x : Bool) → elim (cond t (goesOn bs) (cond v (goesOn (bs ++ (b ∷ []))) (cond w (settles (parametersOf bs)) (cond x (wrong 2) (wrong 3))))) as (λ _. Step Phase) [
-            | goesOn more ↦ next (header more) 0
-            | settles o ↦ next (within (opened o p)) 0
-            | wrong m ↦ refuse (header bs) m
-          ]
+        | goesOn more ↦ next (header more) 0
+        | settles o ↦ next (within (opened o p)) 0
+        | wrong m ↦ refuse (header bs) m
+      ]
           ≡ cond t (next (header bs) 0)
           (cond v (next (header (bs ++ (b ∷ []))) 0)
           (cond w (next (within (opened (parametersOf bs) p)) 0) (cond x (refuse (header bs) 2) (refuse (header bs) 3))))

@@ -133,7 +133,7 @@ module _ (l : Limits) (stride : ℕ) (p : Palette) (opening : List ℕ) where
         let d = dcs-feed-exactly x .0 e in (
           dcs-bytes p m (length c) a bs (numberOf x) low .0 d .1 .1 .1,
           stands-shows l stride p opening (feed-stands l stride p opening k bs a .session)
-          ∙ ap (λ (t : calls.Session Phase). calls.dcsShown t opening) (dcs-fails p m (length c) a bs (numberOf x) low d),
+              ∙ ap (λ (t : calls.Session Phase). calls.dcsShown t opening) (dcs-fails p m (length c) a bs (numberOf x) low d),
         )
 
   -- ---- finish

@@ -44,8 +44,8 @@ module _ (s : Setting) (d : Drawing) (n : ℕ) (P : Command → Drawing → Type
   unfolding closed drawAll andThen
   pending-refused none = (
     λ h.
-    let e : none ≡ some n = ap (λ (x : Outcome). x .refusal) (commands-exactly s [] d (h .0) n .1 (h .1)) in
-    let never : _≡_ {A = ℕ} 0 1 = cc in omega arith,
+        let e : none ≡ some n = ap (λ (x : Outcome). x .refusal) (commands-exactly s [] d (h .0) n .1 (h .1)) in
+        let never : _≡_ {A = ℕ} 0 1 = cc in omega arith,
     λ h. absurd h,
   )
   pending-refused (some c) = (

@@ -44,30 +44,30 @@ module _ (s : Setting) (r : Reading) (b : ℕ) (n : ℕ) (P : Command → Drawin
   unfolding leftWith
   strikes-exactly = (
     λ h.
-    let e : ByteRefused s r b (h .0) n = byte-exactly s r b (h .0) n .0 (h .1) in
-    let c : RefusedAt s (commandsAt r b) (r .drawing) (h .0 .drawing) n = e .command in
-    record {
-      ongoing = e .ongoing;
-      done = c .before;
-      command = c .command;
-      rest = c .later;
-      commands = c .split;
-      drawing = h .0 .drawing;
-      made = c .made;
-      holds = k (c .command .command) (h .0 .drawing) .0 (c .refuses);
-    },
+        let e : ByteRefused s r b (h .0) n = byte-exactly s r b (h .0) n .0 (h .1) in
+        let c : RefusedAt s (commandsAt r b) (r .drawing) (h .0 .drawing) n = e .command in
+        record {
+          ongoing = e .ongoing;
+          done = c .before;
+          command = c .command;
+          rest = c .later;
+          commands = c .split;
+          drawing = h .0 .drawing;
+          made = c .made;
+          holds = k (c .command .command) (h .0 .drawing) .0 (c .refuses);
+        },
     λ h.
-    let c : RefusedAt s (commandsAt r b) (r .drawing) (h .drawing) n =
-    record {
-      before = h .done;
-      command = h .command;
-      later = h .rest;
-      split = h .commands;
-      made = h .made;
-      refuses = k (h .command .command) (h .drawing) .1 (h .holds);
-    } in
-    let t : Reading = leftWith r (h .drawing) in
-    (t, byte-exactly s r b t n .1 (record { ongoing = h .ongoing; leaves = refl; command = c })),
+        let c : RefusedAt s (commandsAt r b) (r .drawing) (h .drawing) n =
+        record {
+          before = h .done;
+          command = h .command;
+          later = h .rest;
+          split = h .commands;
+          made = h .made;
+          refuses = k (h .command .command) (h .drawing) .1 (h .holds);
+        } in
+        let t : Reading = leftWith r (h .drawing) in
+        (t, byte-exactly s r b t n .1 (record { ongoing = h .ongoing; leaves = refl; command = c })),
   )
 
 module _ {opening : List ℕ} {s : Session} {l : List ℕ} {m : calls.Session Reading} (k : Stands opening s l m) (bs : List ℕ) (a : ℕ) where

@@ -37,16 +37,16 @@ strikes-exactly : (s : Setting) (cs : List Placed) (d : Drawing) (n : ℕ) (P : 
     → ((c : Command) (e : Drawing) → (drawCommand s c e ≡ refused n) ↔ P c e) → ((f : Drawing) × RefusedAt s cs d f n) ↔ Strikes s cs d P
 strikes-exactly s cs d n P k = (
   λ h.
-  let r : RefusedAt s cs d (h .0) n = h .1 in
-  record {
-    before = r .before;
-    command = r .command;
-    later = r .later;
-    split = r .split;
-    drawing = h .0;
-    made = r .made;
-    holds = k (r .command .command) (h .0) .0 (r .refuses);
-  },
+      let r : RefusedAt s cs d (h .0) n = h .1 in
+      record {
+        before = r .before;
+        command = r .command;
+        later = r .later;
+        split = r .split;
+        drawing = h .0;
+        made = r .made;
+        holds = k (r .command .command) (h .0) .0 (r .refuses);
+      },
   λ h. (
     h .drawing,
     record {

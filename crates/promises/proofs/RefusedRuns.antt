@@ -82,8 +82,8 @@ module _ {S : Type 0} (step : S → ℕ → Step S) (rest : S → S) where
   run-exactly a s xs t n = (
     λ h. subst (λ (u : S). RunRefused step a s xs u n) (h .1) (refused-at (called step rest a s xs) (h .0)),
     λ h.
-    subst (λ (ys : List ℕ). (call step rest a s ys .how ≡ refusedBy n) × (call step rest a s ys .state ≡ t)) (sym (h .split))
-    (refused-from (h .before) (h .byte) (h .later) a s (h .reads) (h .fits) (h .refuses)),
+        subst (λ (ys : List ℕ). (call step rest a s ys .how ≡ refusedBy n) × (call step rest a s ys .state ≡ t)) (sym (h .split))
+        (refused-from (h .before) (h .byte) (h .later) a s (h .reads) (h .fits) (h .refuses)),
   )
 
 -- the bytes of a call come to one where this holds: those before it are read, with an ink that the allowance has
@@ -102,8 +102,8 @@ pub meets-exactly : {S : Type 0} (step : S → ℕ → Step S) (rest : S → S) 
 meets-exactly {S} step rest a s xs n P k = (
   λ h. record { before = h .before; byte = h .byte; later = h .later; split = h .split; reads = h .reads; fits = h .fits; holds = k _ (h .byte) .0 (_, h .refuses) },
   λ h.
-  let u = k _ (h .byte) .1 (h .holds) in
-  let r : RunRefused step a s xs (u .0) n =
-  record { before = h .before; byte = h .byte; later = h .later; split = h .split; reads = h .reads; fits = h .fits; refuses = u .1 } in
-  run-exactly step rest a s xs (call step rest a s xs .state) n .0 (run-exactly step rest a s xs (u .0) n .1 r .0, refl),
+      let u = k _ (h .byte) .1 (h .holds) in
+      let r : RunRefused step a s xs (u .0) n =
+      record { before = h .before; byte = h .byte; later = h .later; split = h .split; reads = h .reads; fits = h .fits; refuses = u .1 } in
+      run-exactly step rest a s xs (call step rest a s xs .state) n .0 (run-exactly step rest a s xs (u .0) n .1 r .0, refl),
 )

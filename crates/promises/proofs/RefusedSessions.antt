@@ -141,4 +141,3 @@ module _ (p : Palette) (m : Session Phase) (length a : ℕ) (bs : List ℕ) wher
   pub dcs-fails : (n : ℕ) → n ≤ 7 → feedDcs p m length a bs .answer ≡ refused n → feedDcs p m length a bs .session ≡ sessionAfter m (dcsRan .state) true
   unfolding feedDcs
   dcs-fails = any.refused-fails dcsArea (λ c. dcsStep c p) dcsRested dcsEnd (dcs-numbers p) m length a bs
-

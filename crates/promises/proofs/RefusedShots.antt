@@ -166,7 +166,7 @@ module _ (l : Limits) (stride : ℕ) (p : Palette) (canvas bs : List ℕ) where
           f,
           k,
           ap (λ (x : Read). x .canvas) (part-read l stride p canvas bs (tells-opens l stride (length canvas) .1 h) q .1)
-          ∙ ap (λ (x : Outcome). shown stride (some (x .drawing)) canvas) (payload-exactly setting o p part f n .1 k),
+              ∙ ap (λ (x : Outcome). shown stride (some (x .drawing)) canvas) (payload-exactly setting o p part f n .1 k),
         ),
       )
 
