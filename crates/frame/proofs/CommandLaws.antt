@@ -18,6 +18,7 @@ use Rattle.numbers.proofs.Reading.{value-small}
 use Rattle.colours.specs.declared.Palette.{Palette}
 use Rattle.colours.specs.Palette.{registerOf, setRgb, setHls}
 use Rattle.colours.proofs.Laws.{passed, passed-pos}
+use Rattle.canvas.proofs.Covers.{by-test}
 use Rattle.frame.specs.declared.Command.{Command}
 use Rattle.frame.specs.declared.Frame.{Frame}
 use Rattle.frame.specs.declared.Ground.{Ground}
@@ -26,11 +27,15 @@ use Rattle.frame.specs.declared.Kind.the-variants as kinds
 use Rattle.frame.specs.declared.Raster.{Raster}
 use Rattle.frame.specs.declared.Refusal.{Refusal}
 use Rattle.frame.specs.declared.Refusal.the-variants as refusals
+use Rattle.frame.specs.declared.Sheet.{Sheet}
 use Rattle.frame.specs.declared.Stepped.{Stepped}
+use Rattle.frame.specs.declared.rasters.Measured.{Measured}
+use Rattle.frame.specs.declared.rasters.Measured.the-variants as measures
+use Rattle.frame.specs.declared.commands.Selected.{Selected}
 use Rattle.frame.specs.declared.sizes.Needed.{Needed}
 use Rattle.frame.specs.declared.sizes.Needed.the-variants.{Area, Refused}
 use Rattle.frame.specs.Sizes.{rasterArea}
-use Rattle.frame.specs.Commands.{withCommand, begun, valuesLonger, numberLonger, byDigitIn, byDigit, bySemicolon, settledAs, refusedAs, withRepeat, repeatEnded, redefinedBy, registerIn, withColor, paletteAfter, colorEndedBy, finishedOf, quotientOf, ratioBy, keptSize, rasterBy, withArea, rasterGrown, rasterEndedBy, Ended, endedIn, ended}
+use Rattle.frame.specs.Commands.{withCommand, begun, valuesLonger, numberLonger, byDigitIn, byDigit, bySemicolon, settledAs, refusedAs, withRepeat, repeatEnded, redefinedBy, registerIn, withColor, paletteAfter, selectedIn, colorEndedBy, finishedOf, quotientOf, ratioBy, keptSize, rasterBy, withArea, rasterGrown, measuredIn, measuredBy, rasterEndedIn, rasterEndedBy, Ended, endedIn, ended}
 use Rattle.frame.proofs.Kind as KindType
 
 -- ---- a command begins and goes on
@@ -137,16 +142,14 @@ pub register-last : {n : ℕ} (v : Parameters) → n ≡ numbers.valueAt v 0 →
 unfolding registerIn
 register-last v e h = omega arith
 
-module _ (f : Frame) {v : Parameters} {n : ℕ} (finish : v ≡ numbers.finished (f .command .parameters)) (register : n ≡ registerIn v) where
-  pub color-palette : {q : Palette} (p : Palette) → q ≡ redefinedBy p n v → q ≡ paletteAfter p (finishedOf f)
-  unfolding paletteAfter finishedOf
-  color-palette p e = e ∙ rw (register, finish) refl
+module _ (begun : Parameters) {v : Parameters} {n : ℕ} (finish : v ≡ numbers.finished begun) (register : n ≡ registerIn v) where
+  pub selected-palette : {q : Palette} (p : Palette) → q ≡ redefinedBy p n v → q ≡ paletteAfter p (numbers.finished begun)
+  unfolding paletteAfter
+  selected-palette p e = e ∙ rw (register, finish) refl
 
-  pub color-settled : {r : Stepped} {px : List ℕ} (q : Palette) → px ≡ registerOf q n
-      → r ≡ settledAs (record { column = f .pen .column; row = f .pen .row; repeat = f .pen .repeat; register = n; color = px }) (f .sheet) (f .raster) (f .command)
-      → r ≡ colorEndedBy f q (finishedOf f)
-  unfolding colorEndedBy withColor finishedOf
-  color-settled q c e = e ∙ rw (c, register, finish) refl
+  pub selected-as : {px : List ℕ} (q : Palette) → px ≡ registerOf q n → _≡_ {A = Selected} (record { register = n; color = px }) (selectedIn q (numbers.finished begun))
+  unfolding selectedIn
+  selected-as q e = rw (e, register, finish) refl
 
 -- ---- a raster ends
 
@@ -204,32 +207,52 @@ pub raster-as : {x w h a b : ℕ} (r : Raster) (v : Parameters) → x ≡ ratioB
 unfolding rasterBy
 raster-as r v ex ea ew eb eh = rw (ex, ew, ea, eh, eb) refl
 
-module _ (f : Frame) (g : Ground) {v : Parameters} {r : Raster} {t : Bool} (finish : v ≡ numbers.finished (f .command .parameters)) (after : r ≡ rasterBy (f .raster) v) (test : t ≡ (eqb (r .width) 0 && eqb (r .height) 0)) where
-  same-raster : r ≡ rasterBy (f .raster) (finishedOf f)
-  unfolding finishedOf
-  same-raster = after ∙ ap (rasterBy (f .raster)) finish
+module _ (begun : Parameters) (old : Raster) (a : Sheet) (g : Ground) {v : Parameters} {r : Raster} {t : Bool} (finish : v ≡ numbers.finished begun) (after : r ≡ rasterBy old v) (test : t ≡ (eqb (r .width) 0 && eqb (r .height) 0)) where
+  same-raster : measuredBy r a g ≡ measuredBy (rasterBy old (numbers.finished begun)) a g
+  same-raster = ap (λ (x : Raster). measuredBy x a g) (after ∙ ap (rasterBy old) finish)
 
-  pub raster-settled : {s : Stepped} → t ≡ true → s ≡ settledAs (f .pen) (f .sheet) r (f .command) → s ≡ rasterEndedBy f g (rasterBy (f .raster) (finishedOf f))
-  unfolding rasterEndedBy
-  raster-settled h k = k ∙ sym (cond-yes _ _ (sym test ∙ h)) ∙ ap (rasterEndedBy f g) same-raster
+  pub measured-none : t ≡ true → measures.Sizeless r ≡ measuredBy (rasterBy old (numbers.finished begun)) a g
+  unfolding measuredBy
+  measured-none h = sym (cond-yes _ _ (sym test ∙ h)) ∙ same-raster
 
-  module _ {a b : ℕ} {n : Needed} (no : t ≡ false) (wide : a ≡ max 1 (r .width)) (high : b ≡ max 1 (r .height)) (needed : n ≡ rasterArea (f .sheet) g a b) where
-    raster-grown : rasterGrown f r n ≡ rasterEndedBy f g (rasterBy (f .raster) (finishedOf f))
-    unfolding rasterEndedBy
-    raster-grown =
-        ap (rasterGrown f r) (needed ∙ ap₂ (rasterArea (f .sheet) g) wide high)
-        ∙ sym (cond-no _ _ (sym test ∙ no))
-        ∙ ap (rasterEndedBy f g) same-raster
+  module _ {x y : ℕ} {n : Needed} (no : t ≡ false) (wide : x ≡ max 1 (r .width)) (high : y ≡ max 1 (r .height)) (needed : n ≡ rasterArea a g x y) where
+    measured-in : measuredIn r n ≡ measuredBy (rasterBy old (numbers.finished begun)) a g
+    unfolding measuredBy
+    measured-in = ap (measuredIn r) (needed ∙ ap₂ (rasterArea a g) wide high) ∙ sym (cond-no _ _ (sym test ∙ no)) ∙ same-raster
 
-    pub raster-area : {s : Stepped} {w h : ℕ} → n ≡ Area w h
-        → s ≡ settledAs (f .pen) (record { width = w; height = h; right = f .sheet .right; bottom = f .sheet .bottom }) r (f .command)
-        → s ≡ rasterEndedBy f g (rasterBy (f .raster) (finishedOf f))
-    unfolding rasterGrown withArea
-    raster-area e k = k ∙ ap (rasterGrown f r) (sym e) ∙ raster-grown
+    pub measured-area : {w h : ℕ} → n ≡ Area w h → measures.Area r w h ≡ measuredBy (rasterBy old (numbers.finished begun)) a g
+    unfolding measuredIn
+    measured-area e = ap (measuredIn r) (sym e) ∙ measured-in
 
-    pub raster-refused : {s : Stepped} {x : Refusal} → n ≡ Refused x → s ≡ refusedAs f x → s ≡ rasterEndedBy f g (rasterBy (f .raster) (finishedOf f))
-    unfolding rasterGrown
-    raster-refused e k = k ∙ ap (rasterGrown f r) (sym e) ∙ raster-grown
+    pub measured-refused : {u : Refusal} → n ≡ Refused u → measures.Refused u ≡ measuredBy (rasterBy old (numbers.finished begun)) a g
+    unfolding measuredIn
+    measured-refused e = ap (measuredIn r) (sym e) ∙ measured-in
+
+module _ (f : Frame) {m : Measured} {s : Stepped} where
+  pub raster-none : {r : Raster} → m ≡ measures.Sizeless r → s ≡ settledAs (f .pen) (f .sheet) r (f .command) → s ≡ rasterEndedIn m f
+  unfolding rasterEndedIn
+  raster-none e k = k ∙ ap (λ (x : Measured). rasterEndedIn x f) (sym e)
+
+  pub raster-area : {r : Raster} {w h : ℕ} → m ≡ measures.Area r w h
+      → s ≡ settledAs (f .pen) (record { width = w; height = h; right = f .sheet .right; bottom = f .sheet .bottom }) r (f .command) → s ≡ rasterEndedIn m f
+  unfolding rasterEndedIn withArea
+  raster-area e k = k ∙ ap (λ (x : Measured). rasterEndedIn x f) (sym e)
+
+  pub raster-refused : {u : Refusal} → m ≡ measures.Refused u → s ≡ refusedAs f u → s ≡ rasterEndedIn m f
+  unfolding rasterEndedIn
+  raster-refused e k = k ∙ ap (λ (x : Measured). rasterEndedIn x f) (sym e)
+
+raster-in : (f : Frame) (r : Raster) (n : Needed) → rasterEndedIn (measuredIn r n) f ≡ rasterGrown f r n
+unfolding rasterEndedIn measuredIn rasterGrown
+raster-in f r (Area w h) = refl
+raster-in f r (Refused u) = refl
+
+raster-by : (f : Frame) (g : Ground) (r : Raster) → rasterEndedIn (measuredBy r (f .sheet) g) f ≡ rasterEndedBy f g r
+unfolding measuredBy rasterEndedBy rasterEndedIn
+raster-by f g r =
+    by-test (eqb (r .width) 0 && eqb (r .height) 0)
+    (λ t. rw t)
+    (λ t. rw t (raster-in f r (rasterArea (f .sheet) g (max 1 (r .width)) (max 1 (r .height)))))
 
 -- ---- whichever is pending
 
@@ -243,24 +266,29 @@ module _ (f : Frame) (g : Ground) (p : Palette) {s : Stepped} where
   unfolding ended endedIn
   ended-repeat k e = ap (λ (x : Stepped). record { stepped = x; palette = p }) e ∙ sym (ap (λ (j : Kind). endedIn j f g p) k)
 
-  pub ended-color : {q : Palette} → f .command .kind ≡ kinds.Color → (q ≡ paletteAfter p (finishedOf f)) × (s ≡ colorEndedBy f q (finishedOf f))
+  pub ended-color : {q : Palette} {x : Selected} → f .command .kind ≡ kinds.Color
+      → (q ≡ paletteAfter p (numbers.finished (f .command .parameters))) × (x ≡ selectedIn q (numbers.finished (f .command .parameters)))
+      → s ≡ settledAs (withColor (f .pen) (x .register) (x .color)) (f .sheet) (f .raster) (f .command)
       → _≡_ {A = Ended} (record { stepped = s; palette = q }) (ended f g p)
-  unfolding ended endedIn
-  ended-color k e =
-      ap₂ (λ (x : Stepped) (y : Palette). record { stepped = x; palette = y }) (e .1 ∙ ap (λ (y : Palette). colorEndedBy f y (finishedOf f)) (e .0)) (e .0)
+  unfolding ended endedIn colorEndedBy selectedIn finishedOf
+  ended-color {q} k e h =
+      let same : s ≡ colorEndedBy f q (finishedOf f) = h ∙ ap (λ (y : Selected). settledAs (withColor (f .pen) (y .register) (y .color)) (f .sheet) (f .raster) (f .command)) (e .1) in
+      ap₂ (λ (y : Stepped) (z : Palette). record { stepped = y; palette = z }) (same ∙ ap (λ (z : Palette). colorEndedBy f z (finishedOf f)) (e .0)) (e .0)
       ∙ sym (ap (λ (j : Kind). endedIn j f g p) k)
 
-  pub ended-raster : f .command .kind ≡ kinds.Raster → s ≡ rasterEndedBy f g (rasterBy (f .raster) (finishedOf f))
+  pub ended-raster : {m : Measured} → f .command .kind ≡ kinds.Raster → m ≡ measuredBy (rasterBy (f .raster) (numbers.finished (f .command .parameters))) (f .sheet) g → s ≡ rasterEndedIn m f
       → _≡_ {A = Ended} (record { stepped = s; palette = p }) (ended f g p)
-  unfolding ended endedIn
-  ended-raster k e = ap (λ (x : Stepped). record { stepped = x; palette = p }) e ∙ sym (ap (λ (j : Kind). endedIn j f g p) k)
+  unfolding ended endedIn finishedOf
+  ended-raster k e h =
+      ap (λ (x : Stepped). record { stepped = x; palette = p }) (h ∙ ap (λ (x : Measured). rasterEndedIn x f) e ∙ raster-by f g (rasterBy (f .raster) (finishedOf f)))
+      ∙ sym (ap (λ (j : Kind). endedIn j f g p) k)
 
 pub ruleset begins = (begun-as, digit-number, digit-value, semicolon-as)
 
 pub ruleset colored =
-    (value-signed, redefined-few, redefined-none, redefined-hls, redefined-rgb, register-first, register-last, color-palette, color-settled)
+    (value-signed, redefined-few, redefined-none, redefined-hls, redefined-rgb, register-first, register-last, selected-palette, selected-as)
 
 pub ruleset rastered =
-    (quotient-one, quotient-two, quotient-three, quotient-five, quotient-none, ratio-old, ratio-new, kept-old, kept-new, sizeless-yes, sizeless-no, raster-as, raster-settled, raster-area, raster-refused)
+    (quotient-one, quotient-two, quotient-three, quotient-five, quotient-none, ratio-old, ratio-new, kept-old, kept-new, sizeless-yes, sizeless-no, raster-as, measured-none, measured-area, measured-refused, raster-none, raster-area, raster-refused)
 
 pub ruleset endings = (repeat-refused, repeat-settled, ended-data, ended-repeat, ended-color, ended-raster)

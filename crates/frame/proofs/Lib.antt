@@ -3,3 +3,5 @@ pub mod SizeLaws
 pub mod CommandLaws
 pub mod StepLaws
 pub mod FeedLaws
+pub mod RunSteps
+pub mod RunLaws

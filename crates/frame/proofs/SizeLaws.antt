@@ -1,13 +1,13 @@
 -- Laws of sizes: one for each way through a function of `sizes`, and what an area that is needed has.
 use Prim.Native.Nat.{ℕ, _+_, _-_, _*_, _/_, _≤_, _<_, max}
-use mathlib.Core.Bool.{Bool, true, false, _&&_}
+use mathlib.Core.Bool.{Bool, true, false, _&&_, true≢false}
 use mathlib.Core.Path.{_≡_, refl, sym, ap, ap₂, _∙_}
-use native.Mathlib.Nat.{div-lt-iff-lt-mul, mul-comm}
+use native.Mathlib.Nat.{div-lt-iff-lt-mul, mul-comm, mul-le-mul, le-trans}
 use native.Mathlib.Omega.{arith}
 use borrow.Author.Tests.{lt-ltb, le-ltb, le-leb, lt-leb, ltb-true, ltb-false, leb-true}
 use lib.Dec.{leb, ltb}
 use Rattle.numbers.proofs.Laws.{cond-yes, cond-no}
-use Rattle.canvas.proofs.Covers.{and-left, and-right, same-test, by-test}
+use Rattle.canvas.proofs.Covers.{and-left, and-right, and-both, same-test, by-test}
 use Rattle.frame.specs.declared.Ground.{Ground}
 use Rattle.frame.specs.declared.Pen.{Pen}
 use Rattle.frame.specs.declared.Sheet.{Sheet}
@@ -124,7 +124,7 @@ refused-area : {r : Refusal} {w h : ℕ} → Refused r ≡ Area w h → ⊥
 refused-area e = let z : _≡_ {A = ℕ} 0 1 = cc in omega arith
 
 room-area : (g : Ground) (wide high w h : ℕ) → roomFor g wide high ≡ Area w h
-    → (wide ≡ w) × (high ≡ h) × (wide ≤ g .stride) × (high ≤ g .rows)
+    → (wide ≡ w) × (high ≡ h) × (wide ≤ g .stride) × (high ≤ g .rows) × (wide * high ≤ g .limits .pixels)
 unfolding roomFor
 room-area g wide high w h e =
     by-test (ltb (g .limits .pixels) (wide * high))
@@ -134,7 +134,7 @@ room-area g wide high w h e =
     (λ u. by-test (ltb (g .rows) high)
     (λ v. absurd (refused-area (sym (cond-no _ _ t ∙ cond-no _ _ u ∙ cond-yes _ _ v) ∙ e)))
     (λ v. let k : Area wide high ≡ Area w h = sym (cond-no _ _ t ∙ cond-no _ _ u ∙ cond-no _ _ v) ∙ e in
-    ((cc), (cc), ltb-false _ _ u, ltb-false _ _ v))))
+    ((cc), (cc), ltb-false _ _ u, ltb-false _ _ v, ltb-false _ _ t))))
 
 pub grown-roomy : (a : Sheet) (g : Ground) (x y w h : ℕ) → grownArea a g x y ≡ Area w h → Roomy a g w h × (x ≤ w) × (y ≤ h)
 unfolding grownArea
@@ -169,3 +169,45 @@ sixel-roomy p a g w h aw ah e =
     (λ t. by-test (ends p (g .limits .width) (g .limits .height))
     (λ u. grown-roomy a g (p .column + p .repeat) (p .row + 6) w h (sym (cond-no _ _ t ∙ cond-yes _ _ u) ∙ e))
     (λ u. absurd (refused-area (sym (cond-no _ _ t ∙ cond-no _ _ u) ∙ e))))
+
+-- ---- a part of a sixel's columns
+
+-- the area that is needed reaches just so far
+pub sixel-reach : (p : Pen) (a : Sheet) (g : Ground) (w h : ℕ) → sixelArea p a g ≡ Area w h
+    → (w ≡ max (a .width) (p .column + p .repeat)) × (h ≡ max (a .height) (p .row + 6))
+unfolding sixelArea grownArea
+sixel-reach p a g w h e =
+    by-test (ends p (a .width) (a .height))
+    (λ t. let k : Area (a .width) (a .height) ≡ Area w h = sym (cond-yes _ _ t) ∙ e in
+    let x : a .width ≡ w = cc in
+    let y : a .height ≡ h = cc in
+    (omega (arith, ends-columns p (a .width) (a .height) refl t), omega (arith, ends-rows p (a .width) (a .height) refl t)))
+    (λ t. by-test (ends p (g .limits .width) (g .limits .height))
+    (λ u. let k = room-area g (max (a .width) (p .column + p .repeat)) (max (a .height) (p .row + 6)) w h (sym (cond-no _ _ t ∙ cond-yes _ _ u) ∙ e) in
+    (sym (k .0), sym (k .1)))
+    (λ u. absurd (refused-area (sym (cond-no _ _ t ∙ cond-no _ _ u) ∙ e))))
+
+-- where an area is had for a sixel, one is had on the way there for a part of its columns
+pub sixel-part : (p q : Pen) (a b : Sheet) (g : Ground) (w h : ℕ) → sixelArea p a g ≡ Area w h → q .row ≡ p .row → q .column + q .repeat ≤ p .column + p .repeat
+    → a .width ≤ b .width → b .width ≤ w → a .height ≤ b .height → b .height ≤ h
+    → sixelArea q b g ≡ Area (max (b .width) (q .column + q .repeat)) (max (b .height) (q .row + 6))
+unfolding sixelArea grownArea
+sixel-part p q a b g w h e row columns w₁ w₂ h₁ h₂ =
+    by-test (ends q (b .width) (b .height))
+    (λ t. cond-yes _ _ t
+    ∙ ap₂ Area (omega (arith, ends-columns q (b .width) (b .height) refl t)) (omega (arith, ends-rows q (b .width) (b .height) refl t)))
+    (λ t. by-test (ends p (a .width) (a .height))
+    (λ u. let x : q .column + q .repeat ≤ b .width = omega (arith, ends-columns p (a .width) (a .height) refl u) in
+    let y : q .row + 6 ≤ b .height = omega (arith, ends-rows p (a .width) (a .height) refl u) in
+    absurd (true≢false (sym (and-both (le-leb _ _ x) (le-leb _ _ y)) ∙ t)))
+    (λ u. by-test (ends p (g .limits .width) (g .limits .height))
+    (λ v. let k = room-area g (max (a .width) (p .column + p .repeat)) (max (a .height) (p .row + 6)) w h (sym (cond-no _ _ u ∙ cond-yes _ _ v) ∙ e) in
+    let wide : max (b .width) (q .column + q .repeat) ≤ max (a .width) (p .column + p .repeat) = omega (arith, k .0) in
+    let high : max (b .height) (q .row + 6) ≤ max (a .height) (p .row + 6) = omega (arith, k .1) in
+    let x : q .column + q .repeat ≤ g .limits .width = omega (arith, ends-columns p (g .limits .width) (g .limits .height) refl v) in
+    let y : q .row + 6 ≤ g .limits .height = omega (arith, ends-rows p (g .limits .width) (g .limits .height) refl v) in
+    let few : max (b .width) (q .column + q .repeat) * max (b .height) (q .row + 6) ≤ g .limits .pixels = le-trans (mul-le-mul wide high) (k .4) in
+    cond-no _ _ t
+    ∙ cond-yes _ _ (and-both (le-leb _ _ x) (le-leb _ _ y))
+    ∙ sym (room-left g _ _ refl (le-ltb _ _ few) (omega (arith, k .2)) (omega (arith, k .3))))
+    (λ v. absurd (refused-area (sym (cond-no _ _ u ∙ cond-no _ _ v) ∙ e)))))

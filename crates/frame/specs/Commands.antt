@@ -21,6 +21,9 @@ use Rattle.frame.specs.declared.Refusal.{Refusal}
 use Rattle.frame.specs.declared.Refusal.the-variants as refusals
 use Rattle.frame.specs.declared.Sheet.{Sheet}
 use Rattle.frame.specs.declared.Stepped.{Stepped}
+use Rattle.frame.specs.declared.rasters.Measured.{Measured}
+use Rattle.frame.specs.declared.rasters.Measured.the-variants as measures
+use Rattle.frame.specs.declared.commands.Selected.{Selected}
 use Rattle.frame.specs.declared.sizes.Needed.{Needed}
 use Rattle.frame.specs.declared.sizes.Needed.the-variants.{Area, Refused}
 use Rattle.frame.specs.Sizes.{rasterArea}
@@ -100,6 +103,11 @@ unfoldable pub paletteAfter : Palette → Parameters → Palette
 unfolding redefinedBy registerIn
 paletteAfter p v = redefinedBy p (registerIn v) v
 
+-- what a colour command's values select of a palette
+unfoldable pub selectedIn : Palette → Parameters → Selected
+unfolding registerIn
+selectedIn p v = record { register = registerIn v; color = registerOf p (registerIn v) }
+
 unfoldable pub colorEndedBy : Frame → Palette → Parameters → Stepped
 unfolding settledAs withColor registerIn
 colorEndedBy f after v =
@@ -129,6 +137,24 @@ unfoldable pub rasterGrown : Frame → Raster → Needed → Stepped
 unfolding settledAs refusedAs withArea
 rasterGrown f r (Area w h) = settledAs (f .pen) (withArea (f .sheet) w h) r (f .command)
 rasterGrown f r (Refused n) = refusedAs f n
+
+-- what a raster comes to: it has no size, or needs an area, or is refused
+unfoldable pub measuredIn : Raster → Needed → Measured
+measuredIn r (Area w h) = measures.Area r w h
+measuredIn r (Refused n) = measures.Refused n
+
+unfoldable pub measuredBy : Raster → Sheet → Ground → Measured
+unfolding measuredIn
+measuredBy r a g =
+    cond (eqb (r .width) 0 && eqb (r .height) 0) (measures.Sizeless r)
+    (measuredIn r (rasterArea a g (max 1 (r .width)) (max 1 (r .height))))
+
+-- the step that ends it
+unfoldable pub rasterEndedIn : Measured → Frame → Stepped
+unfolding settledAs refusedAs withArea
+rasterEndedIn (measures.Sizeless r) f = settledAs (f .pen) (f .sheet) r (f .command)
+rasterEndedIn (measures.Area r w h) f = settledAs (f .pen) (withArea (f .sheet) w h) r (f .command)
+rasterEndedIn (measures.Refused n) f = refusedAs f n
 
 unfoldable pub rasterEndedBy : Frame → Ground → Raster → Stepped
 unfolding settledAs rasterGrown

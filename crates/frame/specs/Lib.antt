@@ -3,3 +3,4 @@ pub mod Sizes
 pub mod Commands
 pub mod Step
 pub mod Feed
+pub mod Run

@@ -1,21 +1,18 @@
 // Commands with an argument: how one begins, goes on and ends.
 ghost use mathlib.Core.Path.{_≡_};
-ghost use Prim.Native.Nat.{max};
-ghost use mathlib.Core.Bool.{_&&_};
-ghost use lib.Dec.{eqb};
+ghost use Rattle.numbers.specs.Step.{finished};
 ghost use Rattle.colours.specs.Palette.{ofTable};
-ghost use Rattle.frame.specs.Commands.{withCommand, begun, byDigit, bySemicolon, settledAs, refusedAs, repeatEnded, redefinedBy, registerIn, paletteAfter, colorEndedBy, finishedOf, quotientOf, ratioBy, keptSize, rasterEndedBy, rasterBy, Ended, ended};
+ghost use Rattle.frame.specs.Commands.{withCommand, begun, byDigit, bySemicolon, settledAs, refusedAs, repeatEnded, redefinedBy, registerIn, paletteAfter, withColor, selectedIn, rasterEndedIn, Ended, ended};
 use crate::Command;
 use crate::Frame;
 use crate::Ground;
 use crate::Kind;
 use crate::Outcome;
-use crate::Raster;
 use crate::Refusal;
 use crate::Stepped;
-use crate::sizes::Needed;
+use crate::rasters::Measured;
+use crate::rasters::measure;
 use crate::sizes::larger;
-use crate::sizes::raster_area;
 use numbers::Parameters;
 
 // A command begins; `places` is how many values it has.
@@ -136,116 +133,57 @@ fn register_of(parameters: Parameters) -> usize
     255
 }
 
-fn end_color(frame: Frame, colors: &mut [u32; 256]) -> Stepped
-    ensures { λ r. ⌜ (ofTable (now (colors .exit)) ≡ paletteAfter (ofTable (now (colors .entry))) (finishedOf frame)) × (r ≡ colorEndedBy frame (ofTable (now (colors .exit))) (finishedOf frame)) ⌝ }
+// The register that a colour command selects, and its colour then.
+pub struct Selected {
+    pub register: usize,
+    pub color: [u8; 4],
+}
+
+// Redefines and selects the register. Whoever ends a command calls this and `measure` with the few numbers
+// that matter: handed over, the frame would have to lie in memory while bytes are read.
+fn select(begun: Parameters, colors: &mut [u32; 256]) -> Selected
+    ensures { λ r. ⌜ (ofTable (now (colors .exit)) ≡ paletteAfter (ofTable (now (colors .entry))) (finished begun)) × (r ≡ selectedIn (ofTable (now (colors .exit))) (finished begun)) ⌝ }
 {
-    let begun = frame.command.parameters;
     let parameters = begun.finish();
     let register = register_of(parameters);
     redefine(colors, register, parameters);
     let color = colours::rgb_bytes(colors, register);
+    Selected { register, color }
+}
+
+fn colored(frame: Frame, selected: Selected) -> Stepped
+    ensures { λ r. ⌜ r ≡ settledAs (withColor (frame .pen) (selected .register) (selected .color)) (frame .sheet) (frame .raster) (frame .command) ⌝ }
+{
+    let color = selected.color;
     let mut pen = frame.pen;
-    pen.register = register;
+    pen.register = selected.register;
     pen.color = color;
     let mut next = frame;
     next.pen = pen;
     settled(next)
 }
 
-// A quotient of exactly 1, 2, 3 or 5, else 0.
-fn quotient(vertical: u32, horizontal: u32) -> u8
-    ensures { λ r. ⌜ r ≡ quotientOf vertical horizontal ⌝ }
+fn rastered(frame: Frame, measured: Measured) -> Stepped
+    ensures { λ r. ⌜ r ≡ rasterEndedIn measured frame ⌝ }
 {
-    let v = vertical as u64;
-    let h = horizontal as u64;
-    if v == h {
-        return 1;
-    }
-    if v == 2 * h {
-        return 2;
-    }
-    if v == 3 * h {
-        return 3;
-    }
-    if v == 5 * h {
-        return 5;
-    }
-    0
-}
-
-fn at_least_one(value: u32) -> u32
-    ensures { λ r. ⌜ r ≡ max 1 value ⌝ }
-{
-    if value == 0 {
-        return 1;
-    }
-    value
-}
-
-fn ratio_after(old: u8, parameters: Parameters) -> u8
-    ensures { λ r. ⌜ r ≡ ratioBy old parameters ⌝ }
-{
-    if parameters.count() < 2 {
-        return old;
-    }
-    quotient(
-        at_least_one(parameters.value(0)),
-        at_least_one(parameters.value(1)),
-    )
-}
-
-// A size above 0 is kept.
-fn kept(old: usize, value: u32) -> usize
-    ensures { λ r. ⌜ r ≡ keptSize old value ⌝ }
-{
-    if value == 0 {
-        return old;
-    }
-    value as usize
-}
-
-fn raster_after(old: Raster, parameters: Parameters) -> Raster
-    ensures { λ r. ⌜ r ≡ rasterBy old parameters ⌝ }
-{
-    Raster {
-        ratio: ratio_after(old.ratio, parameters),
-        width: kept(old.width, parameters.value(2)),
-        height: kept(old.height, parameters.value(3)),
-    }
-}
-
-// No size is kept.
-fn sizeless(raster: Raster) -> bool
-    ensures { λ r. ⌜ r ≡ (eqb (raster .width) 0 && eqb (raster .height) 0) ⌝ }
-{
-    if raster.width == 0 {
-        return raster.height == 0;
-    }
-    false
-}
-
-fn end_raster(frame: Frame, ground: Ground) -> Stepped
-    ensures { λ r. ⌜ r ≡ rasterEndedBy frame ground (rasterBy (frame .raster) (finishedOf frame)) ⌝ }
-{
-    let begun = frame.command.parameters;
-    let mut next = frame;
-    let raster = raster_after(frame.raster, begun.finish());
-    next.raster = raster;
-    if sizeless(raster) {
-        return settled(next);
-    }
-    match raster_area(
-        frame.sheet,
-        ground,
-        larger(1, raster.width),
-        larger(1, raster.height),
-    ) {
-        Needed::Area { width, height } => {
+    match measured {
+        Measured::Sizeless(raster) => {
+            let mut next = frame;
+            next.raster = raster;
+            settled(next)
+        }
+        Measured::Area {
+            raster,
+            width,
+            height,
+        } => {
+            let mut next = frame;
+            next.raster = raster;
             next.sheet.width = width;
             next.sheet.height = height;
             settled(next)
         }
-        Needed::Refused(refusal) => refused(frame, refusal),
+        Measured::Refused(refusal) => refused(frame, refusal),
     }
 }
 
@@ -258,7 +196,28 @@ pub fn end_command(frame: Frame, ground: Ground, colors: &mut [u32; 256]) -> Ste
     match kind {
         Kind::Data => settled(frame),
         Kind::Repeat => end_repeat(frame, ground),
-        Kind::Color => end_color(frame, colors),
-        Kind::Raster => end_raster(frame, ground),
+        Kind::Color => colored(frame, select(frame.command.parameters, colors)),
+        Kind::Raster => rastered(
+            frame,
+            measure(frame.command.parameters, frame.raster, frame.sheet, ground),
+        ),
+    }
+}
+
+// The same once more, for the loop alone: a function that finishing calls too is not made part of the loop, and the loop
+// then takes three times as long.
+pub fn end_in_loop(frame: Frame, ground: Ground, colors: &mut [u32; 256]) -> Stepped
+    ensures { λ r. ⌜ record { stepped = r; palette = ofTable (now (colors .exit)) } ≡ ended frame ground (ofTable (now (colors .entry))) ⌝ }
+{
+    let command = frame.command;
+    let kind = command.kind;
+    match kind {
+        Kind::Data => settled(frame),
+        Kind::Repeat => end_repeat(frame, ground),
+        Kind::Color => colored(frame, select(frame.command.parameters, colors)),
+        Kind::Raster => rastered(
+            frame,
+            measure(frame.command.parameters, frame.raster, frame.sheet, ground),
+        ),
     }
 }

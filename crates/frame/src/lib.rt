@@ -2,7 +2,9 @@
 // them. Inner: of this crate a caller of the reader has use for its limits, its refusals and their numbers alone.
 pub mod commands;
 pub mod process;
+mod rasters;
 mod renew;
+mod run;
 pub mod sizes;
 pub mod step;
 

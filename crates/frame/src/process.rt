@@ -10,6 +10,8 @@ use crate::Outcome;
 use crate::Progress;
 use crate::Stepped;
 use crate::renew::renewed;
+use crate::run::after_run;
+use crate::run::run;
 use crate::step::step;
 
 // One byte, and the frame made anew after it.
@@ -61,6 +63,13 @@ pub fn process(
     let mut consumed = 0;
     let mut ink = 0;
     while consumed < bytes.len() {
+        let ran = run(now, ground, canvas, bytes, consumed, allowance - ink);
+        now = after_run(now, ran);
+        consumed = consumed + ran.count;
+        ink = ink + ran.ink;
+        if consumed == bytes.len() {
+            return reached(now, consumed, ink, Outcome::Read);
+        }
         let byte = bytes[consumed];
         let stepped = turn(now, ground, colors, canvas, byte, allowance - ink);
         let outcome = stepped.outcome;

@@ -14,7 +14,7 @@ use crate::Kind;
 use crate::Outcome;
 use crate::Stepped;
 use crate::commands::begin;
-use crate::commands::end_command;
+use crate::commands::end_in_loop;
 use crate::commands::extend_by_digit;
 use crate::commands::extend_by_semicolon;
 use crate::sizes::Needed;
@@ -44,7 +44,8 @@ fn inked_bottom(bottom: usize, row: usize, bits: u8) -> usize
 }
 
 // The frame after a sixel, on an area.
-fn after_sixel(frame: Frame, bits: u8, width: usize, height: usize) -> Frame
+// Inner: asks that the sixel ends below what a number can hold.
+pub fn after_sixel(frame: Frame, bits: u8, width: usize, height: usize) -> Frame
     requires { ⌜ (frame .pen .column + frame .pen .repeat < 18446744073709551616) × (frame .pen .row + 6 < 18446744073709551616) ⌝ }
     ensures { λ r. ⌜ r ≡ inked frame bits width height ⌝ }
 {
@@ -212,7 +213,7 @@ fn settle(frame: Frame, ground: Ground, colors: &mut [u32; 256], canvas: &mut [u
     requires { ⌜ Fits frame ground (length (now canvas)) ⌝ }
     ensures { λ r. ⌜ record { stepped = r; palette = ofTable (now (colors .exit)); canvas = now (canvas .exit) } ≡ settledStep frame ground (ofTable (now (colors .entry))) (now (canvas .entry)) ⌝ }
 {
-    let ended = end_command(frame, ground, colors);
+    let ended = end_in_loop(frame, ground, colors);
     let background = ground.background;
     canvas::grow(
         canvas,

@@ -8,7 +8,9 @@ enum-known-answer : tie.Need-enum-known-answer
 enum-known-answer c = search needs
 
 mul-result : tie.Need-mul-result
-mul-result c = omega (arith, width-fits (c .before .before .before .pre) (c .before .answer .given .1))
+mul-result c =
+    let start = c .before .before .before in
+    omega (arith, width-fits (start .pre) (c .before .answer .given .1), height-fits (start .pre) (c .before .answer .given .1))
 
 add-result : tie.Need-add-result
 add-result c =

@@ -18,14 +18,20 @@ end-repeat-requires c κs = search needs
 enum-told-3 : tie.Need-enum-told-3
 enum-told-3 c = search needs
 
-end-color-requires : tie.Need-end-color-requires
-end-color-requires c κs = search needs
+select-requires : tie.Need-select-requires
+select-requires c κs = search needs
+
+colored-requires : tie.Need-colored-requires
+colored-requires c κs = search needs
 
 enum-told-4 : tie.Need-enum-told-4
 enum-told-4 c = search needs
 
-end-raster-requires : tie.Need-end-raster-requires
-end-raster-requires c κs = search needs
+measure-requires : tie.Need-measure-requires
+measure-requires c κs = search needs
+
+rastered-requires : tie.Need-rastered-requires
+rastered-requires c κs = search needs
 
 returns : tie.Need-returns
 returns c = search (needs, endings)
@@ -48,9 +54,11 @@ end-command-spec =
     enum-told-2
     end-repeat-requires
     enum-told-3
-    end-color-requires
+    select-requires
+    colored-requires
     enum-told-4
-    end-raster-requires
+    measure-requires
+    rastered-requires
     returns
     returns-2
     returns-3

@@ -3,13 +3,13 @@ use Rattle.frame.proofs.StepLaws.{arguments, settle-room}
 use Rattle.frame.proofs.step.settle.Statement.{statement}
 use Rattle.frame.proofs.step.settle.Tie as tie
 
-end-command-requires : tie.Need-end-command-requires
-end-command-requires c κs = search needs
+end-in-loop-requires : tie.Need-end-in-loop-requires
+end-in-loop-requires c κs = search needs
 
 grow-requires : tie.Need-grow-requires
 grow-requires c κs =
     let s = c .before .before .before .before .before in
-    settle-room (s .args .frame) (s .args .ground) _ _ (s .pre) (c .before .before .end-command .ensures)
+    settle-room (s .args .frame) (s .args .ground) _ _ (s .pre) (c .before .before .end-in-loop .ensures)
 
 same-length : tie.Need-same-length
 same-length c = search needs
@@ -18,4 +18,4 @@ returns : tie.Need-returns
 returns c = search (needs, arguments)
 
 pub settle-spec : {M : Type 1} → statement M
-settle-spec = tie.close (tie.spec end-command-requires grow-requires same-length returns)
+settle-spec = tie.close (tie.spec end-in-loop-requires grow-requires same-length returns)

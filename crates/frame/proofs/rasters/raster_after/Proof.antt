@@ -1,7 +1,7 @@
 use borrow.Author.Needs.{needs}
 use Rattle.frame.proofs.CommandLaws.{rastered}
-use Rattle.frame.proofs.commands.raster_after.Statement.{statement}
-use Rattle.frame.proofs.commands.raster_after.Tie as tie
+use Rattle.frame.proofs.rasters.raster_after.Statement.{statement}
+use Rattle.frame.proofs.rasters.raster_after.Tie as tie
 
 ratio-after-requires : tie.Need-ratio-after-requires
 ratio-after-requires c κs = search needs

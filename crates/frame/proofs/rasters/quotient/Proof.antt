@@ -1,7 +1,7 @@
 use borrow.Author.Needs.{needs}
 use Rattle.frame.proofs.CommandLaws.{rastered}
-use Rattle.frame.proofs.commands.quotient.Statement.{statement}
-use Rattle.frame.proofs.commands.quotient.Tie as tie
+use Rattle.frame.proofs.rasters.quotient.Statement.{statement}
+use Rattle.frame.proofs.rasters.quotient.Tie as tie
 
 returns : tie.Need-returns
 returns c = search (needs, rastered)

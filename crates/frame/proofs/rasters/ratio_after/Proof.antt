@@ -1,7 +1,7 @@
 use borrow.Author.Needs.{needs}
 use Rattle.frame.proofs.CommandLaws.{rastered}
-use Rattle.frame.proofs.commands.ratio_after.Statement.{statement}
-use Rattle.frame.proofs.commands.ratio_after.Tie as tie
+use Rattle.frame.proofs.rasters.ratio_after.Statement.{statement}
+use Rattle.frame.proofs.rasters.ratio_after.Tie as tie
 
 count-requires : tie.Need-count-requires
 count-requires c κs = search needs

@@ -1,7 +1,7 @@
 use borrow.Author.Needs.{needs}
 use Rattle.frame.proofs.CommandLaws.{rastered}
-use Rattle.frame.proofs.commands.sizeless.Statement.{statement}
-use Rattle.frame.proofs.commands.sizeless.Tie as tie
+use Rattle.frame.proofs.rasters.sizeless.Statement.{statement}
+use Rattle.frame.proofs.rasters.sizeless.Tie as tie
 
 returns : tie.Need-returns
 returns c = search (needs, rastered)

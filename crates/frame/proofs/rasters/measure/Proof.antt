@@ -1,7 +1,7 @@
 use borrow.Author.Needs.{needs}
 use Rattle.frame.proofs.CommandLaws.{rastered}
-use Rattle.frame.proofs.commands.end_raster.Statement.{statement}
-use Rattle.frame.proofs.commands.end_raster.Tie as tie
+use Rattle.frame.proofs.rasters.measure.Statement.{statement}
+use Rattle.frame.proofs.rasters.measure.Tie as tie
 
 finish-requires : tie.Need-finish-requires
 finish-requires c κs = search needs
@@ -11,9 +11,6 @@ raster-after-requires c κs = search needs
 
 sizeless-requires : tie.Need-sizeless-requires
 sizeless-requires c κs = search needs
-
-settled-requires : tie.Need-settled-requires
-settled-requires c κs = search needs
 
 returns : tie.Need-returns
 returns c = search (needs, rastered)
@@ -30,14 +27,8 @@ raster-area-requires c κs = search needs
 enum-known-width : tie.Need-enum-known-width
 enum-known-width c = search needs
 
-settled-requires-2 : tie.Need-settled-requires-2
-settled-requires-2 c κs = search needs
-
 enum-known-refusal : tie.Need-enum-known-refusal
 enum-known-refusal c = search needs
-
-refused-requires : tie.Need-refused-requires
-refused-requires c κs = search needs
 
 returns-2 : tie.Need-returns-2
 returns-2 c = search (needs, rastered)
@@ -45,21 +36,18 @@ returns-2 c = search (needs, rastered)
 returns-3 : tie.Need-returns-3
 returns-3 c = search (needs, rastered)
 
-pub end-raster-spec : {M : Type 1} → statement M
-end-raster-spec =
+pub measure-spec : {M : Type 1} → statement M
+measure-spec =
     tie.close
     (tie.spec
     finish-requires
     raster-after-requires
     sizeless-requires
-    settled-requires
     returns
     larger-requires
     larger-requires-2
     raster-area-requires
     enum-known-width
-    settled-requires-2
     enum-known-refusal
-    refused-requires
     returns-2
     returns-3)

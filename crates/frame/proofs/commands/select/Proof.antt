@@ -1,7 +1,7 @@
 use borrow.Author.Needs.{needs}
 use Rattle.frame.proofs.CommandLaws.{colored}
-use Rattle.frame.proofs.commands.end_color.Statement.{statement}
-use Rattle.frame.proofs.commands.end_color.Tie as tie
+use Rattle.frame.proofs.commands.select.Statement.{statement}
+use Rattle.frame.proofs.commands.select.Tie as tie
 
 finish-requires : tie.Need-finish-requires
 finish-requires c κs = search needs
@@ -15,19 +15,10 @@ redefine-requires c κs = search needs
 rgb-bytes-requires : tie.Need-rgb-bytes-requires
 rgb-bytes-requires c κs = search needs
 
-settled-requires : tie.Need-settled-requires
-settled-requires c κs = search needs
-
 returns : tie.Need-returns
 returns c = search (needs, colored)
 
-pub end-color-spec : {M : Type 1} → statement M
-end-color-spec =
+pub select-spec : {M : Type 1} → statement M
+select-spec =
     tie.close
-    (tie.spec
-    finish-requires
-    register-of-requires
-    redefine-requires
-    rgb-bytes-requires
-    settled-requires
-    returns)
+    (tie.spec finish-requires register-of-requires redefine-requires rgb-bytes-requires returns)
