@@ -7,7 +7,6 @@ use mathlib.Core.List.{List, [], _∷_, map}
 use mathlib.Core.Path.{_≡_, refl, sym, ap, ap₂, _∙_, subst}
 use lib.ListN.{length}
 use Rattle.numbers.proofs.Laws.{cond-yes}
-use Rattle.numbers.proofs.Reading.{read-none}
 use Rattle.colours.specs.declared.Palette.{Palette}
 use Rattle.frame.specs.declared.Limits.{Limits}
 use Rattle.meaning.specs.Calls as calls
@@ -20,13 +19,14 @@ use Rattle.meaning.specs.Sequence.{sequencePayload, sequenceInk}
 use Rattle.meaning.specs.Sessions.{End, Phase, start, dcsStep}
 use Rattle.meaning.proofs.DcsSoFar.{dcs-finish-drawing, dcs-refused-drawn}
 use Rattle.meaning.proofs.Demand3.{dcs-calls, dcs-outcome, dcs-finishes, dcs-refused, dcs-all-ink}
-use Rattle.payload.specs.Begin.{reservedBy}
 use Rattle.payload.specs.History.{settingMeant, limitsMeant, Finishes}
-use Rattle.payload.specs.Judge.{inRange, limitsFit, openable}
+use Rattle.payload.specs.Judge.{openable}
+use Rattle.payload.proofs.Openings.{opens-meant}
 use Rattle.dcs.specs.declared.Session.{Session}
 use Rattle.dcs.specs.Session.{openedBy, fedBy, finishedBy}
-use Rattle.dcs.specs.History.{answerMeant, atStart, heldAt, Stands, before, Feeds, Past, fedAll, PastMeant, fedAllMeant, Held, callsOf, properCalls}
+use Rattle.dcs.specs.History.{answerMeant, heldAt, Stands, Feeds, Past, fedAll, PastMeant, fedAllMeant, Held, callsOf, properCalls}
 use Rattle.dcs.proofs.Standing.{feed-stands, finish-stands, finished-meant, stands-shows, stands-long, stands-fit}
+use Rattle.dcs.proofs.Openings.{opened-stands}
 use Rattle.dcs.proofs.Callers.{endTold, refused-told, told-end, told-refusal, CallerStands, calls-stand}
 
 -- ---- any calls
@@ -77,10 +77,10 @@ module _ (l : Limits) (stride : ℕ) (p : Palette) (opening : List ℕ) (opens :
   setting = settingMeant l stride (length opening)
 
   start-stands : CallerStands l stride p opening opened (ready start)
-  unfolding ready openedBy reservedBy isRefused endTold calls.dcsEnd
+  unfolding ready isRefused endTold calls.dcsEnd
   start-stands =
       record {
-        session = rw opens (before opens (atStart (read-none 3)));
+        session = opened-stands l stride p opening opens;
         how = refl;
         unread = λ _. refl;
         consumed = λ _. refl;
@@ -152,8 +152,9 @@ module _ (l : Limits) (stride : ℕ) (p : Palette) (opening : List ℕ) (opens :
     picture = calls.oneShotShown (limitsMeant l) stride (length opening) p (stream ts) opening
 
     picture-shown : {d : Option Drawing} → d ≡ calls.drawingFound setting p (findPayload (stream ts)) → calls.shown stride d opening ≡ picture
-    unfolding calls.oneShotShown settingMeant openable limitsFit inRange calls.opens calls.limitsHold calls.ranges limitsMeant
-    picture-shown e = ap (λ (d : Option Drawing). calls.shown stride d opening) e ∙ sym (cond-yes _ _ opens)
+    unfolding calls.oneShotShown settingMeant
+    picture-shown e =
+        ap (λ (d : Option Drawing). calls.shown stride d opening) e ∙ sym (cond-yes _ _ (sym (opens-meant l stride (length opening)) ∙ opens))
 
     -- So once an end is told, a finish answers that and leaves that picture, both said of the stream alone.
     pub stream-finishes : now .how ≡ halted → (owner : Palette)

@@ -6,6 +6,7 @@ pub mod Leading
 pub mod Within
 pub mod Before
 pub mod Standing
+pub mod Openings
 pub mod Counts
 pub mod Callers
 pub mod History

@@ -1,23 +1,23 @@
 -- What a caller relies on to go on: a call that needs more has left nothing unread and a finish there is 8, a stop has consumed a byte, and an end is
 -- the one told.
-use Prim.Native.Nat.{ℕ, zero, suc, _+_, _*_, _≤_, _<_}
+use Prim.Native.Nat.{ℕ, _*_, _≤_, _<_}
 use native.Mathlib.Omega.{arith}
 use mathlib.Core.Bool.{true, false}
 use mathlib.Core.Option.{Option, none, some}
 use mathlib.Core.List.{List, [], _∷_, _++_}
 use mathlib.Core.Path.{_≡_, refl, sym, ap, _∙_, subst}
 use borrow.Author.Tests.{le-leb}
-use lib.ListN.{length, take}
+use lib.ListN.{length}
 use Rattle.canvas.proofs.Covers.{and-both}
 use Rattle.colours.specs.declared.Palette.{Palette}
 use Rattle.frame.specs.declared.Limits.{Limits}
 use Rattle.meaning.specs.Calls as calls
 use Rattle.meaning.specs.Drawing.{Setting}
-use Rattle.meaning.specs.Reader.{Step, next, halt, refuse, How, readAll, stopped, halted, refusedBy, isRefused, isOngoing, Run, still, after, follow, readFrom, call, Turn, pieceOf, allowanceOf, stream, Caller, ranBy, mayCall, having, turn, turns, CapLaw}
+use Rattle.meaning.specs.Reader.{Step, next, halt, refuse, How, readAll, stopped, halted, refusedBy, isRefused, isOngoing, Run, still, after, follow, readFrom, call, Turn, pieceOf, allowanceOf, stream, Caller, ranBy, mayCall, having, turn, turns}
 use Rattle.meaning.specs.Payload.{turnedDown}
 use Rattle.meaning.specs.Sessions.{End, Phase, start, introduced, header, within, afterEscape, over, dcsStep, dcsRested, finishDcs}
 use Rattle.meaning.proofs.AreaLaws.{DcsDoes, advances, begins, turns as refused, reads, refuses, escapes, closes, breaks, completes, lapses, remains, dcs-does}
-use Rattle.meaning.proofs.CallLaws.{StoppedAt, call-stopped-at}
+use Rattle.meaning.proofs.CallLaws.{call-stop-reads}
 use Rattle.meaning.proofs.CallerLaws.{not-refused}
 use Rattle.meaning.proofs.Demand3.{dcs-caps}
 use Rattle.meaning.proofs.DcsParts.{no-end}
@@ -74,24 +74,6 @@ left-none : {S : Type 0} {step : S → ℕ → Step S} {rest : S → S} {h : How
     → h ≡ readAll → unread ≡ []
 left-none allRead e = refl
 left-none (stoppedAt q inked) e = absurd (let never : _≡_ {A = ℕ} 0 1 = cc in omega arith)
-
--- a stop has consumed a byte, where no byte's ink is above the allowance
-module _ {S : Type 0} (step : S → ℕ → Step S) (rest : S → S) (cap : ℕ) (cap-law : CapLaw step cap) (a : ℕ) (s : S) (xs : List ℕ) (fits : cap ≤ a) where
-  call-stop-consumes : call step rest a s xs .how ≡ stopped → 0 < call step rest a s xs .consumed
-  unfolding readFrom still
-  call-stop-consumes e = go (call step rest a s xs .consumed) refl
-    where
-      at-stop : StoppedAt step rest a s xs (call step rest a s xs)
-      at-stop = call-stopped-at step rest a s xs e
-
-      cost : at-stop .cost ≤ cap
-      cost = cap-law (at-stop .last) (at-stop .reached) (at-stop .byte) (at-stop .cost) (at-stop .reads)
-
-      go : (n : ℕ) → call step rest a s xs .consumed ≡ n → 0 < n
-      go zero z =
-          let dry : 0 ≡ call step rest a s xs .ink = ap (λ (n : ℕ). readFrom step s (take n xs) .ink) (sym z) ∙ ap (λ (r : Run S). r .ink) (at-stop .before) in
-          omega (arith, cost, at-stop .exceeds)
-      go (suc n) z = omega arith
 
 -- an end that is told is the one that has come
 answered-end : (m : calls.Session Phase) (q : Run Phase) {n i : ℕ} {x : End} → calls.told n i (calls.ended x) ≡ calls.answered calls.dcsEnd m q .answer
@@ -213,7 +195,7 @@ module _ (l : Limits) (stride : ℕ) (p : Palette) (opening : List ℕ) (opens :
           arith,
           stood .consumed live,
           next-one .consumed (ap isRefused there-stops),
-          call-stop-consumes (dcsStep setting p) (dcsRested setting) (6 * setting .limits .width) (dcs-caps setting p) (allowanceOf t) (there .state) (there .unread ++ pieceOf t) (omega arith) there-stops,
+          call-stop-reads (dcsStep setting p) (dcsRested setting) (6 * setting .limits .width) (dcs-caps setting p) (allowanceOf t) (there .state) (there .unread ++ pieceOf t) (omega arith) there-stops,
         )
 
     -- An end that is told is the one that the definition has come to.

@@ -170,6 +170,19 @@ module _ {S : Type 0} (step : S → ℕ → Step S) (rest : S → S) where
       let p : StoppedAt step rest a s xs (call step rest a s xs) = call-stopped-at a s xs h in
       omega (arith, p .exceeds, cap-law (p .last) (p .reached) (p .byte) (p .cost) (p .reads), call-ink a s xs)
 
+  reads-some : {cap a : ℕ} {s : S} {xs : List ℕ} {r : Run S} → CapLaw step cap → cap ≤ a → Called step rest a s xs r → r .how ≡ stopped → 0 < r .consumed
+  unfolding still after
+  reads-some caps fits nothing h = absurd (subst Stops (sym h) tt)
+  reads-some caps fits (goes e fewer c) h = omega arith
+  reads-some caps fits (stops {i = i} {b} {s} {t} e over) h = omega (arith, caps s t b i e)
+  reads-some caps fits (halts e) h = absurd (subst Stops (sym h) tt)
+  reads-some caps fits (refuses e) h = absurd (subst Stops (sym h) tt)
+
+  -- and where the allowance is at least the cap it has read a byte
+  pub call-stop-reads : (cap : ℕ) → CapLaw step cap → (a : ℕ) (s : S) (xs : List ℕ) → cap ≤ a
+      → call step rest a s xs .how ≡ stopped → 0 < call step rest a s xs .consumed
+  call-stop-reads cap caps a s xs fits = reads-some caps fits (called a s xs)
+
 -- ---- a call and then the rest is a plain reading
 
 -- after a call that was not refused, what it left unread is read, and then zs

@@ -2,28 +2,24 @@
 use Prim.Native.Nat.{ℕ, _-_}
 use mathlib.Core.Bool.{Bool, true, false}
 use mathlib.Core.List.{List, []}
-use mathlib.Core.Path.{_≡_, refl, sym, ap, _∙_}
+use mathlib.Core.Path.{_≡_, sym, ap, _∙_}
 use native.Mathlib.Omega.{arith}
 use lib.ListN.{length, take, drop, length-drop}
 use lib.Seq.{take-all}
 use Rattle.numbers.proofs.Laws.{cond-yes, cond-no}
 use Rattle.frame.specs.declared.Limits.{Limits}
 use Rattle.frame.specs.declared.Refusal.{Refusal}
-use Rattle.meaning.specs.Calls.{ranges, limitsHold, opens, partHandedBack}
+use Rattle.meaning.specs.Calls.{partHandedBack}
 use Rattle.meaning.specs.OneShot.{partOf}
 use Rattle.payload.specs.declared.Settings.{Settings}
-use Rattle.payload.specs.Judge.{inRange, limitsFit, openable}
+use Rattle.payload.specs.Judge.{openable}
+pub use Rattle.payload.proofs.Openings.{opens-meant}
 use Rattle.oneshot.specs.declared.search.Found.{Found}
 use Rattle.oneshot.specs.declared.search.Found.the-variants.{Payload, Refused}
 use Rattle.payload.specs.History.{limitsMeant}
 use Rattle.oneshot.specs.OneShot.{foundMeant}
 use Rattle.oneshot.specs.Search.{foundIn}
 use Rattle.oneshot.proofs.FoundLaws.{found-meant, payload-within}
-
--- the same openings
-pub opens-meant : (l : Limits) (stride size : ℕ) → openable l stride size ≡ opens (limitsMeant l) stride size
-unfolding openable limitsFit inRange opens limitsHold ranges limitsMeant
-opens-meant l stride size = refl
 
 module _ {t : Bool} (l : Limits) (stride size : ℕ) (bytes : List ℕ) (e : t ≡ openable l stride size) where
   pub part-closed : t ≡ false → [] ≡ partHandedBack (limitsMeant l) stride size bytes

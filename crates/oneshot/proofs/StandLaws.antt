@@ -1,5 +1,5 @@
 -- One feed of a session that has come to no end, in the definition's terms.
-use Prim.Native.Nat.{ℕ, zero, suc, _*_, _≤_, _<_}
+use Prim.Native.Nat.{ℕ, _*_, _≤_, _<_}
 use mathlib.Core.Bool.{Bool, true, false}
 use mathlib.Core.List.{List, [], _∷_}
 use mathlib.Core.Option.{none, some}
@@ -7,13 +7,13 @@ use mathlib.Core.Path.{_≡_, refl, sym, ap, subst, _∙_}
 use native.Mathlib.Nat.{zero-add}
 use native.Mathlib.Omega.{arith}
 use borrow.Author.Tests.{le-leb}
-use lib.ListN.{length, take}
+use lib.ListN.{length}
 use Rattle.canvas.proofs.Covers.{and-both}
 use Rattle.meaning.specs.Calls as calls
 use Rattle.meaning.specs.Drawing.{Setting}
-use Rattle.meaning.specs.Reader.{How, readAll, stopped, halted, isRefused, Run, still, readFrom, call, fresh, pieceOf, allowanceOf, Caller, mayCall, having, turn, turns}
+use Rattle.meaning.specs.Reader.{How, readAll, stopped, halted, isRefused, Run, call, fresh, pieceOf, allowanceOf, Caller, mayCall, having, turn, turns}
 use Rattle.meaning.specs.Sessions.{Reading, rested, payloadStep, finishReading}
-use Rattle.meaning.proofs.CallLaws.{StoppedAt, call-stopped-at}
+use Rattle.meaning.proofs.CallLaws.{call-stop-reads}
 use Rattle.meaning.proofs.Demand3.{payload-caps}
 use Rattle.payload.specs.declared.Fed.{Fed}
 use Rattle.payload.specs.declared.Session.{Session}
@@ -86,23 +86,7 @@ module _ {opening : List ℕ} {t : Setting} {r : Reading} {s : Session} {l : Lis
 
   -- a stop consumes at least one byte: no sixel's ink is above the allowance
   pub stop-consumes : call (payloadStep t) (rested t) a r bs .how ≡ stopped → 0 < call (payloadStep t) (rested t) a r bs .consumed
-  unfolding readFrom still
-  stop-consumes e = go (q .consumed) refl
-    where
-      q : Run Reading
-      q = call (payloadStep t) (rested t) a r bs
-
-      at-stop : StoppedAt (payloadStep t) (rested t) a r bs q
-      at-stop = call-stopped-at (payloadStep t) (rested t) a r bs e
-
-      cost : at-stop .cost ≤ 6 * t .limits .width
-      cost = payload-caps t (at-stop .last) (at-stop .reached) (at-stop .byte) (at-stop .cost) (at-stop .reads)
-
-      go : (n : ℕ) → q .consumed ≡ n → 0 < n
-      go zero z =
-          let dry : 0 ≡ q .ink = ap (λ (n : ℕ). readFrom (payloadStep t) r (take n bs) .ink) (sym z) ∙ ap (λ (u : Run Reading). u .ink) (at-stop .before) in
-          omega (arith, cost, at-stop .exceeds)
-      go (suc n) z = omega arith
+  stop-consumes = call-stop-reads (payloadStep t) (rested t) (6 * t .limits .width) (payload-caps t) a r bs enough
 
 -- ---- a finish is refused neither 9 nor 12
 

@@ -21,12 +21,12 @@ use Rattle.payload.specs.declared.Finishing.the-variants as finishes
 use Rattle.payload.specs.declared.Settings.{Settings}
 use Rattle.payload.specs.History.{parametersMeant, limitsMeant, settingMeant}
 use Rattle.payload.specs.Judge.{openable}
+use Rattle.payload.proofs.Openings.{opens-meant}
 use Rattle.oneshot.specs.declared.search.Found.{Found}
 use Rattle.oneshot.specs.declared.search.Found.the-variants.{Payload, Refused}
 use Rattle.oneshot.specs.OneShot.{foundMeant, Read, paletteAfter, readWhole, readOutcome, readPart, finishMeant, readMeant}
 use Rattle.oneshot.specs.Search.{foundIn}
 use Rattle.oneshot.proofs.FoundLaws.{found-meant, payload-within}
-use Rattle.oneshot.proofs.PartLaws.{opens-meant}
 use Rattle.oneshot.proofs.FeedLaws.{rest-all}
 
 -- what was found, read

@@ -22,7 +22,7 @@ use Rattle.payload.specs.declared.Settings.{Settings}
 use Rattle.payload.specs.Judge.{openable}
 use Rattle.payload.specs.Session.{openedBy, fedBy, finishedBy}
 use Rattle.payload.specs.History.{parametersMeant, limitsMeant, settingMeant, answerMeant, Stands, Feeds, Finishes, Past, fedAll, PastMeant, fedAllMeant, Held, callsOf, properCalls}
-use Rattle.payload.proofs.Openings.{ready-stands}
+use Rattle.payload.proofs.Openings.{opened-stands}
 use Rattle.payload.proofs.Judgements.{stands-shows, stands-long, stands-fit}
 use Rattle.payload.proofs.Feedings.{feed-stands}
 use Rattle.payload.proofs.Finishings.{finish-stands, finished-meant}
@@ -83,10 +83,10 @@ module _ (l : Limits) (stride : ℕ) (o : Settings) (p : Palette) (opening : Lis
   shownOf d = calls.shown stride (some d) opening
 
   start-stands : CallerStands opening setting given atStart (ready (opened given p))
-  unfolding ready opened openedBy isRefused
+  unfolding ready opened isRefused
   start-stands =
       record {
-        session = rw opens (ready-stands l stride o p opening opens);
+        session = opened-stands l stride o p opening opens;
         parameters = refl;
         how = refl;
         over = λ e fine. cc;

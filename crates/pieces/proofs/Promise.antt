@@ -26,7 +26,8 @@ use Rattle.meaning.proofs.AreaLaws.{Roomy, opens-roomy}
 use Rattle.payload.specs.declared.Finished.{Finished}
 use Rattle.payload.specs.declared.Report.{Report}
 use Rattle.payload.specs.History.{settingMeant, limitsMeant, reportMeant, Finishes}
-use Rattle.payload.specs.Judge.{inRange, limitsFit, openable}
+use Rattle.payload.specs.Judge.{openable}
+use Rattle.payload.proofs.Openings.{opens-meant}
 use Rattle.payload.specs.Session.{turnedAway}
 use Rattle.dcs.specs.declared.Ending.{Ending}
 use Rattle.dcs.specs.declared.Session.{Session}
@@ -233,13 +234,13 @@ module _ (l : Limits) (stride : ℕ) (p : Palette) (opening : List ℕ) (opens :
     picture = calls.oneShotShown (limitsMeant l) stride (length opening) p bytes opening
 
     picture-whole : calls.shown stride (calls.drawingAtFinish setting (there .state)) opening ≡ picture
-    unfolding ranBy calls.oneShotShown calls.opens calls.limitsHold calls.ranges openable limitsFit inRange limitsMeant settingMeant
+    unfolding ranBy calls.oneShotShown settingMeant
     picture-whole =
         ap (λ (d : Option Drawing). calls.shown stride d opening)
         (sym (ap (λ (q : Run Phase). calls.drawingAtFinish setting (q .state)) ran)
         ∙ ap (calls.drawingAtFinish setting) state-taken
         ∙ drawing-whole setting p bytes end-whole)
-        ∙ sym (cond-yes _ _ opens)
+        ∙ sym (cond-yes _ _ (sym (opens-meant l stride (length opening)) ∙ opens))
 
     finish-same : (owner : Palette) → finishedBy reader owner canvas ≡ dcs.finishedBy (caller .state .0) owner (caller .state .1)
     unfolding finishedBy finishedAs
@@ -265,8 +266,8 @@ module _ (l : Limits) (stride : ℕ) (p : Palette) (opening : List ℕ) (opens :
         (subst (λ (shows : List ℕ). Finishes shows owner (caller .state .1) ends (oneShot setting p (stream turns))) picture-whole answers)))
 
     roomy : Roomy setting
-    unfolding settingMeant limitsMeant calls.opens calls.limitsHold calls.ranges openable limitsFit inRange
-    roomy = opens-roomy (limitsMeant l) stride (length opening) opens
+    unfolding settingMeant
+    roomy = opens-roomy (limitsMeant l) stride (length opening) (sym (opens-meant l stride (length opening)) ∙ opens)
 
     -- There is always a picture.
     pub picture-reported : (owner : Palette) → Reported picture (finishedBy reader owner canvas) (oneShot setting p bytes)

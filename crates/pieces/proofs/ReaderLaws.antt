@@ -1,6 +1,6 @@
 -- Laws of opening a reader, of one call and of the finish: one for each way through a function.
 use Prim.Native.Nat.{ℕ, _*_, _≤_}
-use mathlib.Core.Bool.{Bool, true, false, cond}
+use mathlib.Core.Bool.{true}
 use mathlib.Core.List.{List, [], _∷_}
 use mathlib.Core.Path.{_≡_, refl, sym, ap, _∙_}
 use native.Mathlib.Omega.{arith}
@@ -9,19 +9,16 @@ use types.Run.{OneOf, miss}
 use Rattle.colours.specs.declared.Palette.{Palette}
 use Rattle.frame.specs.declared.Limits.{Limits}
 use Rattle.frame.specs.declared.Refusal.{Refusal}
-use Rattle.frame.specs.declared.Refusal.the-variants as refusals
-use Rattle.meaning.specs.Calls.{ranges, limitsHold, opens, settingFor}
+use Rattle.meaning.specs.Calls.{settingFor}
 use Rattle.agreement.proofs.Finish.{opens-bounded}
 use Rattle.payload.specs.declared.Finished.{Finished}
 use Rattle.payload.specs.declared.Finishing.the-variants as finishes
-use Rattle.payload.specs.declared.Opened as payloadOpened
 use Rattle.payload.specs.declared.Opening.{Opening}
 use Rattle.payload.specs.declared.Opening.the-variants as openings
-use Rattle.payload.specs.declared.Life.the-variants as lives
-use Rattle.payload.specs.Begin.{noSettings, reservedBy}
 use Rattle.payload.specs.History.{limitsMeant}
-use Rattle.payload.specs.Judge.{inRange, limitsFit, openable}
-use Rattle.payload.specs.Session.{sessionFor, turnedAway}
+use Rattle.payload.specs.Judge.{openable}
+use Rattle.payload.specs.Session.{turnedAway}
+use Rattle.payload.proofs.Openings.{opens-meant}
 use Rattle.dcs.specs.declared.Answer.{Answer}
 use Rattle.dcs.specs.declared.Answer.the-variants as answers
 use Rattle.dcs.specs.declared.Ending.{Ending}
@@ -29,6 +26,7 @@ use Rattle.dcs.specs.declared.Fed.{Fed}
 use Rattle.dcs.specs.declared.Opened.{Opened}
 use Rattle.dcs.specs.declared.Session.{Session}
 use Rattle.dcs.specs.Session as dcs
+use Rattle.dcs.proofs.Openings.{open-ready}
 use Rattle.pieces.specs.declared.Called.{Called}
 use Rattle.pieces.specs.declared.Counts.{Counts}
 use Rattle.pieces.specs.declared.Reader.{Reader}
@@ -56,28 +54,14 @@ pub began-as : (s : Session) (t : Standing) (a : ℕ)
 unfolding beganAs
 began-as s t a = refl
 
--- an opening that succeeds has its numbers in their ranges
-pub opening-ready : (l : Limits) (stride : ℕ) (p : Palette) (size : ℕ) → dcs.openedBy l stride p size .answer ≡ openings.Ready → openable l stride size ≡ true
-unfolding dcs.openedBy reservedBy
-opening-ready l stride p size = go (openable l stride size)
-  where
-    ready : payloadOpened.Opened
-    ready = record { answer = openings.Ready; session = sessionFor l stride size noSettings p lives.Live }
-
-    refused : payloadOpened.Opened
-    refused = record { answer = openings.Refused refusals.Opening; session = sessionFor l stride size noSettings p lives.Failed }
-
-    go : (t : Bool) → cond t ready refused .answer ≡ openings.Ready → t ≡ true
-    go true e = refl
-    go false e = let never : _≡_ {A = ℕ} 0 1 = cc in absurd (omega arith)
-
-pub openable-width : (l : Limits) (stride size : ℕ) → openable l stride size ≡ true → l .width ≤ 1000000
-unfolding openable limitsFit inRange opens limitsHold ranges limitsMeant settingFor
-openable-width l stride size e = opens-bounded (limitsMeant l) stride size e .width
+-- the width of an opening that succeeds is in its range
+openable-width : (l : Limits) (stride size : ℕ) → openable l stride size ≡ true → l .width ≤ 1000000
+unfolding limitsMeant settingFor
+openable-width l stride size e = opens-bounded (limitsMeant l) stride size (sym (opens-meant l stride size) ∙ e) .width
 
 module _ {o : Opened} (l : Limits) (stride : ℕ) (p : Palette) (size : ℕ) (e : o ≡ dcs.openedBy l stride p size) where
   pub ready-width : o .answer ≡ openings.Ready → l .width ≤ 1000000
-  ready-width k = openable-width l stride size (opening-ready l stride p size (sym (ap (λ (x : Opened). x .answer) e) ∙ k))
+  ready-width k = openable-width l stride size (open-ready l stride p size .0 (sym (ap (λ (x : Opened). x .answer) e) ∙ k))
 
   opens-as : {a : Opening} {r : Reader} → o .answer ≡ a → r ≡ openedAs a (o .session) (l .width) → r ≡ openedBy l stride p size
   unfolding openedBy

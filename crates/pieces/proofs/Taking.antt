@@ -5,14 +5,11 @@ use mathlib.Core.Bool.{true, false}
 use mathlib.Core.List.{List, [], _∷_, _++_, append-nil, append-assoc}
 use mathlib.Core.Path.{_≡_, refl, sym, ap, _∙_, subst}
 use lib.ListN.{length}
-use Rattle.numbers.proofs.Laws.{cond-yes, cond-no}
 use Rattle.colours.specs.declared.Palette.{Palette}
 use Rattle.frame.specs.declared.Limits.{Limits}
 use Rattle.frame.specs.declared.Refusal.the-variants as refusals
 use Rattle.meaning.specs.Reader.{readAll, Turn, fresh, pieceOf, allowanceOf, stream, pieces, mayCall, ready}
-use Rattle.payload.specs.declared.Opened as payloadOpened
 use Rattle.payload.specs.declared.Opening.{Opening}
-use Rattle.payload.specs.Begin.{reservedBy}
 use Rattle.payload.specs.Judge.{openable}
 use Rattle.payload.specs.Session.{turnedAway}
 use Rattle.dcs.specs.History.{callsOf, properCalls}
@@ -22,6 +19,7 @@ use Rattle.pieces.specs.declared.Standing.{Standing}
 use Rattle.pieces.specs.declared.Standing.the-variants as standings
 use Rattle.pieces.specs.Pieces.{beganAs, openedAs, openedBy, held, takenIn, takenAs, takenBy, finishedAs, finishedBy}
 use Rattle.pieces.specs.Stream.{joined, takenAll, howStood}
+use Rattle.dcs.proofs.Openings.{open-ready, open-refused}
 use Rattle.dcs.proofs.Progress.{nothing-unread}
 use Rattle.pieces.proofs.Answered.{stream-append, pieces-append}
 use Rattle.pieces.proofs.Turns.{now, Follows, Took, took}
@@ -39,18 +37,16 @@ length-append (y ∷ ys) zs = omega (arith, length-append ys zs)
 -- a reader whose opening succeeds reads, with the smallest allowance
 began : (l : Limits) (stride : ℕ) (p : Palette) (size : ℕ) → openable l stride size ≡ true
     → openedBy l stride p size ≡ beganAs (dcs.openedBy l stride p size .session) standings.Reading (6 * l .width)
-unfolding openedBy openedAs dcs.openedBy reservedBy
+unfolding openedBy openedAs
 began l stride p size opens =
-    ap (λ (a : Opening). openedAs a (dcs.openedBy l stride p size .session) (l .width))
-    (ap (λ (o : payloadOpened.Opened). o .answer) (cond-yes _ _ opens))
+    ap (λ (a : Opening). openedAs a (dcs.openedBy l stride p size .session) (l .width)) (open-ready l stride p size .1 opens)
 
 -- one whose opening fails is refused with 11
 refused-began : (l : Limits) (stride : ℕ) (p : Palette) (size : ℕ) → openable l stride size ≡ false
     → openedBy l stride p size .standing ≡ standings.Refused refusals.Opening
-unfolding openedBy openedAs beganAs dcs.openedBy reservedBy
+unfolding openedBy openedAs beganAs
 refused-began l stride p size closed =
-    ap (λ (a : Opening). openedAs a (dcs.openedBy l stride p size .session) (l .width) .standing)
-    (ap (λ (o : payloadOpened.Opened). o .answer) (cond-no _ _ closed))
+    ap (λ (a : Opening). openedAs a (dcs.openedBy l stride p size .session) (l .width) .standing) (open-refused l stride p size .1 closed)
 
 -- after an end or a refusal no piece is taken
 over-stays : (r : Reader) (canvas z : List ℕ) → (r .standing ≡ standings.Reading → ⊥) → takenBy r canvas z ≡ (r, canvas)

@@ -4,7 +4,6 @@ use mathlib.Core.Bool.{true, false}
 use mathlib.Core.List.{List, map}
 use mathlib.Core.Path.{_≡_}
 use lib.ListN.{length}
-use Rattle.numbers.proofs.Reading.{read-none}
 use Rattle.colours.specs.declared.Palette.{Palette}
 use Rattle.frame.specs.declared.Limits.{Limits}
 use Rattle.meaning.specs.Calls as calls
@@ -14,12 +13,12 @@ use Rattle.meaning.specs.Payload as meant
 use Rattle.meaning.specs.Reader.{stopped, halted, refusedBy, isRefused, Turn, stream, pieces, Caller}
 use Rattle.meaning.specs.Sequence.{sequencePayload, sequenceInk}
 use Rattle.meaning.specs.Sessions.{Phase, start}
-use Rattle.payload.specs.Begin.{reservedBy}
 use Rattle.payload.specs.Judge.{openable}
 use Rattle.payload.specs.History.{limitsMeant, settingMeant, Finishes}
 use Rattle.dcs.specs.Session.{openedBy, finishedBy}
-use Rattle.dcs.specs.History.{answerMeant, atStart, heldAt, Stands, before, Opens, Past, fedAll, PastMeant, fedAllMeant, Held, callsOf, properCalls}
+use Rattle.dcs.specs.History.{answerMeant, heldAt, Stands, Opens, Past, fedAll, PastMeant, fedAllMeant, Held, callsOf, properCalls}
 use Rattle.dcs.proofs.Standing.{open-stands}
+use Rattle.dcs.proofs.Openings.{opened-stands}
 use Rattle.dcs.proofs.History as history
 
 module _ (l : Limits) (stride : ℕ) (p : Palette) (opening : List ℕ) where
@@ -49,8 +48,7 @@ module _ (l : Limits) (stride : ℕ) (p : Palette) (opening : List ℕ) where
           (calls.finishDcsSession (pastMeant .session) (length opening))
 
     stands : Stands l stride p opening (openedBy l stride p (length opening) .session) opening openedMeant
-    unfolding openedBy reservedBy
-    stands = rw opens (before opens (atStart (read-none 3)))
+    stands = opened-stands l stride p opening opens
 
     -- Demand 1: whatever the bytes, the allowances and the canvas, every call and the finish have a stated outcome.
     pub demand-one : Stated

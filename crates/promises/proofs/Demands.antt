@@ -20,7 +20,7 @@ use Rattle.payload.specs.declared.Life.the-variants as lives
 use Rattle.payload.specs.Judge.{openable}
 use Rattle.payload.specs.Session.{sessionFor, backgroundFor, openedBy, finishedBy}
 use Rattle.payload.specs.History.{parametersMeant, limitsMeant, settingMeant, answerMeant, Stands, Opens, Finishes, Past, fedAll, PastMeant, fedAllMeant, Held, callsOf, properCalls}
-use Rattle.payload.proofs.Openings.{ready-stands, open-stands}
+use Rattle.payload.proofs.Openings.{open-stands, opened-stands}
 use Rattle.payload.proofs.History as history
 
 module _ (l : Limits) (stride : ℕ) (o : Settings) (p : Palette) (opening : List ℕ) where
@@ -49,8 +49,7 @@ module _ (l : Limits) (stride : ℕ) (o : Settings) (p : Palette) (opening : Lis
           (calls.finishPayload (pastMeant .session) (length opening))
 
     stands : Stands opening (openedBy l stride o p opening .0 .session) (openedBy l stride o p opening .1) openedMeant
-    unfolding openedBy
-    stands = rw opens (ready-stands l stride o p opening opens)
+    stands = opened-stands l stride o p opening opens
 
     -- Demand 1: whatever the bytes, the allowances and the canvas, every call and the finish have a stated outcome.
     pub demand-one : Stated

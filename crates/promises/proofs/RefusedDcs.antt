@@ -18,7 +18,7 @@ use Rattle.frame.specs.declared.Refusal.{Refusal}
 use Rattle.frame.specs.declared.Refusal.the-variants.{Failed, Opening, Canvas}
 use Rattle.meaning.specs.Calls as calls
 use Rattle.meaning.specs.Payload as meant
-use Rattle.meaning.specs.Sessions.{Reading, opened, Phase, start, dcsStep}
+use Rattle.meaning.specs.Sessions.{Reading, opened, Phase, dcsStep}
 use Rattle.payload.specs.declared.Opening.the-variants as openings
 use Rattle.payload.specs.declared.Finishing.the-variants as finishes
 use Rattle.payload.specs.declared.judge.Judged.{Judged}
@@ -31,20 +31,20 @@ use Rattle.payload.proofs.Openings.{ready-stands}
 use Rattle.payload.proofs.Judgements as judgements
 use Rattle.dcs.specs.declared.Answer.{Answer}
 use Rattle.dcs.specs.declared.Answer.the-variants as answers
-use Rattle.dcs.specs.declared.Opened.{Opened}
 use Rattle.dcs.specs.declared.Phase as phase
 use Rattle.dcs.specs.declared.Phase.the-variants as phases
 use Rattle.dcs.specs.declared.Session.{Session}
 use Rattle.dcs.specs.declared.lead.Place.{Place}
 use Rattle.dcs.specs.Session.{openedBy, fedAs, fedBy, finishedIn, finishedAs, finishedBy}
-use Rattle.dcs.specs.History.{answerMeant, SamePlace, heldAt, Stands, before, refused, inside, escaped, ended, Opens, isReady, isRefused}
-use Rattle.dcs.proofs.Standing.{feed-stands, open-stands, finish-stands, stands-shows, stands-fit}
+use Rattle.dcs.specs.History.{answerMeant, SamePlace, heldAt, Stands, before, refused, inside, escaped, ended}
+use Rattle.dcs.proofs.Standing.{feed-stands, finish-stands, stands-shows, stands-fit}
+use Rattle.dcs.proofs.Openings.{open-refused}
 use Rattle.promises.proofs.Choices.{tells-itself, tells-fails}
 use Rattle.promises.proofs.Meanings.{refusal-known}
 use Rattle.promises.proofs.RefusedCalls as any
-use Rattle.promises.proofs.RefusedPayload.{judged-known, finishes-exactly, Untouched, payload-finish-keeps}
+use Rattle.promises.proofs.RefusedPayload.{judged-known, finishes-exactly, Untouched, payload-finish-keeps, tells-openable}
 use Rattle.promises.proofs.RefusedRuns.{RunRefused}
-use Rattle.promises.proofs.RefusedSessions.{payloadArea, dcsArea, Openable, eleven-exactly, dcsRan, dcs-nine, dcs-twelve, dcs-first, dcs-bytes, dcs-fails}
+use Rattle.promises.proofs.RefusedSessions.{payloadArea, dcsArea, Openable, dcsRan, dcs-nine, dcs-twelve, dcs-first, dcs-bytes, dcs-fails}
 
 answer-known : (y : Answer) (x : Refusal) → answerMeant y ≡ calls.refused (numberOf x) → y ≡ answers.Refused x
 unfolding answerMeant
@@ -180,12 +180,7 @@ module _ (l : Limits) (stride : ℕ) (p : Palette) (opening : List ℕ) where
 
   -- The code's opening is 11 exactly when a number is out of its range or there is no whole row; it is lent no canvas, and writes nothing.
   pub dcs-open-exactly : (openedBy l stride p (length opening) .answer ≡ openings.Refused Opening) ↔ (¬ Openable (payload.limitsMeant l) stride (length opening))
-  unfolding calls.openDcs numberOf
-  dcs-open-exactly = Iff·trans (go (open-stands l stride p opening)) (eleven-exactly (payload.limitsMeant l) stride (length opening) start)
-    where
-      go : {y : Opened} {z : calls.Opened Phase} → Opens l stride p opening y z → (y .answer ≡ openings.Refused Opening) ↔ (z ≡ calls.notOpened (numberOf Opening))
-      go (isReady k) = (λ e. let never : _≡_ {A = ℕ} 0 1 = cc in absurd (omega arith), λ e. let never : _≡_ {A = ℕ} 0 1 = cc in absurd (omega arith))
-      go (isRefused n) = (λ e. let same : n ≡ Opening = cc in ap (λ (y : Refusal). calls.notOpened (numberOf y)) same, λ e. ap openings.Refused (refusal-known (cc)))
+  dcs-open-exactly = Iff·trans (open-refused l stride p (length opening)) (tells-fails (tells-openable l stride (length opening)))
 
 module _ (s : Session) (owner : Palette) (canvas : List ℕ) where
   phase-keeps : (t : phase.Phase) → Untouched owner canvas (finishedIn t s owner canvas)

@@ -1,10 +1,10 @@
 -- The refusals of the code's payload sessions are the definition's, and leave what document 01 says ('Refusal numbers').
 use Prim.Native.Nat.{ℕ, _≤_}
-use mathlib.Core.Bool.{true}
+use mathlib.Core.Bool.{Bool, true}
 use mathlib.Core.List.{List, [], _∷_}
 use mathlib.Core.Logic.{_↔_, Iff·trans}
 use mathlib.Core.Option.{some}
-use mathlib.Core.Path.{_≡_, refl, sym, ap, _∙_}
+use mathlib.Core.Path.{_≡_, refl, sym, ap, _∙_, subst}
 use native.Mathlib.Omega.{arith}
 use lib.ListN.{length}
 use Rattle.colours.specs.declared.Palette.{Palette}
@@ -18,7 +18,7 @@ use Rattle.frame.specs.declared.Refusal.the-variants.{Failed, Opening, Canvas}
 use Rattle.frame.specs.Commands.{Ended, ended}
 use Rattle.meaning.specs.Calls as calls
 use Rattle.meaning.specs.Payload as meant
-use Rattle.meaning.specs.Sessions.{Reading, opened, payloadStep}
+use Rattle.meaning.specs.Sessions.{Reading, payloadStep}
 use Rattle.payload.specs.declared.Answer.{Answer}
 use Rattle.payload.specs.declared.Answer.the-variants as answers
 use Rattle.payload.specs.declared.Finished.{Finished}
@@ -29,18 +29,18 @@ use Rattle.payload.specs.declared.Session.{Session}
 use Rattle.payload.specs.declared.Settings.{Settings}
 use Rattle.payload.specs.declared.judge.Judged.{Judged}
 use Rattle.payload.specs.declared.judge.Judged.the-variants as judged
-use Rattle.payload.specs.Judge.{feedJudged, finishJudged, finalJudged}
+use Rattle.payload.specs.Judge.{openable, feedJudged, finishJudged, finalJudged}
 use Rattle.payload.specs.Session.{openedBy, fedAs, fedBy, turnedAway, pictured, finishedIf, finishedIn, finishedLive, finishedAs, finishedBy}
-use Rattle.payload.specs.History.{parametersMeant, limitsMeant, answerMeant, Stands, Opens, isReady, isRefused, Finishes, pictures, declines}
-use Rattle.payload.proofs.Openings.{open-stands}
+use Rattle.payload.specs.History.{limitsMeant, answerMeant, Stands, Opens, isReady, isRefused, Finishes, pictures, declines}
+use Rattle.payload.proofs.Openings.{opens-meant, open-stands, open-refused}
 use Rattle.payload.proofs.Judgements.{judgedMeant, misfit, feed-judged, finish-judged, stands-shows}
 use Rattle.payload.proofs.Feedings.{feed-stands}
 use Rattle.payload.proofs.Finishings.{finish-stands}
-use Rattle.promises.proofs.Choices.{tells-itself, tells-fails}
+use Rattle.promises.proofs.Choices.{Tells, tells-itself, tells-fails}
 use Rattle.promises.proofs.Meanings.{refusal-known}
 use Rattle.promises.proofs.RefusedCalls as any
 use Rattle.promises.proofs.RefusedRuns.{RunRefused}
-use Rattle.promises.proofs.RefusedSessions.{payloadArea, Openable, eleven-exactly, payloadRan, payload-nine, payload-twelve, payload-first, payload-bytes, payload-fails}
+use Rattle.promises.proofs.RefusedSessions.{payloadArea, Openable, tells-opens, payloadRan, payload-nine, payload-twelve, payload-first, payload-bytes, payload-fails}
 
 -- ---- a refusal is known by its number
 
@@ -167,16 +167,14 @@ module _ (s : Session) (owner : Palette) (canvas : List ℕ) where
 
 -- ---- opening
 
+-- the code's test of an opening tells whether it may be opened
+pub tells-openable : (l : Limits) (stride size : ℕ) → Tells (openable l stride size) (Openable (limitsMeant l) stride size)
+tells-openable l stride size = subst (λ (t : Bool). Tells t (Openable (limitsMeant l) stride size)) (sym (opens-meant l stride size)) (tells-opens (limitsMeant l) stride size)
+
 -- The code's opening is 11 exactly when a number is out of its range or there is no whole row.
 pub payload-open-exactly : (l : Limits) (stride : ℕ) (o : Settings) (p : Palette) (opening : List ℕ)
     → (openedBy l stride o p opening .0 .answer ≡ openings.Refused Opening) ↔ (¬ Openable (limitsMeant l) stride (length opening))
-unfolding calls.openPayload numberOf
-payload-open-exactly l stride o p opening =
-    Iff·trans (go (open-stands l stride o p opening)) (eleven-exactly (limitsMeant l) stride (length opening) (opened (parametersMeant o) p))
-  where
-    go : {y : Opened × List ℕ} {z : calls.Opened Reading} → Opens opening y z → (y .0 .answer ≡ openings.Refused Opening) ↔ (z ≡ calls.notOpened (numberOf Opening))
-    go (isReady k) = (λ e. let never : _≡_ {A = ℕ} 0 1 = cc in absurd (omega arith), λ e. let never : _≡_ {A = ℕ} 0 1 = cc in absurd (omega arith))
-    go (isRefused n) = (λ e. let same : n ≡ Opening = cc in ap (λ (y : Refusal). calls.notOpened (numberOf y)) same, λ e. ap openings.Refused (refusal-known (cc)))
+payload-open-exactly l stride o p opening = Iff·trans (open-refused l stride o p opening) (tells-fails (tells-openable l stride (length opening)))
 
 -- A refused opening writes nothing.
 pub payload-open-keeps : (l : Limits) (stride : ℕ) (o : Settings) (p : Palette) (opening : List ℕ) (x : Refusal)

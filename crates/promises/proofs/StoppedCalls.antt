@@ -10,10 +10,10 @@ use lib.Dec.{ltb}
 use Rattle.colours.specs.declared.Palette.{Palette}
 use Rattle.canvas.specs.Picture.{Area}
 use Rattle.meaning.specs.Drawing.{Setting}
-use Rattle.meaning.specs.Reader.{Step, How, readAll, stopped, halted, refusedBy, Run, still, after, call, CapLaw}
+use Rattle.meaning.specs.Reader.{Step, How, readAll, stopped, halted, refusedBy, Run, call, CapLaw}
 use Rattle.meaning.specs.Sessions.{Reading, rested, payloadStep, Phase, dcsStep, dcsRested}
 use Rattle.meaning.specs.Calls.{Session, stoppedForInk, told, refused, Fed, atEnd, tells, answered, firstOf, misfits, feedRefusal, feed, dcsEnd, feedPayload, feedDcs}
-use Rattle.meaning.proofs.CallLaws.{Called, nothing, goes, stops, halts, refuses, called, call-stops}
+use Rattle.meaning.proofs.CallLaws.{call-stops, call-stop-reads}
 use Rattle.meaning.proofs.Demand3.{payload-caps, dcs-caps}
 use Rattle.promises.proofs.RefusedSessions.{payloadArea, dcsArea}
 
@@ -21,16 +21,6 @@ use Rattle.promises.proofs.RefusedSessions.{payloadArea, dcsArea}
 pub record Worked (a cap n i : ℕ) : Type 0 where
   pub reads : 1 ≤ n
   pub inks : a + 1 ≤ i + cap
-
--- a stop at the first byte would need an ink above the cap
-stop-reads : {S : Type 0} {step : S → ℕ → Step S} {rest : S → S} {cap a : ℕ} {s : S} {xs : List ℕ} {r : Run S} → CapLaw step cap → cap ≤ a → Called step rest a s xs r
-    → r .how ≡ stopped → 1 ≤ r .consumed
-unfolding still after
-stop-reads caps enough nothing h = let never : _≡_ {A = ℕ} 0 1 = cc in absurd (omega arith)
-stop-reads caps enough (goes e fits c) h = omega arith
-stop-reads caps enough (stops {i = i} {b} {s} {t} e over) h = omega (arith, caps s t b i e)
-stop-reads caps enough (halts e) h = let never : _≡_ {A = ℕ} 0 1 = cc in absurd (omega arith)
-stop-reads caps enough (refuses e) h = let never : _≡_ {A = ℕ} 0 1 = cc in absurd (omega arith)
 
 module _ {S E : Type 0} (areaOf : S → Area) (step : Setting → S → ℕ → Step S) (rest : Setting → S → S) (end : S → Option E)
     (caps : (c : Setting) → CapLaw (step c) (6 * c .limits .width)) (s : Session S) (length a : ℕ) (bs : List ℕ) (n i : ℕ) where
@@ -81,7 +71,7 @@ module _ {S E : Type 0} (areaOf : S → Area) (step : Setting → S → ℕ → 
           let ink : ran .ink ≡ i = h .1 .1 in
           let room : 6 * s .setting .limits .width ≤ a = enough q in
           record {
-            reads = omega (arith, stop-reads (caps (s .setting)) room (called (step (s .setting)) (rest (s .setting)) a (s .state) bs) (h .0));
+            reads = omega (arith, call-stop-reads (step (s .setting)) (rest (s .setting)) _ (caps (s .setting)) a (s .state) bs room (h .0));
             inks = omega (arith, call-stops (step (s .setting)) (rest (s .setting)) _ (caps (s .setting)) a (s .state) bs (h .0));
           }
       go (some m) q e = let never : _≡_ {A = ℕ} 0 1 = cc in absurd (omega arith)
