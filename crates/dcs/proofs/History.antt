@@ -3,8 +3,8 @@ use Prim.Native.Nat.{ℕ, _+_, _-_, _*_, _/_, _≤_}
 use native.Mathlib.Omega.{arith}
 use mathlib.Core.Bool.{true, false}
 use mathlib.Core.Option.{Option, none, some}
-use mathlib.Core.List.{List, [], _∷_, map}
-use mathlib.Core.Path.{_≡_, refl, sym, ap, ap₂, _∙_, subst}
+use mathlib.Core.List.{List}
+use mathlib.Core.Path.{_≡_, refl, sym, ap, _∙_, subst}
 use lib.ListN.{length}
 use Rattle.numbers.proofs.Laws.{cond-yes}
 use Rattle.colours.specs.declared.Palette.{Palette}
@@ -19,50 +19,49 @@ use Rattle.meaning.specs.Sequence.{sequencePayload, sequenceInk}
 use Rattle.meaning.specs.Sessions.{End, Phase, start, dcsStep}
 use Rattle.meaning.proofs.DcsSoFar.{dcs-finish-drawing, dcs-refused-drawn}
 use Rattle.meaning.proofs.Demand3.{dcs-calls, dcs-outcome, dcs-finishes, dcs-refused, dcs-all-ink}
+use Rattle.meaning.proofs.ToldLaws as toldLaws
+use Rattle.meaning.proofs.ToldLaws.{all-pass, endTold, refused-told, told-end, told-refusal}
 use Rattle.payload.specs.History.{settingMeant, limitsMeant, Finishes}
 use Rattle.payload.specs.Judge.{openable}
 use Rattle.payload.proofs.Openings.{opens-meant}
 use Rattle.dcs.specs.declared.Session.{Session}
 use Rattle.dcs.specs.Session.{openedBy, fedBy, finishedBy}
-use Rattle.dcs.specs.History.{answerMeant, heldAt, Stands, Feeds, Past, fedAll, PastMeant, fedAllMeant, Held, callsOf, properCalls}
+use Rattle.dcs.specs.History.{answerMeant, heldAt, Stands, Feeds, Held, feedHeld, feedMeant, Past, fedAll, PastMeant, fedAllMeant, callsOf, properCalls}
 use Rattle.dcs.proofs.Standing.{feed-stands, finish-stands, finished-meant, stands-shows, stands-long, stands-fit}
 use Rattle.dcs.proofs.Openings.{opened-stands}
-use Rattle.dcs.proofs.Callers.{endTold, refused-told, told-end, told-refusal, CallerStands, calls-stand}
+use Rattle.dcs.proofs.Callers.{CallerStands, calls-stand}
 
 -- ---- any calls
 
 -- the answers mean the definition's, and session and canvas stand for its session
-pub record Passes (l : Limits) (stride : ℕ) (p : Palette) (opening : List ℕ) (x : Past) (y : PastMeant) : Type 0 where
-  pub answers : map answerMeant (x .answers) ≡ y .answers
-  pub session : Stands l stride p opening (x .session) (x .canvas) (y .session)
+abbrev pub Passes : Limits → ℕ → Palette → List ℕ → Past → PastMeant → Type 0
+Passes l stride p opening = toldLaws.Passes (λ (h : Held) (m : calls.Session Phase). Stands l stride p opening (h .0) (h .1) m) answerMeant
 
 -- any calls of the code are the definition's
 pub history-stands : (l : Limits) (stride : ℕ) (p : Palette) (opening : List ℕ) {s : Session} {c : List ℕ} {m : calls.Session Phase} → Stands l stride p opening s c m → (cs : List Ask)
     → Passes l stride p opening (fedAll s c cs) (fedAllMeant p m (length opening) cs)
-unfolding fedAll fedAllMeant
-history-stands l stride p opening k [] = record { answers = refl; session = k }
-history-stands l stride p opening {s} {c} {m} k (a ∷ later) =
-    let f : Feeds l stride p opening (fedBy s c (a .bytes) (a .allowance)) (calls.feedDcs p m (length opening) (a .allowance) (a .bytes)) =
-    subst (λ (n : ℕ). Feeds l stride p opening (fedBy s c (a .bytes) (a .allowance)) (calls.feedDcs p m n (a .allowance) (a .bytes))) (stands-long l stride p opening k)
-    (feed-stands l stride p opening k (a .bytes) (a .allowance)) in
-    let rest = history-stands l stride p opening (f .session) later in
-    record { answers = ap₂ _∷_ (f .answer) (rest .answers); session = rest .session }
+history-stands l stride p opening =
+    all-pass feedHeld (feedMeant p (length opening)) (λ (h : Held) (m : calls.Session Phase). Stands l stride p opening (h .0) (h .1) m) answerMeant
+    (λ h m k bs a.
+    let f : Feeds l stride p opening (fedBy (h .0) (h .1) bs a) (calls.feedDcs p m (length opening) a bs) =
+    subst (λ (n : ℕ). Feeds l stride p opening (fedBy (h .0) (h .1) bs a) (calls.feedDcs p m n a bs)) (stands-long l stride p opening k) (feed-stands l stride p opening k bs a) in
+    (f .answer, f .session))
 
 -- so after any calls the canvas shows the drawing of the definition's state
 pub history-shows : (l : Limits) (stride : ℕ) (p : Palette) (opening : List ℕ) {s : Session} {c : List ℕ} {m : calls.Session Phase} → Stands l stride p opening s c m → (cs : List Ask)
-    → fedAll s c cs .canvas ≡ calls.dcsShown (fedAllMeant p m (length opening) cs .session) opening
-history-shows l stride p opening k cs = stands-shows l stride p opening (history-stands l stride p opening k cs .session)
+    → fedAll s c cs .state .1 ≡ calls.dcsShown (fedAllMeant p m (length opening) cs .state) opening
+history-shows l stride p opening k cs = stands-shows l stride p opening (history-stands l stride p opening k cs .state)
 
 -- and a finish then is the definition's
 pub history-finishes : (l : Limits) (stride : ℕ) (p : Palette) (opening : List ℕ) {s : Session} {c : List ℕ} {m : calls.Session Phase} → Stands l stride p opening s c m → (cs : List Ask) (owner : Palette)
-    → Finishes (calls.dcsShownAtFinish (fedAllMeant p m (length opening) cs .session) opening) owner (fedAll s c cs .canvas)
-    (finishedBy (fedAll s c cs .session) owner (fedAll s c cs .canvas)) (calls.finishDcsSession (fedAllMeant p m (length opening) cs .session) (length opening))
+    → Finishes (calls.dcsShownAtFinish (fedAllMeant p m (length opening) cs .state) opening) owner (fedAll s c cs .state .1)
+    (finishedBy (fedAll s c cs .state .0) owner (fedAll s c cs .state .1)) (calls.finishDcsSession (fedAllMeant p m (length opening) cs .state) (length opening))
 history-finishes l stride p opening {s} {c} {m} k cs owner =
-    let after = history-stands l stride p opening k cs .session in
+    let after = history-stands l stride p opening k cs .state in
     subst
     (λ (n : ℕ).
-    Finishes (calls.dcsShownAtFinish (fedAllMeant p m (length opening) cs .session) opening) owner (fedAll s c cs .canvas)
-    (finishedBy (fedAll s c cs .session) owner (fedAll s c cs .canvas)) (calls.finishDcsSession (fedAllMeant p m (length opening) cs .session) n))
+    Finishes (calls.dcsShownAtFinish (fedAllMeant p m (length opening) cs .state) opening) owner (fedAll s c cs .state .1)
+    (finishedBy (fedAll s c cs .state .0) owner (fedAll s c cs .state .1)) (calls.finishDcsSession (fedAllMeant p m (length opening) cs .state) n))
     (stands-long l stride p opening after)
     (finish-stands l stride p opening owner after)
 
@@ -81,10 +80,7 @@ module _ (l : Limits) (stride : ℕ) (p : Palette) (opening : List ℕ) (opens :
   start-stands =
       record {
         session = opened-stands l stride p opening opens;
-        how = refl;
-        unread = λ _. refl;
-        consumed = λ _. refl;
-        ink = λ _. refl;
+        learned = record { how = refl; unread = λ _. refl; consumed = λ _. refl; ink = λ _. refl };
       }
 
   module _ (A : ℕ) (ts : List Turn) (enough : 6 * l .width ≤ A) (ok : properCalls A opened ts ≡ true) where
@@ -115,10 +111,10 @@ module _ (l : Limits) (stride : ℕ) (p : Palette) (opening : List ℕ) (opens :
     -- what the answers told is what the definition's caller came to
     going-there : (now .how ≡ stopped → ⊥) → there .how ≡ stopped → ⊥
     unfolding endTold
-    going-there going e = going (stood .how ∙ ap (λ (h : How). endTold h (calls.dcsEnd (there .state))) e)
+    going-there going e = going (stood .learned .how ∙ ap (λ (h : How). endTold h (calls.dcsEnd (there .state))) e)
 
     pub fine-there : isRefused (now .how) ≡ false → isRefused (there .how) ≡ false
-    fine-there fine = sym (refused-told (there .how) (calls.dcsEnd (there .state))) ∙ sym (ap isRefused (stood .how)) ∙ fine
+    fine-there fine = sym (refused-told (there .how) (calls.dcsEnd (there .state))) ∙ sym (ap isRefused (stood .learned .how)) ∙ fine
 
     -- Demand 3, its first sentence: the calls are at most the pieces and I / (A - 6W + 1), where I is the ink of the whole stream
     pub calls-bounded : length ts ≤ pieces ts + sequenceInk setting p (stream ts) / (A - 6 * l .width + 1)
@@ -161,7 +157,7 @@ module _ (l : Limits) (stride : ℕ) (p : Palette) (opening : List ℕ) (opens :
         → Finishes picture owner canvas (finishedBy session owner canvas) (oneShot setting p (stream ts))
     unfolding isRefused
     stream-finishes told owner =
-        let ended = told-end (there .how) (calls.dcsEnd (there .state)) (sym (stood .how) ∙ told) in
+        let ended = told-end (there .how) (calls.dcsEnd (there .state)) (sym (stood .learned .how) ∙ told) in
         subst (λ (shown : List ℕ). Finishes shown owner canvas (finishedBy session owner canvas) (oneShot setting p (stream ts)))
         (picture-shown (dcs-finish-drawing setting p A ts roomy proper-there (ended .0) (ended .2 .1)))
         (whole-finishes (λ e. let never : _≡_ {A = ℕ} 0 1 = cc in omega arith) (ap isRefused told) (ended .2 .1) owner)
@@ -171,7 +167,7 @@ module _ (l : Limits) (stride : ℕ) (p : Palette) (opening : List ℕ) (opens :
         → (n ≤ 3 → sequencePayload (stream ts) ≡ missing n) × (2 ≤ n → oneShot setting p (stream ts) ≡ meant.turnedDown n)
         × (canvas ≡ calls.shown stride (calls.drawingFound setting p (sequencePayload (stream ts))) opening)
     whole-refused told =
-        let e = told-refusal (there .how) (calls.dcsEnd (there .state)) (sym (stood .how) ∙ told) in
+        let e = told-refusal (there .how) (calls.dcsEnd (there .state)) (sym (stood .learned .how) ∙ told) in
         let numbers = dcs-refused setting p A ts proper-there e in (
           numbers .0,
           numbers .1,
@@ -180,4 +176,4 @@ module _ (l : Limits) (stride : ℕ) (p : Palette) (opening : List ℕ) (opens :
 
     -- Demand 3, its third sentence: the ink that the calls told adds up to I.
     pub whole-ink : (now .how ≡ stopped → ⊥) → isRefused (now .how) ≡ false → now .ink ≡ sequenceInk setting p (stream ts)
-    whole-ink going fine = stood .ink (fine-there fine) ∙ dcs-all-ink setting p A ts proper-there (going-there going)
+    whole-ink going fine = stood .learned .ink (fine-there fine) ∙ dcs-all-ink setting p A ts proper-there (going-there going)

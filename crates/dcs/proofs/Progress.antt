@@ -6,12 +6,11 @@ use mathlib.Core.Bool.{true, false}
 use mathlib.Core.Option.{Option, none, some}
 use mathlib.Core.List.{List, [], _∷_, _++_}
 use mathlib.Core.Path.{_≡_, refl, sym, ap, _∙_, subst}
-use borrow.Author.Tests.{le-leb}
 use lib.ListN.{length}
-use Rattle.canvas.proofs.Covers.{and-both}
 use Rattle.colours.specs.declared.Palette.{Palette}
 use Rattle.frame.specs.declared.Limits.{Limits}
 use Rattle.meaning.specs.Calls as calls
+use Rattle.meaning.specs.Callers as callers
 use Rattle.meaning.specs.Drawing.{Setting}
 use Rattle.meaning.specs.Reader.{Step, next, halt, refuse, How, readAll, stopped, halted, refusedBy, isRefused, isOngoing, Run, still, after, follow, readFrom, call, Turn, pieceOf, allowanceOf, stream, Caller, ranBy, mayCall, having, turn, turns}
 use Rattle.meaning.specs.Payload.{turnedDown}
@@ -24,13 +23,14 @@ use Rattle.meaning.proofs.DcsParts.{no-end}
 use Rattle.meaning.proofs.EachCall.{dcs-so-far}
 use Rattle.meaning.proofs.InkLaws.{Halts}
 use Rattle.meaning.proofs.SoFarLaws.{LeftBy, allRead, stoppedAt}
+use Rattle.meaning.proofs.ToldLaws.{endTold, told-stopped, told-more, answered-end, proper-one}
 use Rattle.payload.specs.History.{settingMeant, Finishes}
 use Rattle.payload.specs.Judge.{openable}
 use Rattle.dcs.specs.declared.Answer.the-variants as answers
 use Rattle.dcs.specs.declared.Ending.{Ending}
 use Rattle.dcs.specs.Session.{fedBy, finishedBy}
-use Rattle.dcs.specs.History.{endMeant, answerMeant, Held, called, callsOf, properCalls}
-use Rattle.dcs.proofs.Callers.{endTold, may-told, CallerStands, sessionAt, fed-feeds, calls-stand}
+use Rattle.dcs.specs.History.{endMeant, answerMeant, Held, tellHeld, called, properCalls}
+use Rattle.dcs.proofs.Callers.{CallerStands, sessionAt, fed-feeds, may-there, calls-stand}
 use Rattle.dcs.proofs.History as history
 use Rattle.dcs.proofs.Standing.{finish-stands, finished-meant, stands-long, stands-fit}
 
@@ -75,42 +75,6 @@ left-none : {S : Type 0} {step : S → ℕ → Step S} {rest : S → S} {h : How
 left-none allRead e = refl
 left-none (stoppedAt q inked) e = absurd (let never : _≡_ {A = ℕ} 0 1 = cc in omega arith)
 
--- an end that is told is the one that has come
-answered-end : (m : calls.Session Phase) (q : Run Phase) {n i : ℕ} {x : End} → calls.told n i (calls.ended x) ≡ calls.answered calls.dcsEnd m q .answer
-    → calls.dcsEnd (q .state) ≡ some x
-unfolding calls.answered calls.tells calls.atEnd
-answered-end m q {n} {i} {x} e = each (q .how) (calls.dcsEnd (q .state)) e
-  where
-    ending : How → Option End → calls.Answer End
-    ending how o = calls.answered (λ (r : Phase). o) m (record { state = q .state; consumed = q .consumed; ink = q .ink; how = how }) .answer
-
-    each : (how : How) (o : Option End) → calls.told n i (calls.ended x) ≡ ending how o → o ≡ some x
-    each readAll none z = cc
-    each readAll (some y) z = cc
-    each stopped o z = cc
-    each halted none z = cc
-    each halted (some y) z = cc
-    each (refusedBy k) o z = cc
-
--- what was told, of what a call came to
-told-stopped : (h : How) (o : Option End) → endTold h o ≡ stopped → h ≡ stopped
-unfolding endTold
-told-stopped readAll none e = e
-told-stopped readAll (some x) e = cc
-told-stopped stopped o e = refl
-told-stopped halted none e = cc
-told-stopped halted (some x) e = e
-told-stopped (refusedBy n) o e = e
-
-told-more : (h : How) (o : Option End) → endTold h o ≡ readAll → (o ≡ none) × (isRefused h ≡ false)
-unfolding endTold isRefused
-told-more readAll none e = (refl, refl)
-told-more readAll (some x) e = absurd (let never : _≡_ {A = ℕ} 0 1 = cc in omega arith)
-told-more stopped o e = absurd (let never : _≡_ {A = ℕ} 0 1 = cc in omega arith)
-told-more halted none e = (refl, refl)
-told-more halted (some x) e = absurd (let never : _≡_ {A = ℕ} 0 1 = cc in omega arith)
-told-more (refusedBy n) o e = absurd (let never : _≡_ {A = ℕ} 0 1 = cc in omega arith)
-
 -- finishing before the end is 8
 finish-before : (s : Setting) (t : Phase) → calls.dcsEnd t ≡ none → finishDcs s t ≡ turnedDown 8
 unfolding finishDcs calls.dcsEnd
@@ -146,11 +110,11 @@ module _ (l : Limits) (stride : ℕ) (p : Palette) (opening : List ℕ) (opens :
   nothing-unread e = go (there .how) refl
     where
       told : (h : How) → there .how ≡ h → readAll ≡ endTold h (calls.dcsEnd (there .state))
-      told h q = sym e ∙ stood .how ∙ ap (λ (h : How). endTold h (calls.dcsEnd (there .state))) q
+      told h q = sym e ∙ stood .learned .how ∙ ap (λ (h : How). endTold h (calls.dcsEnd (there .state))) q
 
       go : (h : How) → there .how ≡ h → now .unread ≡ []
       go readAll q =
-          stood .unread (ap isRefused q)
+          stood .learned .unread (ap isRefused q)
           ∙ left-none (dcs-so-far setting p A ts (history.roomy l stride p opening opens A ts enough ok) (history.proper-there l stride p opening opens A ts enough ok) (ap isOngoing q) .left) q
       go stopped q = let z : readAll ≡ stopped = told stopped q in absurd (let never : _≡_ {A = ℕ} 0 1 = cc in omega arith)
       go halted q =
@@ -164,7 +128,7 @@ module _ (l : Limits) (stride : ℕ) (p : Palette) (opening : List ℕ) (opens :
 
   -- So the end has not come.
   pub not-ended : now .how ≡ readAll → calls.dcsEnd (there .state) ≡ none
-  not-ended e = told-more (there .how) (calls.dcsEnd (there .state)) (sym (stood .how) ∙ e) .0
+  not-ended e = told-more (there .how) (calls.dcsEnd (there .state)) (sym (stood .learned .how) ∙ e) .0
 
   -- A finish is 8 there, which leaves the canvas as it was.
   pub unfinished : now .how ≡ readAll → (owner : Palette)
@@ -172,7 +136,7 @@ module _ (l : Limits) (stride : ℕ) (p : Palette) (opening : List ℕ) (opens :
   unfolding calls.dcsShownAtFinish settingMeant calls.settingFor calls.firstOf calls.misfits
   unfinished e owner =
       let m : calls.Session Phase = sessionAt l stride p opening there in
-      let fine : isRefused (there .how) ≡ false = told-more (there .how) (calls.dcsEnd (there .state)) (sym (stood .how) ∙ e) .1 in
+      let fine : isRefused (there .how) ≡ false = told-more (there .how) (calls.dcsEnd (there .state)) (sym (stood .learned .how) ∙ e) .1 in
       let answer : calls.finishDcsSession m (length (now .state .1)) ≡ turnedDown 8 =
       ap (calls.finishDcsSession m) (stands-long l stride p opening (stood .session))
       ∙ finished-meant l stride p opening m (length opening) {o = none} (rw (fine, stands-fit l stride p opening (stood .session)) refl)
@@ -182,19 +146,19 @@ module _ (l : Limits) (stride : ℕ) (p : Palette) (opening : List ℕ) (opens :
 
   module _ (t : Turn) (allowed : A ≤ allowanceOf t) (may : mayCall t (now .how) ≡ true) where
     live : isRefused (there .how) ≡ false
-    live = not-refused t (there .how) (sym (may-told t (there .how) (calls.dcsEnd (there .state))) ∙ sym (ap (mayCall t) (stood .how)) ∙ may)
+    live = not-refused t (there .how) (may-there l stride p opening now there stood t may)
 
     -- A stop has consumed a byte.
     pub stop-consumes : called now t .how ≡ stopped → now .consumed < called now t .consumed
-    unfolding callsOf turns turn having isRefused properCalls endTold
+    unfolding callers.callsOf turns turn having isRefused endTold
     stop-consumes e =
         let room = history.roomy l stride p opening opens A ts enough ok in
-        let next-one = calls-stand l stride p opening A room stood (t ∷ []) (and-both (le-leb A (allowanceOf t) allowed) (and-both may refl)) .0 in
-        let there-stops : turn (dcsStep setting p) (dcsRested setting) there t .how ≡ stopped = told-stopped _ _ (sym (next-one .how) ∙ e) in
+        let next-one = calls-stand l stride p opening A room stood (t ∷ []) (proper-one tellHeld A now t allowed may) .0 in
+        let there-stops : turn (dcsStep setting p) (dcsRested setting) there t .how ≡ stopped = told-stopped _ _ (sym (next-one .learned .how) ∙ e) in
         omega (
           arith,
-          stood .consumed live,
-          next-one .consumed (ap isRefused there-stops),
+          stood .learned .consumed live,
+          next-one .learned .consumed (ap isRefused there-stops),
           call-stop-reads (dcsStep setting p) (dcsRested setting) (6 * setting .limits .width) (dcs-caps setting p) (allowanceOf t) (there .state) (there .unread ++ pieceOf t) (omega arith) there-stops,
         )
 
@@ -204,5 +168,5 @@ module _ (l : Limits) (stride : ℕ) (p : Palette) (opening : List ℕ) (opens :
     unfolding turn having answerMeant
     end-told {n} {i} {e} k =
         let room = history.roomy l stride p opening opens A ts enough ok in
-        answered-end (sessionAt l stride p opening there) _
+        answered-end calls.dcsEnd (sessionAt l stride p opening there) _
         (ap answerMeant (sym k) ∙ fed-feeds l stride p opening stood (allowanceOf t) (pieceOf t) live (omega (arith, room)) .answer)

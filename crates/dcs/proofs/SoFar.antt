@@ -15,10 +15,11 @@ use Rattle.meaning.specs.Reader.{How, readAll, stopped, halted, refusedBy, isAl
 use Rattle.meaning.specs.Sequence.{sequencePayload, sequenceInk}
 use Rattle.meaning.specs.Sessions.{End, Phase}
 use Rattle.meaning.proofs.DcsSoFar.{dcs-settled-so-far, dcs-stopped-drawn, dcs-ended-drawn}
+use Rattle.meaning.proofs.ToldLaws.{endTold}
 use Rattle.payload.specs.History.{settingMeant}
 use Rattle.payload.specs.Judge.{openable}
 use Rattle.dcs.specs.History.{Held, properCalls}
-use Rattle.dcs.proofs.Callers.{endTold, CallerStands}
+use Rattle.dcs.proofs.Callers.{CallerStands}
 use Rattle.dcs.proofs.History as history
 
 module _ (l : Limits) (stride : ℕ) (p : Palette) (opening : List ℕ) (opens : openable l stride (length opening) ≡ true)
@@ -61,7 +62,7 @@ module _ (l : Limits) (stride : ℕ) (p : Palette) (opening : List ℕ) (opens :
 
   -- the definition's caller has consumed as many
   same-consumed : isRefused (now .how) ≡ false → there .consumed ≡ now .consumed
-  same-consumed fine = sym (stood .consumed (fine-there fine))
+  same-consumed fine = sym (stood .learned .consumed (fine-there fine))
 
   so-far-settled : isRefused (now .how) ≡ false → calls.drawingSettled setting (there .state) ≡ soFar
   so-far-settled fine =
@@ -78,7 +79,7 @@ module _ (l : Limits) (stride : ℕ) (p : Palette) (opening : List ℕ) (opens :
   nothing-pending : isAll (now .how) ≡ false → isRefused (now .how) ≡ false → calls.drawingOf (there .state) ≡ calls.drawingSettled setting (there .state)
   unfolding isAll isRefused endTold
   nothing-pending left fine =
-      go (there .how) (calls.dcsEnd (there .state)) refl refl (sym (ap isAll (stood .how)) ∙ left) (sym (ap isRefused (stood .how)) ∙ fine)
+      go (there .how) (calls.dcsEnd (there .state)) refl refl (sym (ap isAll (stood .learned .how)) ∙ left) (sym (ap isRefused (stood .learned .how)) ∙ fine)
     where
       ended : (there .how ≡ stopped → ⊥) → {e : End} → calls.dcsEnd (there .state) ≡ some e
           → calls.drawingOf (there .state) ≡ calls.drawingSettled setting (there .state)
@@ -103,6 +104,6 @@ module _ (l : Limits) (stride : ℕ) (p : Palette) (opening : List ℕ) (opens :
   -- The ink that the calls told is that of the bytes consumed so far.
   pub so-far-ink : isRefused (now .how) ≡ false → now .ink ≡ sequenceInk setting p consumed
   so-far-ink fine =
-      stood .ink (fine-there fine)
+      stood .learned .ink (fine-there fine)
       ∙ dcs-settled-so-far setting p A ts roomy proper-there (fine-there fine) .1
       ∙ ap (λ (n : ℕ). sequenceInk setting p (take n (stream ts))) (same-consumed fine)

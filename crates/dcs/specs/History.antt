@@ -1,11 +1,10 @@
 -- What the code's values mean, and when a DCS session and its canvas stand for a session of the definition.
-use Prim.Native.Nat.{ℕ, _+_}
-use mathlib.Core.Bool.{Bool, true, false, _&&_}
+use Prim.Native.Nat.{ℕ}
+use mathlib.Core.Bool.{Bool, true, false}
 use mathlib.Core.Option.{none}
-use mathlib.Core.List.{List, [], _∷_, _++_}
+use mathlib.Core.List.{List, []}
 use mathlib.Core.Path.{_≡_}
-use lib.Dec.{leb}
-use lib.ListN.{length, drop}
+use lib.ListN.{length}
 use Rattle.numbers.specs.declared.Parameters.{Parameters}
 use Rattle.numbers.specs.Read.{Read}
 use Rattle.colours.specs.declared.Palette.{Palette}
@@ -13,8 +12,9 @@ use Rattle.frame.specs.declared.Limits.{Limits}
 use Rattle.frame.specs.declared.Refusal.{Refusal}
 use Rattle.frame.specs.Numbers.{numberOf}
 use Rattle.meaning.specs.Calls as calls
+use Rattle.meaning.specs.Callers as callers
 use Rattle.meaning.specs.Histories.{Ask}
-use Rattle.meaning.specs.Reader.{How, readAll, stopped, halted, refusedBy, Turn, pieceOf, allowanceOf, Caller, mayCall}
+use Rattle.meaning.specs.Reader.{Turn, Caller}
 use Rattle.meaning.specs.Sessions as sessions
 use Rattle.payload.specs.declared.Life.the-variants as lives
 use Rattle.payload.specs.declared.Opening.the-variants as openings
@@ -92,81 +92,43 @@ pub record Feeds (l : Limits) (stride : ℕ) (p : Palette) (opening : List ℕ) 
   pub answer : answerMeant (x .0 .answer) ≡ y .answer
   pub session : Stands l stride p opening (x .0 .session) (x .1) (y .session)
 
--- ---- any calls, the canvas given back each time as it was left
-
--- the answers, and the session and the canvas after them
-pub record Past : Type 0 where
-  pub answers : List Answer
-  pub session : Session
-  pub canvas : List ℕ
-
-unfoldable pub fedAll : Session → List ℕ → List Ask → Past
-fedAll s l [] = record { answers = []; session = s; canvas = l }
-fedAll s l (c ∷ cs) =
-    let x : Fed × List ℕ = fedBy s l (c .bytes) (c .allowance) in
-    let later : Past = fedAll (x .0 .session) (x .1) cs in
-    record { answers = x .0 .answer ∷ later .answers; session = later .session; canvas = later .canvas }
-
--- the same of the definition, on a canvas of so many bytes
-pub record PastMeant : Type 0 where
-  pub answers : List (calls.Answer sessions.End)
-  pub session : calls.Session sessions.Phase
-
-unfoldable pub fedAllMeant : Palette → calls.Session sessions.Phase → ℕ → List Ask → PastMeant
-fedAllMeant p m size [] = record { answers = []; session = m }
-fedAllMeant p m size (c ∷ cs) =
-    let y : calls.Fed sessions.Phase sessions.End = calls.feedDcs p m size (c .allowance) (c .bytes) in
-    let later : PastMeant = fedAllMeant p (y .session) size cs in
-    record { answers = y .answer ∷ later .answers; session = later .session }
-
--- ---- a caller that presents what was left unread (document 01, 'Ink')
-
--- how a call came to its end, as its answer tells
-unfoldable pub howTold : calls.Answer sessions.End → How
-howTold (calls.told consumed ink calls.needsMore) = readAll
-howTold (calls.told consumed ink calls.stoppedForInk) = stopped
-howTold (calls.told consumed ink (calls.ended e)) = halted
-howTold (calls.refused n) = refusedBy n
-
--- the counts that it tells; a refusal tells none
-unfoldable pub consumedTold : calls.Answer sessions.End → ℕ
-consumedTold (calls.told consumed ink status) = consumed
-consumedTold (calls.refused n) = 0
-
-unfoldable pub inkTold : calls.Answer sessions.End → ℕ
-inkTold (calls.told consumed ink status) = ink
-inkTold (calls.refused n) = 0
+-- ---- callers
 
 -- what a caller holds: a session and its canvas
 abbrev pub Held : Type 0
 Held = Session × List ℕ
 
--- where a caller stands after a feed of what it presented, with the answer's meaning
-unfoldable pub afterFeed : Caller Held → List ℕ → Held → calls.Answer sessions.End → Caller Held
-unfolding howTold consumedTold inkTold
-afterFeed c presented held x =
-    record {
-      state = held;
-      unread = drop (consumedTold x) presented;
-      consumed = c .consumed + consumedTold x;
-      ink = c .ink + inkTold x;
-      how = howTold x;
-    }
+-- feeding it, and the same with the answer's meaning
+abbrev pub feedHeld : callers.Feed Held Answer
+feedHeld h bs a = let x : Fed × List ℕ = fedBy (h .0) (h .1) bs a in ((x .0 .session, x .1), x .0 .answer)
 
-unfoldable pub called : Caller Held → Turn → Caller Held
-unfolding afterFeed
-called c t =
-    let presented : List ℕ = c .unread ++ pieceOf t in
-    let x : Fed × List ℕ = fedBy (c .state .0) (c .state .1) presented (allowanceOf t) in
-    afterFeed c presented (x .0 .session, x .1) (answerMeant (x .0 .answer))
+abbrev pub tellHeld : callers.Feed Held (calls.Answer sessions.End)
+tellHeld h bs a = let x : Held × Answer = feedHeld h bs a in (x .0, answerMeant (x .1))
 
-unfoldable pub callsOf : Caller Held → List Turn → Caller Held
-unfolding called
-callsOf c [] = c
-callsOf c (t ∷ ts) = callsOf (called c t) ts
+-- feeding the definition's session, on a canvas of so many bytes
+abbrev pub feedMeant : Palette → ℕ → callers.Feed (calls.Session sessions.Phase) (calls.Answer sessions.End)
+feedMeant p size m bs a = let y : calls.Fed sessions.Phase sessions.End = calls.feedDcs p m size a bs in (y .session, y .answer)
 
--- each call is one that may be made after the answer before it, with an allowance of at least A
-unfoldable pub properCalls : ℕ → Caller Held → List Turn → Bool
-unfolding called
-properCalls A c [] = true
-properCalls A c (t ∷ ts) = leb A (allowanceOf t) && (mayCall t (c .how) && properCalls A (called c t) ts)
+-- any calls, the canvas given back each time as it was left
+abbrev pub Past : Type 0
+Past = callers.Past Held Answer
+
+abbrev pub fedAll : Session → List ℕ → List Ask → Past
+fedAll s l = callers.fedAll feedHeld (s, l)
+
+-- the same of the definition
+abbrev pub PastMeant : Type 0
+PastMeant = callers.Past (calls.Session sessions.Phase) (calls.Answer sessions.End)
+
+abbrev pub fedAllMeant : Palette → calls.Session sessions.Phase → ℕ → List Ask → PastMeant
+fedAllMeant p m size = callers.fedAll (feedMeant p size) m
+
+-- the calls of a caller that presents what was left unread
+abbrev pub called : Caller Held → Turn → Caller Held
+called = callers.called tellHeld
+
+abbrev pub callsOf : Caller Held → List Turn → Caller Held
+callsOf = callers.callsOf tellHeld
+
+abbrev pub properCalls : ℕ → Caller Held → List Turn → Bool
+properCalls = callers.properCalls tellHeld

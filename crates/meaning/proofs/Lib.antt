@@ -3,6 +3,7 @@ pub mod RunLaws
 pub mod CallLaws
 pub mod CallerLaws
 pub mod HistoryLaws
+pub mod ToldLaws
 pub mod SoFarLaws
 pub mod ReaderLaws
 pub mod CommandLaws

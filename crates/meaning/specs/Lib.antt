@@ -7,3 +7,4 @@ pub mod Sessions
 pub mod OneShot
 pub mod Sequence
 pub mod Calls
+pub mod Callers

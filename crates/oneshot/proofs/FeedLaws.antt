@@ -9,6 +9,7 @@ use lib.Dec.{eqb, leb}
 use lib.ListN.{length, take, drop, length-drop, take-append-drop}
 use lib.Seq.{drop-drop, take-all, length-take-le, drop-append-le, drop-length}
 use Rattle.numbers.proofs.Laws.{cond-yes, cond-no}
+use Rattle.meaning.specs.Callers.{howTold, consumedTold}
 use Rattle.meaning.specs.Drawing.{Setting}
 use Rattle.meaning.specs.Reader.{readAll, stopped, halted, isRefused, Run, still, after, readFrom, call}
 use Rattle.meaning.specs.Sessions.{Reading, rested, payloadStep}
@@ -19,7 +20,7 @@ use Rattle.payload.specs.declared.Answer.{Answer}
 use Rattle.payload.specs.declared.Answer.the-variants as answers
 use Rattle.payload.specs.declared.Fed.{Fed}
 use Rattle.payload.specs.declared.Session.{Session}
-use Rattle.payload.specs.History.{answerMeant, Stands, howTold, consumedTold}
+use Rattle.payload.specs.History.{answerMeant, Stands}
 use Rattle.payload.specs.Session.{fedBy}
 use Rattle.oneshot.specs.OneShot.{pieceEnd}
 use Rattle.oneshot.proofs.StandLaws.{sessionIn, Lives, Ran, read-on, stopped-on, ran, stop-consumes}

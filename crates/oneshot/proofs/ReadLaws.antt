@@ -14,6 +14,7 @@ use Rattle.frame.specs.declared.Limits.{Limits}
 use Rattle.frame.specs.declared.Refusal.{Refusal}
 use Rattle.frame.specs.Numbers.{numberOf}
 use Rattle.meaning.specs.Calls as calls
+use Rattle.meaning.specs.Callers.{howTold}
 use Rattle.meaning.specs.Commands.{argued, Begun, closed}
 use Rattle.meaning.specs.Drawing.{Setting, Drawing, Outcome, Drawn, drawn, refused, andThen, drawCommand, drawAll}
 use Rattle.meaning.specs.Payload as meant
@@ -29,7 +30,7 @@ use Rattle.payload.specs.declared.Finishing.the-variants as finishes
 use Rattle.payload.specs.declared.Opened.{Opened}
 use Rattle.payload.specs.declared.Session.{Session}
 use Rattle.payload.specs.declared.Settings.{Settings}
-use Rattle.payload.specs.History.{parametersMeant, limitsMeant, settingMeant, answerMeant, reportMeant, Stands, Finishes, pictures, declines, howTold}
+use Rattle.payload.specs.History.{parametersMeant, limitsMeant, settingMeant, answerMeant, reportMeant, Stands, Finishes, pictures, declines}
 use Rattle.payload.specs.Judge.{openable}
 use Rattle.payload.specs.Session.{backgroundFor, sessionFor, openedBy, fedBy, finishedBy}
 use Rattle.payload.proofs.Answer as AnswerType

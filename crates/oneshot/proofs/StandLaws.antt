@@ -6,18 +6,19 @@ use mathlib.Core.Option.{none, some}
 use mathlib.Core.Path.{_≡_, refl, sym, ap, subst, _∙_}
 use native.Mathlib.Nat.{zero-add}
 use native.Mathlib.Omega.{arith}
-use borrow.Author.Tests.{le-leb}
 use lib.ListN.{length}
-use Rattle.canvas.proofs.Covers.{and-both}
 use Rattle.meaning.specs.Calls as calls
+use Rattle.meaning.specs.Callers as callers
+use Rattle.meaning.specs.Callers.{howTold, consumedTold, afterFeed}
 use Rattle.meaning.specs.Drawing.{Setting}
 use Rattle.meaning.specs.Reader.{How, readAll, stopped, halted, isRefused, Run, call, fresh, pieceOf, allowanceOf, Caller, mayCall, having, turn, turns}
 use Rattle.meaning.specs.Sessions.{Reading, rested, payloadStep, finishReading}
 use Rattle.meaning.proofs.CallLaws.{call-stop-reads}
 use Rattle.meaning.proofs.Demand3.{payload-caps}
+use Rattle.meaning.proofs.ToldLaws.{proper-one}
 use Rattle.payload.specs.declared.Fed.{Fed}
 use Rattle.payload.specs.declared.Session.{Session}
-use Rattle.payload.specs.History.{answerMeant, Stands, howTold, consumedTold, Held, afterFeed, called, callsOf, properCalls}
+use Rattle.payload.specs.History.{answerMeant, Stands, Held, tellWith, callsOf, properCalls}
 use Rattle.payload.specs.Session.{fedBy}
 use Rattle.payload.proofs.Callers.{CallerStands, calls-stand}
 use Rattle.payload.proofs.Finishings.{finished-meant}
@@ -60,26 +61,23 @@ module _ {opening : List ℕ} {t : Setting} {r : Reading} {s : Session} {l : Lis
       record {
         session = k .stands;
         parameters = refl;
-        how = refl;
+        learned = record { how = refl; unread = λ _. refl; consumed = λ _. refl; ink = λ _. refl };
         over = λ e fine. absurd (k .going e);
         stays = λ e. absurd (read-on refl e);
-        unread = λ _. refl;
-        consumed = λ _. refl;
-        ink = λ _. refl;
       }
 
   proper : properCalls a code (fresh bs a ∷ []) ≡ true
-  unfolding properCalls code mayCall allowanceOf
-  proper = and-both (le-leb a a (omega arith)) (and-both refl refl)
+  unfolding code mayCall allowanceOf
+  proper = proper-one (tellWith fedBy) a code (fresh bs a) (omega arith) refl
 
   pub ran : {x : Fed} {l₁ : List ℕ} → (x, l₁) ≡ fedBy s l bs a → Ran opening t (call (payloadStep t) (rested t) a r bs) x l₁
-  unfolding code meant callsOf called afterFeed turns turn having pieceOf allowanceOf
+  unfolding code meant callers.callsOf callers.called afterFeed turns turn having pieceOf allowanceOf
   ran e =
       let h : CallerStands opening t (r .parameters) (callsOf code (fresh bs a ∷ [])) (turns (payloadStep t) (rested t) meant (fresh bs a ∷ [])) = calls-stand a enough before (fresh bs a ∷ []) proper .0 in
       subst (λ (y : Fed × List ℕ). Ran opening t (call (payloadStep t) (rested t) a r bs) (y .0) (y .1)) (sym e)
       (record {
-        how = h .how;
-        consumed = λ fine. sym (zero-add _) ∙ h .consumed fine ∙ zero-add _;
+        how = h .learned .how;
+        consumed = λ fine. sym (zero-add _) ∙ h .learned .consumed fine ∙ zero-add _;
         stands = h .session;
         over = h .over;
       })

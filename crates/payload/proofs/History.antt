@@ -2,7 +2,7 @@
 use Prim.Native.Nat.{ℕ, _+_, _-_, _*_, _/_, _≤_}
 use mathlib.Core.Bool.{true, false}
 use mathlib.Core.Option.{none, some}
-use mathlib.Core.List.{List, [], _∷_, map}
+use mathlib.Core.List.{List}
 use mathlib.Core.Path.{_≡_, refl, sym, ap, ap₂, _∙_, subst}
 use lib.ListN.{length, take}
 use Rattle.colours.specs.declared.Palette.{Palette}
@@ -17,11 +17,13 @@ use Rattle.meaning.specs.Sessions.{Reading, opened, settled, finishReading}
 use Rattle.meaning.proofs.Demand3.{payload-calls, payload-outcome, payload-refused, payload-all-ink, payload-consumed}
 use Rattle.meaning.proofs.EachCall.{payload-so-far, payload-drawn-so-far, payload-ink-so-far}
 use Rattle.meaning.proofs.PayloadLaws.{outcome-settled}
+use Rattle.meaning.proofs.ToldLaws as toldLaws
+use Rattle.meaning.proofs.ToldLaws.{all-pass}
 use Rattle.payload.specs.declared.Session.{Session}
 use Rattle.payload.specs.declared.Settings.{Settings}
 use Rattle.payload.specs.Judge.{openable}
 use Rattle.payload.specs.Session.{openedBy, fedBy, finishedBy}
-use Rattle.payload.specs.History.{parametersMeant, limitsMeant, settingMeant, answerMeant, Stands, Feeds, Finishes, Past, fedAll, PastMeant, fedAllMeant, Held, callsOf, properCalls}
+use Rattle.payload.specs.History.{parametersMeant, limitsMeant, settingMeant, answerMeant, Stands, Feeds, Finishes, Held, feedWith, feedMeant, Past, fedAll, PastMeant, fedAllMeant, callsOf, properCalls}
 use Rattle.payload.proofs.Openings.{opened-stands}
 use Rattle.payload.proofs.Judgements.{stands-shows, stands-long, stands-fit}
 use Rattle.payload.proofs.Feedings.{feed-stands}
@@ -31,37 +33,34 @@ use Rattle.payload.proofs.Callers.{sessionAt, CallerStands, calls-stand
 -- ---- any calls
 
 -- the answers mean the definition's, and session and canvas stand for its session
-pub record Passes (opening : List ℕ) (x : Past) (y : PastMeant) : Type 0 where
-  pub answers : map answerMeant (x .answers) ≡ y .answers
-  pub session : Stands opening (x .session) (x .canvas) (y .session)
+abbrev pub Passes : List ℕ → Past → PastMeant → Type 0
+Passes opening = toldLaws.Passes (λ (h : Held) (m : calls.Session Reading). Stands opening (h .0) (h .1) m) answerMeant
 
 -- any calls of the code are the definition's
 pub history-stands : {opening : List ℕ} {s : Session} {l : List ℕ} {m : calls.Session Reading} → Stands opening s l m → (cs : List Ask)
     → Passes opening (fedAll s l cs) (fedAllMeant m (length opening) cs)
-unfolding fedAll fedAllMeant
-history-stands k [] = record { answers = refl; session = k }
-history-stands {opening} {s} {l} {m} k (c ∷ cs) =
-    let f : Feeds opening (fedBy s l (c .bytes) (c .allowance)) (calls.feedPayload m (length opening) (c .allowance) (c .bytes)) =
-    subst (λ (n : ℕ). Feeds opening (fedBy s l (c .bytes) (c .allowance)) (calls.feedPayload m n (c .allowance) (c .bytes))) (stands-long k)
-    (feed-stands k (c .bytes) (c .allowance)) in
-    let later = history-stands (f .session) cs in
-    record { answers = ap₂ _∷_ (f .answer) (later .answers); session = later .session }
+history-stands {opening} =
+    all-pass (feedWith fedBy) (feedMeant (length opening)) (λ (h : Held) (m : calls.Session Reading). Stands opening (h .0) (h .1) m) answerMeant
+    (λ h m k bs a.
+    let f : Feeds opening (fedBy (h .0) (h .1) bs a) (calls.feedPayload m (length opening) a bs) =
+    subst (λ (n : ℕ). Feeds opening (fedBy (h .0) (h .1) bs a) (calls.feedPayload m n a bs)) (stands-long k) (feed-stands k bs a) in
+    (f .answer, f .session))
 
 -- so after any calls the canvas shows the drawing of the definition's state
 pub history-shows : {opening : List ℕ} {s : Session} {l : List ℕ} {m : calls.Session Reading} → Stands opening s l m → (cs : List Ask)
-    → fedAll s l cs .canvas ≡ calls.payloadShown (fedAllMeant m (length opening) cs .session) opening
-history-shows k cs = stands-shows (history-stands k cs .session)
+    → fedAll s l cs .state .1 ≡ calls.payloadShown (fedAllMeant m (length opening) cs .state) opening
+history-shows k cs = stands-shows (history-stands k cs .state)
 
 -- and a finish then is the definition's
 pub history-finishes : {opening : List ℕ} {s : Session} {l : List ℕ} {m : calls.Session Reading} → Stands opening s l m → (cs : List Ask) (owner : Palette)
-    → Finishes (calls.payloadShownAtFinish (fedAllMeant m (length opening) cs .session) opening) owner (fedAll s l cs .canvas)
-    (finishedBy (fedAll s l cs .session) owner (fedAll s l cs .canvas)) (calls.finishPayload (fedAllMeant m (length opening) cs .session) (length opening))
+    → Finishes (calls.payloadShownAtFinish (fedAllMeant m (length opening) cs .state) opening) owner (fedAll s l cs .state .1)
+    (finishedBy (fedAll s l cs .state .0) owner (fedAll s l cs .state .1)) (calls.finishPayload (fedAllMeant m (length opening) cs .state) (length opening))
 history-finishes {opening} {s} {l} {m} k cs owner =
-    let after = history-stands k cs .session in
+    let after = history-stands k cs .state in
     subst
     (λ (n : ℕ).
-    Finishes (calls.payloadShownAtFinish (fedAllMeant m (length opening) cs .session) opening) owner (fedAll s l cs .canvas)
-    (finishedBy (fedAll s l cs .session) owner (fedAll s l cs .canvas)) (calls.finishPayload (fedAllMeant m (length opening) cs .session) n))
+    Finishes (calls.payloadShownAtFinish (fedAllMeant m (length opening) cs .state) opening) owner (fedAll s l cs .state .1)
+    (finishedBy (fedAll s l cs .state .0) owner (fedAll s l cs .state .1)) (calls.finishPayload (fedAllMeant m (length opening) cs .state) n))
     (stands-long after)
     (finish-stands after owner)
 
@@ -88,12 +87,9 @@ module _ (l : Limits) (stride : ℕ) (o : Settings) (p : Palette) (opening : Lis
       record {
         session = opened-stands l stride o p opening opens;
         parameters = refl;
-        how = refl;
+        learned = record { how = refl; unread = λ _. refl; consumed = λ _. refl; ink = λ _. refl };
         over = λ e fine. cc;
         stays = λ e k zs. cc;
-        unread = λ _. refl;
-        consumed = λ _. refl;
-        ink = λ _. refl;
       }
 
   module _ (A : ℕ) (ts : List Turn) (enough : 6 * l .width ≤ A) (ok : properCalls A atStart ts ≡ true) where
@@ -129,10 +125,10 @@ module _ (l : Limits) (stride : ℕ) (o : Settings) (p : Palette) (opening : Lis
     proper-there = calls-stand A roomy start-stands ts ok .1
 
     fine-there : isRefused (now .how) ≡ false → isRefused (there .how) ≡ false
-    fine-there fine = sym (ap isRefused (stood .how)) ∙ fine
+    fine-there fine = sym (ap isRefused (stood .learned .how)) ∙ fine
 
     going-there : (now .how ≡ stopped → ⊥) → there .how ≡ stopped → ⊥
-    going-there going e = going (stood .how ∙ e)
+    going-there going e = going (stood .learned .how ∙ e)
 
     -- Demand 3, its first sentence: the calls are at most the pieces and I / (A - 6W + 1), where I is the ink of the whole stream
     pub calls-bounded : length ts ≤ pieces ts + meant.payloadInk setting given p (stream ts) / (A - 6 * l .width + 1)
@@ -143,7 +139,7 @@ module _ (l : Limits) (stride : ℕ) (o : Settings) (p : Palette) (opening : Lis
     so-far-settled : isRefused (now .how) ≡ false → settled setting (there .state) ≡ soFar
     so-far-settled fine =
         payload-so-far setting given p A ts roomy proper-there (fine-there fine)
-        ∙ ap (λ (n : ℕ). meant.payload setting given p (take n (stream ts))) (sym (stood .consumed (fine-there fine)))
+        ∙ ap (λ (n : ℕ). meant.payload setting given p (take n (stream ts))) (sym (stood .learned .consumed (fine-there fine)))
 
     -- After each call that is not refused: the canvas shows a drawing that, with the pending command carried out, is what the bytes consumed so
     -- far mean.
@@ -157,15 +153,15 @@ module _ (l : Limits) (stride : ℕ) (o : Settings) (p : Palette) (opening : Lis
     so-far-shown left fine =
         stands-shows (stood .session)
         ∙ ap shownOf
-        (payload-drawn-so-far setting given p A ts roomy proper-there (sym (ap isAll (stood .how)) ∙ left) (fine-there fine)
-        ∙ ap (λ (n : ℕ). meant.payload setting given p (take n (stream ts)) .drawing) (sym (stood .consumed (fine-there fine))))
+        (payload-drawn-so-far setting given p A ts roomy proper-there (sym (ap isAll (stood .learned .how)) ∙ left) (fine-there fine)
+        ∙ ap (λ (n : ℕ). meant.payload setting given p (take n (stream ts)) .drawing) (sym (stood .learned .consumed (fine-there fine))))
 
     -- The ink that the calls told is that of the bytes consumed so far.
     pub so-far-ink : isRefused (now .how) ≡ false → now .ink ≡ meant.payloadInk setting given p (take (now .consumed) (stream ts))
     so-far-ink fine =
-        stood .ink (fine-there fine)
+        stood .learned .ink (fine-there fine)
         ∙ payload-ink-so-far setting given p A ts roomy proper-there (fine-there fine)
-        ∙ ap (λ (n : ℕ). meant.payloadInk setting given p (take n (stream ts))) (sym (stood .consumed (fine-there fine)))
+        ∙ ap (λ (n : ℕ). meant.payloadInk setting given p (take n (stream ts))) (sym (stood .learned .consumed (fine-there fine)))
 
     -- a finish after calls that were not refused
     finish-there : isRefused (now .how) ≡ false → (owner : Palette) {out : Outcome} → settled setting (there .state) ≡ out
@@ -200,14 +196,14 @@ module _ (l : Limits) (stride : ℕ) (o : Settings) (p : Palette) (opening : Lis
     pub whole-refused : {n : ℕ} → now .how ≡ refusedBy n → (whole .refusal ≡ some n) × (canvas ≡ shownOf (whole .drawing))
     unfolding calls.payloadShown settingMeant calls.settingFor
     whole-refused e =
-        let out = payload-refused setting given p A ts proper-there (sym (stood .how) ∙ e) in
+        let out = payload-refused setting given p A ts proper-there (sym (stood .learned .how) ∙ e) in
         (ap (λ (x : Outcome). x .refusal) out, stands-shows (stood .session) ∙ ap (λ (x : Outcome). shownOf (x .drawing)) (sym out))
 
     -- Demand 3, its third sentence: the ink that the calls told adds up to I.
     pub whole-ink : (now .how ≡ stopped → ⊥) → isRefused (now .how) ≡ false → now .ink ≡ meant.payloadInk setting given p (stream ts)
-    whole-ink going fine = stood .ink (fine-there fine) ∙ payload-all-ink setting given p A ts proper-there (going-there going)
+    whole-ink going fine = stood .learned .ink (fine-there fine) ∙ payload-all-ink setting given p A ts proper-there (going-there going)
 
     -- and the bytes that they told are those before the payload's end
     pub whole-consumed : (now .how ≡ stopped → ⊥) → isRefused (now .how) ≡ false → now .consumed ≡ length (body (stream ts))
     whole-consumed going fine =
-        stood .consumed (fine-there fine) ∙ payload-consumed setting given p A ts proper-there (going-there going) (fine-there fine)
+        stood .learned .consumed (fine-there fine) ∙ payload-consumed setting given p A ts proper-there (going-there going) (fine-there fine)

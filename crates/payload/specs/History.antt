@@ -1,21 +1,20 @@
 -- What the code's values mean, and when a session and its canvas stand for a session of the definition.
-use Prim.Native.Nat.{ℕ, _+_}
-use mathlib.Core.Bool.{Bool, true, false, _&&_}
+use Prim.Native.Nat.{ℕ}
+use mathlib.Core.Bool.{Bool, true, false}
 use mathlib.Core.Option.{Option, none, some}
-use mathlib.Core.List.{List, [], _∷_, _++_}
+use mathlib.Core.List.{List}
 use mathlib.Core.Path.{_≡_}
-use lib.Dec.{leb}
-use lib.ListN.{length, drop}
 use Rattle.colours.specs.declared.Palette.{Palette}
 use Rattle.canvas.specs.Picture.{areaOf}
 use Rattle.frame.specs.declared.Limits.{Limits}
 use Rattle.frame.specs.declared.Refusal.{Refusal}
 use Rattle.frame.specs.Numbers.{numberOf}
 use Rattle.meaning.specs.Calls as calls
+use Rattle.meaning.specs.Callers as callers
 use Rattle.meaning.specs.Drawing as drawing
 use Rattle.meaning.specs.Histories.{Ask}
 use Rattle.meaning.specs.Payload as meant
-use Rattle.meaning.specs.Reader.{How, readAll, stopped, halted, refusedBy, Turn, pieceOf, allowanceOf, Caller, mayCall}
+use Rattle.meaning.specs.Reader.{Turn, Caller}
 use Rattle.meaning.specs.Sessions.{Reading}
 use Rattle.agreement.specs.Same.{SameDrawing, SameBegun}
 use Rattle.payload.specs.declared.Answer.{Answer}
@@ -117,81 +116,44 @@ pub data Finishes (picture : List ℕ) (owner : Palette) (l : List ℕ) : Finish
   declines : (n : Refusal)
       → Finishes picture owner l (record { answer = finishes.Refused n; palette = owner }, l) (meant.turnedDown (numberOf n))
 
--- ---- any calls, the canvas given back each time as it was left
-
--- the answers, and the session and the canvas after them
-pub record Past : Type 0 where
-  pub answers : List Answer
-  pub session : Session
-  pub canvas : List ℕ
-
-unfoldable pub fedAll : Session → List ℕ → List Ask → Past
-fedAll s l [] = record { answers = []; session = s; canvas = l }
-fedAll s l (c ∷ cs) =
-    let x : Fed × List ℕ = fedBy s l (c .bytes) (c .allowance) in
-    let later : Past = fedAll (x .0 .session) (x .1) cs in
-    record { answers = x .0 .answer ∷ later .answers; session = later .session; canvas = later .canvas }
-
--- the same of the definition, on a canvas of so many bytes
-pub record PastMeant : Type 0 where
-  pub answers : List (calls.Answer ℕ)
-  pub session : calls.Session Reading
-
-unfoldable pub fedAllMeant : calls.Session Reading → ℕ → List Ask → PastMeant
-fedAllMeant m size [] = record { answers = []; session = m }
-fedAllMeant m size (c ∷ cs) =
-    let y : calls.Fed Reading ℕ = calls.feedPayload m size (c .allowance) (c .bytes) in
-    let later : PastMeant = fedAllMeant (y .session) size cs in
-    record { answers = y .answer ∷ later .answers; session = later .session }
-
--- ---- a caller that presents what was left unread (document 01, 'Ink')
-
--- how a call came to its end, as its answer tells
-unfoldable pub howTold : calls.Answer ℕ → How
-howTold (calls.told consumed ink calls.needsMore) = readAll
-howTold (calls.told consumed ink calls.stoppedForInk) = stopped
-howTold (calls.told consumed ink (calls.ended b)) = halted
-howTold (calls.refused n) = refusedBy n
-
--- the counts that it tells; a refusal tells none
-unfoldable pub consumedTold : calls.Answer ℕ → ℕ
-consumedTold (calls.told consumed ink status) = consumed
-consumedTold (calls.refused n) = 0
-
-unfoldable pub inkTold : calls.Answer ℕ → ℕ
-inkTold (calls.told consumed ink status) = ink
-inkTold (calls.refused n) = 0
+-- ---- callers
 
 -- what a caller holds: a session and its canvas
 abbrev pub Held : Type 0
 Held = Session × List ℕ
 
--- where a caller stands after a feed of what it presented, with the answer's meaning
-unfoldable pub afterFeed : Caller Held → List ℕ → Held → calls.Answer ℕ → Caller Held
-unfolding howTold consumedTold inkTold
-afterFeed c presented held x =
-    record {
-      state = held;
-      unread = drop (consumedTold x) presented;
-      consumed = c .consumed + consumedTold x;
-      ink = c .ink + inkTold x;
-      how = howTold x;
-    }
+-- feeding it by a function of a session, a canvas, bytes and an allowance
+abbrev pub feedWith : (Session → List ℕ → List ℕ → ℕ → Fed × List ℕ) → callers.Feed Held Answer
+feedWith f h bs a = let x : Fed × List ℕ = f (h .0) (h .1) bs a in ((x .0 .session, x .1), x .0 .answer)
 
-unfoldable pub called : Caller Held → Turn → Caller Held
-unfolding afterFeed
-called c t =
-    let presented : List ℕ = c .unread ++ pieceOf t in
-    let x : Fed × List ℕ = fedBy (c .state .0) (c .state .1) presented (allowanceOf t) in
-    afterFeed c presented (x .0 .session, x .1) (answerMeant (x .0 .answer))
+-- the same with the answer's meaning
+abbrev pub tellWith : (Session → List ℕ → List ℕ → ℕ → Fed × List ℕ) → callers.Feed Held (calls.Answer ℕ)
+tellWith f h bs a = let x : Held × Answer = feedWith f h bs a in (x .0, answerMeant (x .1))
 
-unfoldable pub callsOf : Caller Held → List Turn → Caller Held
-unfolding called
-callsOf c [] = c
-callsOf c (t ∷ ts) = callsOf (called c t) ts
+-- feeding the definition's session, on a canvas of so many bytes
+abbrev pub feedMeant : ℕ → callers.Feed (calls.Session Reading) (calls.Answer ℕ)
+feedMeant size m bs a = let y : calls.Fed Reading ℕ = calls.feedPayload m size a bs in (y .session, y .answer)
 
--- each call is one that may be made after the answer before it, with an allowance of at least A
-unfoldable pub properCalls : ℕ → Caller Held → List Turn → Bool
-unfolding called
-properCalls A c [] = true
-properCalls A c (t ∷ ts) = leb A (allowanceOf t) && (mayCall t (c .how) && properCalls A (called c t) ts)
+-- any calls, the canvas given back each time as it was left
+abbrev pub Past : Type 0
+Past = callers.Past Held Answer
+
+abbrev pub fedAll : Session → List ℕ → List Ask → Past
+fedAll s l = callers.fedAll (feedWith fedBy) (s, l)
+
+-- the same of the definition
+abbrev pub PastMeant : Type 0
+PastMeant = callers.Past (calls.Session Reading) (calls.Answer ℕ)
+
+abbrev pub fedAllMeant : calls.Session Reading → ℕ → List Ask → PastMeant
+fedAllMeant m size = callers.fedAll (feedMeant size) m
+
+-- the calls of a caller that presents what was left unread
+abbrev pub called : Caller Held → Turn → Caller Held
+called = callers.called (tellWith fedBy)
+
+abbrev pub callsOf : Caller Held → List Turn → Caller Held
+callsOf = callers.callsOf (tellWith fedBy)
+
+abbrev pub properCalls : ℕ → Caller Held → List Turn → Bool
+properCalls = callers.properCalls (tellWith fedBy)

@@ -1,19 +1,16 @@
 -- Turns of a caller that are added at the end, and what a call's answer makes of a reader.
 use Prim.Native.Nat.{ℕ, _+_, _<_}
 use native.Mathlib.Omega.{arith}
-use mathlib.Core.Bool.{true}
 use mathlib.Core.List.{List, [], _∷_, _++_, append-assoc}
 use mathlib.Core.Path.{_≡_, refl, sym, ap, _∙_}
-use lib.Dec.{leb}
 use lib.ListN.{length}
-use Rattle.canvas.proofs.Covers.{and-both}
-use Rattle.meaning.specs.Reader.{Step, stopped, Turn, fresh, again, pieceOf, allowanceOf, stream, pieces, Caller, mayCall, turn, turns}
-use Rattle.meaning.proofs.Cases.{both}
+use Rattle.meaning.specs.Callers.{howTold, consumedTold, inkTold}
+use Rattle.meaning.specs.Reader.{Step, stopped, Turn, fresh, again, pieceOf, stream, pieces, Caller, turn, turns}
 use Rattle.dcs.specs.declared.Answer.{Answer}
 use Rattle.dcs.specs.declared.Answer.the-variants as answers
 use Rattle.dcs.specs.declared.Ending.{Ending}
 use Rattle.dcs.specs.declared.Session.{Session}
-use Rattle.dcs.specs.History.{answerMeant, howTold, consumedTold, inkTold, Held, called, callsOf, properCalls}
+use Rattle.dcs.specs.History.{answerMeant}
 use Rattle.pieces.specs.declared.Reader.{Reader}
 use Rattle.pieces.specs.declared.Standing.{Standing}
 use Rattle.pieces.specs.declared.Standing.the-variants as standings
@@ -21,20 +18,6 @@ use Rattle.pieces.specs.Pieces.{held, heldSum, afterCall, calledAs}
 use Rattle.pieces.specs.Stream.{howStood}
 
 -- ---- lists of turns
-
-pub calls-append : (c : Caller Held) (ts us : List Turn) → callsOf c (ts ++ us) ≡ callsOf (callsOf c ts) us
-unfolding callsOf
-calls-append c [] us = refl
-calls-append c (t ∷ ts) us = calls-append (called c t) ts us
-
-pub proper-append : (A : ℕ) (c : Caller Held) (ts us : List Turn) → properCalls A c ts ≡ true → properCalls A (callsOf c ts) us ≡ true
-    → properCalls A c (ts ++ us) ≡ true
-unfolding callsOf properCalls
-proper-append A c [] us h k = k
-proper-append A c (t ∷ ts) us h k =
-    let outer = both (leb A (allowanceOf t)) _ h in
-    let inner = both (mayCall t (c .how)) _ (outer .1) in
-    and-both (outer .0) (and-both (inner .0) (proper-append A (called c t) ts us (inner .1) k))
 
 pub turns-append : {S : Type 0} (step : S → ℕ → Step S) (rest : S → S) (c : Caller S) (ts : List Turn) (t : Turn)
     → turns step rest c (ts ++ t ∷ []) ≡ turn step rest (turns step rest c ts) t

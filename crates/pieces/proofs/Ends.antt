@@ -1,7 +1,7 @@
 -- What the promise asks of the definition: at an end the picture is that of the whole stream, and bytes after an end or a refusal make no difference.
 use Prim.Native.Nat.{ℕ, _≤_}
 use native.Mathlib.Omega.{arith}
-use mathlib.Core.Option.{Option, none, some}
+use mathlib.Core.Option.{none, some}
 use mathlib.Core.List.{List, [], _∷_, _++_}
 use mathlib.Core.Path.{_≡_, refl, sym, ap, _∙_, subst}
 use Rattle.numbers.proofs.Laws.{cond-no}
@@ -10,7 +10,7 @@ use Rattle.meaning.specs.Calls as calls
 use Rattle.meaning.specs.Drawing.{Setting, Outcome}
 use Rattle.meaning.specs.OneShot.{Found, found, missing, findPayload, answerOf, oneShot}
 use Rattle.meaning.specs.Payload as meant
-use Rattle.meaning.specs.Reader.{How, readAll, stopped, halted, refusedBy, isAll, isRefused, Run, still, after, continued, follow, readFrom, thenRead}
+use Rattle.meaning.specs.Reader.{readAll, stopped, refusedBy, isAll, isRefused, Run, still, after, continued, follow, readFrom, thenRead}
 use Rattle.meaning.specs.Sequence.{sequencePayload, sequenceInk}
 use Rattle.meaning.specs.Sessions.{End, Phase, start, introduced, header, within, afterEscape, over, dcsStep, finishDcs}
 use Rattle.meaning.proofs.AreaLaws.{Roomy, payload-reports}
@@ -19,7 +19,6 @@ use Rattle.meaning.proofs.DcsLaws.{sequence-over, sequence-drawing, sequence-mi
 use Rattle.meaning.proofs.DcsParts.{Agrees, sequence-agrees, before-open, no-end}
 use Rattle.meaning.proofs.PayloadLaws.{readPayload, reading-settled, settled-none, halted-settled}
 use Rattle.meaning.proofs.RunLaws.{read-append}
-use Rattle.dcs.proofs.Callers.{endTold}
 use Rattle.pieces.specs.declared.Standing.{Standing}
 use Rattle.pieces.specs.declared.Standing.the-variants as standings
 use Rattle.pieces.specs.Stream.{howStood}
@@ -32,16 +31,6 @@ unfolding howStood
 stood-going standings.Reading e = let never : _≡_ {A = ℕ} 0 1 = cc in omega arith
 stood-going (standings.Ended d) e = let never : _≡_ {A = ℕ} 0 1 = cc in omega arith
 stood-going (standings.Refused n) e = let never : _≡_ {A = ℕ} 0 1 = cc in omega arith
-
--- a refusal that is told is the one that came
-pub told-refused : (h : How) (o : Option End) {n : ℕ} → endTold h o ≡ refusedBy n → h ≡ refusedBy n
-unfolding endTold
-told-refused readAll none e = e
-told-refused readAll (some x) e = cc
-told-refused stopped o e = e
-told-refused halted none e = cc
-told-refused halted (some x) e = e
-told-refused (refusedBy m) o e = e
 
 -- ---- the picture at the end is that of the whole stream
 

@@ -23,6 +23,7 @@ use Rattle.meaning.specs.Reader.{readAll, stopped, refusedBy, isRefused, Run, r
 use Rattle.meaning.specs.Sequence.{sequencePayload, sequenceInk}
 use Rattle.meaning.specs.Sessions.{Phase, start, dcsStep}
 use Rattle.meaning.proofs.AreaLaws.{Roomy, opens-roomy}
+use Rattle.meaning.proofs.ToldLaws.{refused-told, told-refusal}
 use Rattle.payload.specs.declared.Finished.{Finished}
 use Rattle.payload.specs.declared.Report.{Report}
 use Rattle.payload.specs.History.{settingMeant, limitsMeant, reportMeant, Finishes}
@@ -33,7 +34,7 @@ use Rattle.dcs.specs.declared.Ending.{Ending}
 use Rattle.dcs.specs.declared.Session.{Session}
 use Rattle.dcs.specs.History.{endMeant, Held, properCalls}
 use Rattle.dcs.specs.Session as dcs
-use Rattle.dcs.proofs.Callers.{CallerStands, refused-told}
+use Rattle.dcs.proofs.Callers.{CallerStands}
 use Rattle.dcs.proofs.History as history
 use Rattle.dcs.proofs.Progress.{not-ended, unfinished}
 use Rattle.pieces.specs.declared.Reader.{Reader}
@@ -42,7 +43,7 @@ use Rattle.pieces.specs.declared.Standing.the-variants as standings
 use Rattle.pieces.specs.Pieces.{openedBy, held, finishedAs, finishedBy}
 use Rattle.pieces.specs.Stream.{joined, takenAll, howStood}
 use Rattle.pieces.proofs.Copies.{Declined, declined, Reported, reported, report-fits, copy-rows, length-shown}
-use Rattle.pieces.proofs.Ends.{stood-going, told-refused, drawing-whole, ended-reports, ended-ink, ended-state, ended-consumed, ended-answer, refused-ink, refused-state, refused-answer}
+use Rattle.pieces.proofs.Ends.{stood-going, drawing-whole, ended-reports, ended-ink, ended-state, ended-consumed, ended-answer, refused-ink, refused-state, refused-answer}
 use Rattle.pieces.proofs.Taking.{joined-append, length-append, start-follows, Taken, taken-all}
 use Rattle.pieces.proofs.Turns.{now, Follows}
 
@@ -120,7 +121,7 @@ module _ (l : Limits) (stride : ℕ) (p : Palette) (opening : List ℕ) (opens :
   unfolding ranBy howStood
   refusal-taken h =
       ap (λ (q : Run Phase). q .how) ran
-      ∙ told-refused (there .how) (calls.dcsEnd (there .state)) (sym (stood .how) ∙ follows .how ∙ ap howStood h)
+      ∙ told-refusal (there .how) (calls.dcsEnd (there .state)) (sym (stood .learned .how) ∙ follows .how ∙ ap howStood h)
 
   -- bytes after the end draw nothing
   ink-taken : sequenceInk setting p taken ≡ sequenceInk setting p bytes
@@ -221,10 +222,10 @@ module _ (l : Limits) (stride : ℕ) (p : Palette) (opening : List ℕ) (opens :
     unfolding ranBy
     consumed-whole =
         let live : isRefused (there .how) ≡ false =
-        sym (refused-told (there .how) (calls.dcsEnd (there .state))) ∙ sym (ap isRefused (stood .how)) ∙ fine answered in
+        sym (refused-told (there .how) (calls.dcsEnd (there .state))) ∙ sym (ap isRefused (stood .learned .how)) ∙ fine answered in
         follows .keeps .consumed
         ∙ ap held
-        (stood .consumed live
+        (stood .learned .consumed live
         ∙ ap (λ (q : Run Phase). q .consumed) (sym ran)
         ∙ sym (ended-consumed setting p taken (joined (all .later)) (end-taken ended))
         ∙ ap (λ (bs : List ℕ). readFrom (dcsStep setting p) start bs .consumed) (sym split))

@@ -8,11 +8,11 @@ use lib.ListN.{length}
 use Rattle.colours.specs.declared.Palette.{Palette}
 use Rattle.frame.specs.declared.Limits.{Limits}
 use Rattle.frame.specs.declared.Refusal.the-variants as refusals
+use Rattle.meaning.specs.Callers as callers
 use Rattle.meaning.specs.Reader.{readAll, Turn, fresh, pieceOf, allowanceOf, stream, pieces, mayCall, ready}
 use Rattle.payload.specs.declared.Opening.{Opening}
 use Rattle.payload.specs.Judge.{openable}
 use Rattle.payload.specs.Session.{turnedAway}
-use Rattle.dcs.specs.History.{callsOf, properCalls}
 use Rattle.dcs.specs.Session as dcs
 use Rattle.pieces.specs.declared.Reader.{Reader}
 use Rattle.pieces.specs.declared.Standing.{Standing}
@@ -79,7 +79,7 @@ closed-whole l stride p opening closed zs owner =
 module _ (l : Limits) (stride : ℕ) (p : Palette) (opening : List ℕ) (opens : openable l stride (length opening) ≡ true) where
   -- the opening follows a caller that has made no call
   pub start-follows : Follows l stride p opening opens [] (openedBy l stride p (length opening)) opening
-  unfolding beganAs callsOf properCalls ready howStood held
+  unfolding beganAs callers.callsOf callers.properCalls ready howStood held
   start-follows =
       subst (λ (r : Reader). Follows l stride p opening opens [] r opening) (sym (began l stride p (length opening) opens))
       (record {

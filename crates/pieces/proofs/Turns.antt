@@ -6,16 +6,18 @@ use mathlib.Core.Bool.{Bool, true, false}
 use mathlib.Core.Option.{some}
 use mathlib.Core.List.{List, [], _∷_, _++_, append-nil, append-assoc}
 use mathlib.Core.Path.{_≡_, refl, sym, ap, _∙_, subst}
-use borrow.Author.Tests.{le-leb, eqb-true, eqb-false}
+use borrow.Author.Tests.{eqb-true, eqb-false}
 use lib.Dec.{eqb}
 use lib.ListN.{length, drop, length-drop}
-use Rattle.canvas.proofs.Covers.{and-both}
 use Rattle.colours.specs.declared.Palette.{Palette}
 use Rattle.frame.specs.declared.Limits.{Limits}
 use Rattle.meaning.specs.Calls as calls
+use Rattle.meaning.specs.Callers as callers
+use Rattle.meaning.specs.Callers.{howTold, consumedTold, inkTold, afterFeed}
 use Rattle.meaning.specs.Drawing.{Setting}
 use Rattle.meaning.specs.Reader.{stopped, Turn, again, pieceOf, allowanceOf, stream, pieces, Caller, mayCall}
 use Rattle.meaning.specs.Sessions.{Phase, dcsStep, dcsRested}
+use Rattle.meaning.proofs.ToldLaws.{calls-append, proper-append, proper-one}
 use Rattle.payload.specs.History.{settingMeant}
 use Rattle.payload.specs.Judge.{openable}
 use Rattle.dcs.specs.declared.Answer.{Answer}
@@ -23,7 +25,7 @@ use Rattle.dcs.specs.declared.Ending.{Ending}
 use Rattle.dcs.specs.declared.Fed.{Fed}
 use Rattle.dcs.specs.declared.Session.{Session}
 use Rattle.dcs.specs.Session.{fedBy}
-use Rattle.dcs.specs.History.{endMeant, answerMeant, howTold, consumedTold, inkTold, Held, afterFeed, called, callsOf, properCalls}
+use Rattle.dcs.specs.History.{endMeant, answerMeant, Held, tellHeld, callsOf, properCalls}
 use Rattle.dcs.proofs.History as history
 use Rattle.dcs.proofs.Progress.{stop-consumes, end-told}
 use Rattle.pieces.specs.declared.Called.{Called}
@@ -31,7 +33,7 @@ use Rattle.pieces.specs.declared.Reader.{Reader}
 use Rattle.pieces.specs.declared.Standing.the-variants as standings
 use Rattle.pieces.specs.Pieces.{held, countedAs, afterCall, calledAs, calledBy, takenFor}
 use Rattle.pieces.specs.Stream.{howStood}
-use Rattle.pieces.proofs.Answered.{calls-append, proper-append, turns-append, length-more, held-sum, stoodAt, answered-reader, last-how, stop-how, ended-answer}
+use Rattle.pieces.proofs.Answered.{turns-append, length-more, held-sum, stoodAt, answered-reader, last-how, stop-how, ended-answer}
 use Rattle.pieces.proofs.TakeLaws.{call-within, taken-last, taken-again}
 
 module _ (l : Limits) (stride : ℕ) (p : Palette) (opening : List ℕ) (opens : openable l stride (length opening) ≡ true) where
@@ -99,14 +101,13 @@ module _ (l : Limits) (stride : ℕ) (p : Palette) (opening : List ℕ) (opens :
     canvas-same = ap (λ (x : Called × List ℕ). x .1) called-same
 
     now-more : now more ≡ afterFeed (now ts) (now ts .unread ++ pieceOf t) (fed .0 .session, fed .1) (answerMeant answer)
-    unfolding callsOf called
-    now-more = calls-append (history.opened l stride p opening opens) ts (t ∷ [])
+    unfolding callers.callsOf callers.called
+    now-more = calls-append tellHeld (history.opened l stride p opening opens) ts (t ∷ [])
 
     proper-more : properCalls smallest (history.opened l stride p opening opens) more ≡ true
-    unfolding properCalls
     proper-more =
-        proper-append smallest (history.opened l stride p opening opens) ts (t ∷ []) (k .proper)
-        (and-both (le-leb smallest (allowanceOf t) (omega (arith, exact))) (and-both may refl))
+        proper-append tellHeld smallest (history.opened l stride p opening opens) ts (t ∷ []) (k .proper)
+        (proper-one tellHeld smallest (now ts) t (omega (arith, exact)) may)
 
     next-keeps : Keeps more next (fed .1)
     unfolding afterFeed afterCall countedAs
@@ -132,7 +133,7 @@ module _ (l : Limits) (stride : ℕ) (p : Palette) (opening : List ℕ) (opens :
 
     -- a stop has consumed something
     some-consumed : howTold (answerMeant answer) ≡ stopped → 0 < consumedTold (answerMeant answer)
-    unfolding called afterFeed
+    unfolding callers.called afterFeed
     some-consumed e =
         omega (arith, stop-consumes l stride p opening opens smallest ts (omega arith) (k .proper) t (omega (arith, exact)) may e)
 

@@ -42,10 +42,10 @@ module _ (l : Limits) (stride : ℕ) (p : Palette) (opening : List ℕ) where
     -- definition's
     pub record Stated : Type 0 where
       pub answers : map answerMeant (past .answers) ≡ pastMeant .answers
-      pub canvas : past .canvas ≡ calls.dcsShown (pastMeant .session) opening
+      pub canvas : past .state .1 ≡ calls.dcsShown (pastMeant .state) opening
       pub finish : (owner : Palette)
-          → Finishes (calls.dcsShownAtFinish (pastMeant .session) opening) owner (past .canvas) (finishedBy (past .session) owner (past .canvas))
-          (calls.finishDcsSession (pastMeant .session) (length opening))
+          → Finishes (calls.dcsShownAtFinish (pastMeant .state) opening) owner (past .state .1) (finishedBy (past .state .0) owner (past .state .1))
+          (calls.finishDcsSession (pastMeant .state) (length opening))
 
     stands : Stands l stride p opening (openedBy l stride p (length opening) .session) opening openedMeant
     stands = opened-stands l stride p opening opens

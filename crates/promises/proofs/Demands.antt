@@ -43,10 +43,10 @@ module _ (l : Limits) (stride : ℕ) (o : Settings) (p : Palette) (opening : Lis
     -- each answer is the definition's; the canvas shows the definition's drawing; and a finish then is the definition's
     pub record Stated : Type 0 where
       pub answers : map answerMeant (past .answers) ≡ pastMeant .answers
-      pub canvas : past .canvas ≡ calls.payloadShown (pastMeant .session) opening
+      pub canvas : past .state .1 ≡ calls.payloadShown (pastMeant .state) opening
       pub finish : (owner : Palette)
-          → Finishes (calls.payloadShownAtFinish (pastMeant .session) opening) owner (past .canvas) (finishedBy (past .session) owner (past .canvas))
-          (calls.finishPayload (pastMeant .session) (length opening))
+          → Finishes (calls.payloadShownAtFinish (pastMeant .state) opening) owner (past .state .1) (finishedBy (past .state .0) owner (past .state .1))
+          (calls.finishPayload (pastMeant .state) (length opening))
 
     stands : Stands opening (openedBy l stride o p opening .0 .session) (openedBy l stride o p opening .1) openedMeant
     stands = opened-stands l stride o p opening opens

@@ -13,6 +13,7 @@ use Rattle.canvas.specs.Paint.{painted}
 use Rattle.frame.specs.declared.Limits.{Limits}
 use Rattle.frame.specs.declared.Refusal.{Refusal}
 use Rattle.meaning.specs.Calls as calls
+use Rattle.meaning.specs.Callers.{inkTold}
 use Rattle.meaning.specs.Reader.{still, call}
 use Rattle.meaning.specs.Sessions.{Reading, opened}
 use Rattle.meaning.proofs.Trials.{computed}
@@ -24,7 +25,7 @@ use Rattle.payload.specs.declared.Session.{Session}
 use Rattle.payload.specs.declared.Settings.{Settings}
 use Rattle.payload.specs.Judge.{inRange, limitsFit, openable}
 use Rattle.payload.specs.Session.{backgroundFor, sessionFor, fedBy}
-use Rattle.payload.specs.History.{givenMeant, parametersMeant, limitsMeant, settingMeant, answerMeant, inkTold, Stands, Feeds}
+use Rattle.payload.specs.History.{givenMeant, parametersMeant, limitsMeant, settingMeant, answerMeant, Stands, Feeds}
 use Rattle.payload.proofs.Openings.{ready-stands}
 use Rattle.payload.proofs.Judgements.{stands-shows, stands-long}
 use Rattle.payload.proofs.Feedings.{fed-meant, feed-stands}

@@ -13,6 +13,7 @@ use Rattle.canvas.specs.Picture as pictures
 use Rattle.frame.specs.declared.Limits.{Limits}
 use Rattle.frame.specs.declared.Refusal.{Refusal}
 use Rattle.meaning.specs.Calls as calls
+use Rattle.meaning.specs.Callers.{inkTold}
 use Rattle.meaning.specs.Sessions.{End, Phase, start}
 use Rattle.meaning.proofs.Trials.{computed}
 use Rattle.payload.specs.declared.Life.the-variants as lives
@@ -26,7 +27,7 @@ use Rattle.dcs.specs.declared.Phase.the-variants as phases
 use Rattle.dcs.specs.declared.Session.{Session}
 use Rattle.dcs.specs.declared.lead.Place.the-variants as places
 use Rattle.dcs.specs.Session.{sessionOf}
-use Rattle.dcs.specs.History.{answerMeant, inkTold, atStart, heldAt, Stands, before, Feeds}
+use Rattle.dcs.specs.History.{answerMeant, atStart, heldAt, Stands, before, Feeds}
 use Rattle.dcs.proofs.Standing.{stands-shows}
 use Rattle.promises.proofs.Hollow.{house, fresh}
 use Rattle.promises.proofs.StoppedCalls.{Worked, dcs-stop-works}
