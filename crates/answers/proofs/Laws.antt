@@ -1,7 +1,7 @@
--- Laws of stored numbers and checksums: one byte more, all bytes read, and the code's arithmetic on 32 bits.
+-- Laws of stored numbers and checksums: one byte or one register more, all of them read, and the code's arithmetic on 32 bits.
 -- Assumes nothing.
-use mathlib.Core.Path.{_≡_, refl, ap}
-use mathlib.Core.List.{List}
+use mathlib.Core.Path.{_≡_, refl, sym, ap, _∙_}
+use mathlib.Core.List.{List, [], _∷_, _++_}
 use Prim.Native.Nat.{ℕ, zero, suc, _+_, _-_, _*_, _^_, _<_, _≤_}
 use native.Mathlib.Numerals.{add-one}
 use native.Mathlib.Omega.{arith}
@@ -11,8 +11,11 @@ use lib.Seq.{drop-cons}
 use mir.Syntax.{w32}
 use mir.Val.{SFits}
 use borrow.Author.Tests.{lt-ltb, le-ltb}
+use Rattle.colours.specs.declared.Palette.{Palette}
+use Rattle.colours.specs.Palette.{registerOf}
 use Rattle.answers.specs.Adler.{withByte, withBytes}
 use Rattle.answers.specs.Numbers.{numberAt, signedOf}
+use Rattle.answers.specs.Registers.{registerBytes}
 
 -- a byte read leaves the rest
 pub one-more : (bytes : List ℕ) (i sum next whole : ℕ) → next ≡ withByte sum (getD bytes i 0)
@@ -24,6 +27,27 @@ one-more bytes i sum next whole e rest h = rw (e, add-one i) (rw (drop-cons byte
 pub all-read : (bytes : List ℕ) (i sum whole : ℕ) → withBytes sum (drop i bytes) ≡ whole → length bytes ≤ i → sum ≡ whole
 unfolding withBytes
 all-read bytes i sum whole rest h = rw (drop-of-length-le bytes h) at rest
+
+-- bytes of two lists, one after the other
+pub in-two : (xs ys : List ℕ) (sum : ℕ) → withBytes sum (xs ++ ys) ≡ withBytes (withBytes sum xs) ys
+unfolding withBytes
+in-two [] ys sum = refl
+in-two (x ∷ xs) ys sum = in-two xs ys (withByte sum x)
+
+-- a register read leaves the rest
+pub one-register : (p : Palette) (i sum next whole : ℕ) (px : List ℕ) → px ≡ registerOf p i → next ≡ withBytes sum px
+    → withBytes sum (registerBytes p i (256 - i)) ≡ whole → i < 256 → withBytes next (registerBytes p (i + 1) (256 - (i + 1))) ≡ whole
+unfolding registerBytes
+one-register p i sum next whole px read e rest h =
+    let left : 256 - i ≡ suc (256 - (i + 1)) = omega arith in
+    rw (e, read) (sym (in-two (registerOf p i) _ sum) ∙ (rw left at rest))
+
+-- where all registers are read, none is left
+pub all-registers : (p : Palette) (i sum whole : ℕ) → withBytes sum (registerBytes p i (256 - i)) ≡ whole → 256 ≤ i → sum ≡ whole
+unfolding withBytes registerBytes
+all-registers p i sum whole rest h =
+    let none : 256 - i ≡ 0 = omega arith in
+    rw none at rest
 
 -- fewer than four bytes at a place
 pub short : (bytes : List ℕ) (at : ℕ) → length bytes < at + 4 → 0 ≡ numberAt bytes at

@@ -1,3 +1,4 @@
 pub mod Adler
 pub mod Numbers
 pub mod Ratio
+pub mod Registers

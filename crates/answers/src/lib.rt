@@ -1,9 +1,12 @@
-// What a stored list of answers is made of: numbers of four bytes, the lowest first, Adler-32 checksums, and the Rust's ratios.
+// What a stored list of answers is made of: numbers of four bytes, the lowest first, Adler-32 checksums, of a palette too, and the
+// Rust's ratios.
 ghost use mathlib.Core.Path.{_≡_};
 ghost use Prim.Native.Nat.{_+_, _*_};
 ghost use Rattle.answers.specs.Adler.{withByte, withBytes, adler};
 ghost use Rattle.answers.specs.Numbers.{numberAt, signedOf};
 ghost use Rattle.answers.specs.Ratio.{fromP1};
+ghost use Rattle.answers.specs.Registers.{registersSum};
+use colours::Palette;
 
 pub fn with_byte(sum: u32, byte: u8) -> u32
     ensures { λ r. ⌜ r ≡ withByte sum byte ⌝ }
@@ -29,6 +32,18 @@ pub fn checksum(bytes: &[u8]) -> u32
     ensures { λ r. ⌜ r ≡ adler (now (bytes .entry)) ⌝ }
 {
     with_bytes(1, bytes)
+}
+
+// The checksum of a palette's registers, each as four bytes.
+pub fn registers_sum(palette: Palette) -> u32
+    ensures { λ r. ⌜ r ≡ registersSum palette ⌝ }
+{
+    let colors = palette.table();
+    let mut sum = 1;
+    for index in 0..256 {
+        sum = with_bytes(sum, &colours::rgb_bytes(&colors, index));
+    }
+    sum
 }
 
 fn joined(a: u8, b: u8, c: u8, d: u8) -> u32

@@ -5,6 +5,8 @@ use Rattle.answers.proofs.with_bytes.Reads as with-bytes
 use Rattle.answers.proofs.with_bytes.Kinds as with-bytes'
 use Rattle.answers.proofs.checksum.Reads as checksum
 use Rattle.answers.proofs.checksum.Kinds as checksum'
+use Rattle.answers.proofs.registers_sum.Reads as registers-sum
+use Rattle.answers.proofs.registers_sum.Kinds as registers-sum'
 use Rattle.answers.proofs.number_at.Reads as number-at
 use Rattle.answers.proofs.number_at.Kinds as number-at'
 use Rattle.answers.proofs.signed.Reads as signed
@@ -21,6 +23,9 @@ with-bytes-one κs a z z' e e' p q = only p q
 
 pub checksum-one : One checksum'.ps checksum'.r checksum.Learnt
 checksum-one κs a z z' e e' p q = only p q
+
+pub registers-sum-one : One registers-sum'.ps registers-sum'.r registers-sum.Learnt
+registers-sum-one κs a z z' e e' p q = only p q
 
 pub number-at-one : One number-at'.ps number-at'.r number-at.Learnt
 number-at-one κs a z z' e e' p q = only p q

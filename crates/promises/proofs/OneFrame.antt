@@ -12,6 +12,8 @@ use Rattle.frame.proofs.commands.extend_by_semicolon.Reads as extend-by-semicol
 use Rattle.frame.proofs.commands.extend_by_semicolon.Kinds as extend-by-semicolon'
 use Rattle.frame.proofs.commands.end_command.Reads as end-command
 use Rattle.frame.proofs.commands.end_command.Kinds as end-command'
+use Rattle.frame.proofs.commands.end_in_loop.Reads as end-in-loop
+use Rattle.frame.proofs.commands.end_in_loop.Kinds as end-in-loop'
 use Rattle.frame.proofs.number.Reads as number
 use Rattle.frame.proofs.number.Kinds as number'
 use Rattle.frame.proofs.process.process.Reads as process
@@ -26,6 +28,8 @@ use Rattle.frame.proofs.sizes.raster_area.Reads as raster-area
 use Rattle.frame.proofs.sizes.raster_area.Kinds as raster-area'
 use Rattle.frame.proofs.sizes.sixel_area.Reads as sixel-area
 use Rattle.frame.proofs.sizes.sixel_area.Kinds as sixel-area'
+use Rattle.frame.proofs.step.after_sixel.Reads as after-sixel
+use Rattle.frame.proofs.step.after_sixel.Kinds as after-sixel'
 use Rattle.frame.proofs.step.step.Reads as step
 use Rattle.frame.proofs.step.step.Kinds as step'
 use Rattle.promises.proofs.One.{only, Seen, One}
@@ -41,6 +45,9 @@ extend-by-semicolon-one κs a z z' e e' p q = only p q
 
 pub end-command-one : Seen end-command'.ps end-command'.r end-command.Learnt (λ κs. Ended) (λ κs z e. record { stepped = z; palette = ofTable (now (e .1 .1 .0)) })
 end-command-one κs a z z' e e' p q = only p q
+
+pub end-in-loop-one : Seen end-in-loop'.ps end-in-loop'.r end-in-loop.Learnt (λ κs. Ended) (λ κs z e. record { stepped = z; palette = ofTable (now (e .1 .1 .0)) })
+end-in-loop-one κs a z z' e e' p q = only p q
 
 pub number-one : One number'.ps number'.r number.Learnt
 number-one κs a z z' e e' p q = only p q
@@ -62,6 +69,9 @@ raster-area-one κs a z z' e e' p q = only p q
 
 pub sixel-area-one : One sixel-area'.ps sixel-area'.r sixel-area.Learnt
 sixel-area-one κs a z z' e e' p q = only p q
+
+pub after-sixel-one : One after-sixel'.ps after-sixel'.r after-sixel.Learnt
+after-sixel-one κs a z z' e e' p q = only p q
 
 pub step-one : Seen step'.ps step'.r step.Learnt (λ κs. Turned) (λ κs z e. record { stepped = z; palette = ofTable (now (e .1 .1 .0)); canvas = now (e .1 .1 .1 .0) })
 step-one κs a z z' e e' p q = only p q

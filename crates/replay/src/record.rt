@@ -6,7 +6,6 @@ use crate::fields::byte_at;
 use crate::fields::is_anew;
 use crate::fields::kind_of;
 use crate::fields::pieces_of;
-use crate::seen::registers_sum;
 use crate::trial;
 use colours::Palette;
 
@@ -94,7 +93,7 @@ fn is_plain_same(kind: u8, record: &[u8]) -> bool {
         return is_percent_same(record);
     }
     if kind == REGISTERS {
-        return answers::number_at(record, 8) == registers_sum(Palette::standard());
+        return answers::number_at(record, 8) == answers::registers_sum(Palette::standard());
     }
     answers::from_p1(answers::number_at(record, 8)) == byte_at(record, 5)
 }

@@ -1,5 +1,4 @@
-// What a canvas and a palette hold, as checksums.
-use colours::Palette;
+// What a canvas holds, as a checksum.
 
 // Byte `i` of a canvas before a session: never 0 nor 255, one of which is the fourth byte of each pixel.
 fn pattern(i: usize) -> u8 {
@@ -36,14 +35,4 @@ pub(crate) fn look(canvas: &[u8], stride: usize, width: usize, height: usize) ->
         }
     }
     Shown { sum, is_rest_kept }
-}
-
-// The checksum of a palette's registers, each as four bytes.
-pub(crate) fn registers_sum(palette: Palette) -> u32 {
-    let colors = palette.table();
-    let mut sum = 1;
-    for index in 0..256 {
-        sum = answers::with_bytes(sum, &colours::rgb_bytes(&colors, index));
-    }
-    sum
 }

@@ -11,7 +11,6 @@ use crate::report::Picture;
 use crate::seen::Shown;
 use crate::seen::fill;
 use crate::seen::look;
-use crate::seen::registers_sum;
 use crate::session;
 use crate::session::Ran;
 use colours::Palette;
@@ -124,7 +123,7 @@ fn agrees(record: &[u8], trial: Trial) -> bool {
         && does_report_agree(record, picture)
         && seen.sum == answers::number_at(record, 64)
         && seen.is_rest_kept
-        && registers_sum(palette) == answers::number_at(record, 68)
+        && answers::registers_sum(palette) == answers::number_at(record, 68)
 }
 
 // With 6W a call, each call more than there are pieces had ink; with no bound there is none more, and the ink is the same.

@@ -74,19 +74,9 @@ fn copy(lent: &[u8], stride: usize, width: usize, height: usize, length: usize) 
     copy_to(lent, stride, width, height, &mut buffer[..end]);
 }
 
-// The checksum of the registers, each as four bytes.
-fn registers_sum(palette: Palette) -> u32 {
-    let colors = palette.table();
-    let mut sum = 1;
-    for index in 0..256 {
-        sum = answers::with_bytes(sum, &colours::rgb_bytes(&colors, index));
-    }
-    sum
-}
-
 fn say_palette(palette: Palette) {
     say::words(b"palette");
-    say::checksum(registers_sum(palette));
+    say::checksum(answers::registers_sum(palette));
 }
 
 fn reset(mut state: State) -> State {

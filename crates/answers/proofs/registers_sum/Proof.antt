@@ -1,12 +1,19 @@
--- `replay::seen::registers_sum` is safe and ends.
+-- `answers::registers_sum` meets its contract. The loop's invariant: the checksum so far, with the registers that are left, is the whole one.
 -- Assumes nothing.
+use mathlib.Core.Path.{_≡_, refl, ap, _∙_}
 use Prim.Native.Nat.{_-_, _≤_}
+use native.Mathlib.Omega.{arith}
 use borrow.Author.Needs.{needs}
-use Rattle.replay.proofs.seen.registers_sum.Statement.{statement}
-use Rattle.replay.proofs.seen.registers_sum.Tie as tie
+use Rattle.colours.specs.Palette.{ofTable}
+use Rattle.answers.specs.Adler.{withBytes, adler}
+use Rattle.answers.specs.Registers.{registerBytes, registersSum}
+use Rattle.answers.proofs.Laws.{one-register, all-registers}
+use Rattle.answers.proofs.registers_sum.Statement.{statement}
+use Rattle.answers.proofs.registers_sum.Tie as tie
 
 abbrev Inv-loop : tie.InvT-loop
-Inv-loop colors sum₀ index₀ sum index = index ≤ 256
+Inv-loop colors sum₀ index₀ sum index =
+    (index ≤ 256) × (withBytes sum (registerBytes (ofTable colors) index (256 - index)) ≡ registersSum (ofTable colors))
 
 abbrev μ-loop : tie.MeasureT-loop
 μ-loop colors sum₀ index₀ sum index = 256 - index
@@ -15,7 +22,8 @@ table-requires : tie.Need-table-requires Inv-loop μ-loop
 table-requires c κs = search needs
 
 loop-holds : tie.Need-loop-holds Inv-loop μ-loop
-loop-holds c = search needs
+unfolding registersSum adler
+loop-holds c = (search needs, refl)
 
 rgb-bytes-requires : tie.Need-rgb-bytes-requires Inv-loop μ-loop
 rgb-bytes-requires c κs = search needs
@@ -33,10 +41,10 @@ loop-less : tie.Need-loop-less Inv-loop μ-loop
 loop-less c = search needs
 
 loop-again : tie.Need-loop-again Inv-loop μ-loop
-loop-again c = search needs
+loop-again c = (search needs, one-register _ _ _ _ _ _ (c .before .before .rgb-bytes .ensures) (c .with-bytes .ensures) (c .before .before .before .before .before .loop .inv .1) (omega arith))
 
 returns : tie.Need-returns Inv-loop μ-loop
-returns c = search needs
+returns c = all-registers _ _ _ _ (c .before .loop .inv .1) (omega arith) ∙ ap registersSum (c .before .before .table .ensures)
 
 pub registers-sum-spec : {M : Type 1} → statement M
 registers-sum-spec =
