@@ -1,9 +1,9 @@
--- `pieces_run::say_front` is safe. Assumes nothing.
+-- `pieces_run::run::say_front` is safe. Assumes nothing.
 use native.Mathlib.Omega.{arith}
 use lib.ListN.{length-take}
 use borrow.Author.Needs.{needs}
-use Rattle.pieces_run.proofs.say_front.Statement.{statement}
-use Rattle.pieces_run.proofs.say_front.Tie as tie
+use Rattle.pieces_run.proofs.run.say_front.Statement.{statement}
+use Rattle.pieces_run.proofs.run.say_front.Tie as tie
 
 slice-aggregate-say : tie.Need-slice-aggregate-say
 slice-aggregate-say c = simp length-take (omega arith)

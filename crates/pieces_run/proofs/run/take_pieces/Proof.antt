@@ -1,11 +1,11 @@
--- `pieces_run::take_pieces` is safe and ends. The measure is the number of bytes that are left. Assumes nothing.
+-- `pieces_run::run::take_pieces` is safe and ends. The measure is the number of bytes that are left. Assumes nothing.
 use mathlib.Core.Path.{_≡_, refl, _∙_}
 use Prim.Native.Nat.{_-_, _≤_}
 use native.Mathlib.Omega.{arith}
 use lib.ListN.{length}
 use borrow.Author.Needs.{needs}
-use Rattle.pieces_run.proofs.take_pieces.Statement.{statement}
-use Rattle.pieces_run.proofs.take_pieces.Tie as tie
+use Rattle.pieces_run.proofs.run.take_pieces.Statement.{statement}
+use Rattle.pieces_run.proofs.run.take_pieces.Tie as tie
 
 abbrev Inv-loop : tie.InvT-loop
 Inv-loop canvas₀ bytes reader₀ at₀ canvas reader at = (at ≤ length bytes) × (length canvas ≡ length canvas₀)
