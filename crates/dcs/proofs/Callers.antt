@@ -14,8 +14,9 @@ use Rattle.meaning.specs.Drawing.{Setting}
 use Rattle.meaning.specs.Reader.{isRefused, Run, call, Turn, pieceOf, allowanceOf, Caller, mayCall, having, turn, turns, proper}
 use Rattle.meaning.specs.Sessions.{End, Phase, dcsStep, dcsRested}
 use Rattle.meaning.proofs.CallerLaws.{not-refused}
+use Rattle.meaning.proofs.FeedingLaws.{feed-answers}
 use Rattle.meaning.proofs.ToldLaws as toldLaws
-use Rattle.meaning.proofs.ToldLaws.{endTold, may-told, Tells, answered-tells, answered-leaves, feed-answers, Learned, learned-more}
+use Rattle.meaning.proofs.ToldLaws.{endTold, may-told, Tells, answered-tells, answered-leaves, Learned, learned-more}
 use Rattle.payload.specs.History.{settingMeant}
 use Rattle.dcs.specs.declared.Fed.{Fed}
 use Rattle.dcs.specs.Session.{fedBy}
