@@ -1,7 +1,7 @@
 -- Before the payload: introducer and header lead code and definition to the same place, or to the payload.
 use Prim.Native.Nat.{ℕ, _+_}
 use native.Mathlib.Nat.{add-zero}
-use mathlib.Core.Bool.{true, false}
+use mathlib.Core.Bool.{true}
 use mathlib.Core.Option.{Option, none}
 use mathlib.Core.List.{List, [], _∷_}
 use mathlib.Core.Path.{_≡_, refl, sym, ap, ap₂, subst, _∙_}
@@ -31,7 +31,6 @@ use Rattle.payload.specs.Session as coded
 use Rattle.payload.specs.History as payload
 use Rattle.payload.proofs.SessionLaws.{pixel-there}
 use Rattle.payload.proofs.Openings as openings
-use Rattle.dcs.specs.declared.Fed.{Fed}
 use Rattle.dcs.specs.declared.Phase.{Phase}
 use Rattle.dcs.specs.declared.Phase.the-variants as phases
 use Rattle.dcs.specs.declared.Session.{Session}
@@ -42,24 +41,19 @@ use Rattle.dcs.specs.declared.lead.Place.{Place}
 use Rattle.dcs.specs.declared.lead.Step as leadStep
 use Rattle.dcs.specs.Lead.{leadAt, leadOn, leadFrom}
 use Rattle.dcs.specs.Session.{sessionOf, settingsFrom, fedPayload, ledTo}
-use Rattle.dcs.specs.History.{answerMeant, SamePlace, atStart, atIntroduced, inHeader, heldAt, before, refused, Feeds}
+use Rattle.dcs.specs.History.{answerMeant, SamePlace, atStart, atIntroduced, inHeader, before, refused, Feeds}
 use Rattle.dcs.proofs.Runs.{call-dry, call-refuses, after-one}
 use Rattle.dcs.proofs.Leading.{LeadAgrees, goesOn, begins, turnsDown, byte-leads}
-use Rattle.dcs.proofs.Within.{payload-feeds}
+use Rattle.dcs.proofs.Within as framed
+use Rattle.dcs.proofs.Within.{answered, payload-feeds}
 
 module _ (l : Limits) (stride : ℕ) (p : Palette) (opening : List ℕ) where
   abbrev setting : Setting
   setting = payload.settingMeant l stride (length opening)
 
-  -- the definition's session in a phase, and its call
-  abbrev here : sessions.Phase → calls.Session sessions.Phase
-  here x = heldAt l stride (length opening) x false
-
+  -- the definition's call
   abbrev dcsCall : ℕ → sessions.Phase → List ℕ → Run sessions.Phase
-  dcsCall = call (sessions.dcsStep setting p) (sessions.dcsRested setting)
-
-  abbrev answered : sessions.Phase → Run sessions.Phase → calls.Fed sessions.Phase sessions.End
-  answered x = calls.answered calls.dcsEnd (here x)
+  dcsCall = framed.dcsCall l stride p opening
 
   -- the payload session before `q`
   abbrev pub waiting : payloadSession.Session
@@ -102,7 +96,7 @@ module _ (l : Limits) (stride : ℕ) (p : Palette) (opening : List ℕ) where
 
   module _ (opens : openable l stride (length opening) ≡ true) (h₀ : Parameters) (t₀ : Phase) (x₀ : sessions.Phase) (whole : List ℕ) (a : ℕ) (fine : feedJudged waiting (length opening) a ≡ judged.Fine) where
     abbrev pub Leads : Lead → Run sessions.Phase → Type 0
-    Leads z q = Feeds l stride p opening (ledTo (z .led) z (sessionOf waiting h₀ t₀) opening whole a) (answered x₀ q)
+    Leads z q = Feeds l stride p opening (ledTo (z .led) z (sessionOf waiting h₀ t₀) opening whole a) (answered l stride p opening x₀ q)
 
     lead-begins : (t : Place) (h : Parameters) (n : ℕ) (bs : List ℕ) → drop n whole ≡ bs
         → Leads (leadAt t h n leds.Begins) (after n 0 (dcsCall a (sessions.within (sessions.opened (payload.parametersMeant (settingsFrom h)) p)) bs))
@@ -115,7 +109,7 @@ module _ (l : Limits) (stride : ℕ) (p : Palette) (opening : List ℕ) where
         (subst
         (λ (b : payloadSession.Session × List ℕ).
         Feeds l stride p opening (fedPayload (sessionOf (b .0) h phases.Within) (b .1) (drop n whole) n a)
-        (answered x₀ (after n 0 (dcsCall a (sessions.within (sessions.opened (payload.parametersMeant (settingsFrom h)) p)) (drop n whole)))))
+        (answered l stride p opening x₀ (after n 0 (dcsCall a (sessions.within (sessions.opened (payload.parametersMeant (settingsFrom h)) p)) (drop n whole)))))
         (sym (begun-ready (settingsFrom h) opens))
         (payload-feeds l stride p opening (openings.ready-stands l stride (settingsFrom h) p opening opens) refl h x₀ n a (drop n whole) (fine-begun (settingsFrom h) a fine)))
 

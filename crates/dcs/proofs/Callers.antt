@@ -14,8 +14,9 @@ use Rattle.meaning.specs.Drawing.{Setting}
 use Rattle.meaning.specs.Reader.{isRefused, Run, call, Turn, pieceOf, allowanceOf, Caller, mayCall, having, turn, turns, proper}
 use Rattle.meaning.specs.Sessions.{End, Phase, dcsStep, dcsRested}
 use Rattle.meaning.proofs.CallerLaws.{not-refused}
+use Rattle.meaning.proofs.FeedingLaws.{feed-answers}
 use Rattle.meaning.proofs.ToldLaws as toldLaws
-use Rattle.meaning.proofs.ToldLaws.{endTold, may-told, Tells, answered-tells, answered-leaves, feed-answers, Learned, learned-more}
+use Rattle.meaning.proofs.ToldLaws.{endTold, may-told, Tells, answered-tells, answered-leaves, Learned, learned-more}
 use Rattle.payload.specs.History.{settingMeant}
 use Rattle.dcs.specs.declared.Fed.{Fed}
 use Rattle.dcs.specs.Session.{fedBy}
@@ -52,7 +53,8 @@ module _ (l : Limits) (stride : ℕ) (p : Palette) (opening : List ℕ) where
     fed-feeds =
         subst (λ (us : List ℕ). Feeds l stride p opening (fedBy (c .state .0) (c .state .1) (us ++ z) a) (calls.answered calls.dcsEnd (sessionAt k) run)) (sym (h .learned .unread live))
         (subst (Feeds l stride p opening (fedBy (c .state .0) (c .state .1) presented a))
-        (feed-answers (λ (t : Phase). calls.visibleArea (calls.drawingOf t)) (λ s. dcsStep s p) dcsRested calls.dcsEnd (sessionAt k) (length opening) a live (stands-fit l stride p opening (h .session)) enough presented)
+        (feed-answers (λ (t : Phase). calls.visibleArea (calls.drawingOf t)) (λ s. dcsStep s p) dcsRested calls.dcsEnd (sessionAt k) (length opening) a live
+        (stands-fit l stride p opening (h .session)) enough presented)
         (subst (λ (n : ℕ). Feeds l stride p opening (fedBy (c .state .0) (c .state .1) presented a) (calls.feedDcs p (sessionAt k) n a presented)) (stands-long l stride p opening (h .session))
         (feed-stands l stride p opening (h .session) presented a)))
 

@@ -2,7 +2,7 @@
 use Prim.Native.Nat.{ℕ, _+_, _-_, _*_, _/_, _≤_}
 use native.Mathlib.Omega.{arith}
 use mathlib.Core.Bool.{true, false}
-use mathlib.Core.Option.{Option, none, some}
+use mathlib.Core.Option.{Option, some}
 use mathlib.Core.List.{List}
 use mathlib.Core.Path.{_≡_, refl, sym, ap, _∙_, subst}
 use lib.ListN.{length}
@@ -16,9 +16,10 @@ use Rattle.meaning.specs.OneShot.{missing, findPayload, oneShot}
 use Rattle.meaning.specs.Payload as meant
 use Rattle.meaning.specs.Reader.{How, stopped, halted, refusedBy, isRefused, readFrom, Turn, stream, pieces, Caller, ranBy, ready}
 use Rattle.meaning.specs.Sequence.{sequencePayload, sequenceInk}
-use Rattle.meaning.specs.Sessions.{End, Phase, start, dcsStep}
+use Rattle.meaning.specs.Sessions.{End, Phase, start, dcsStep, finishDcs}
 use Rattle.meaning.proofs.DcsSoFar.{dcs-finish-drawing, dcs-refused-drawn}
 use Rattle.meaning.proofs.Demand3.{dcs-calls, dcs-outcome, dcs-finishes, dcs-refused, dcs-all-ink}
+use Rattle.meaning.proofs.FeedingLaws.{finish-answers}
 use Rattle.meaning.proofs.ToldLaws as toldLaws
 use Rattle.meaning.proofs.ToldLaws.{all-pass, endTold, refused-told, told-end, told-refusal}
 use Rattle.payload.specs.History.{settingMeant, limitsMeant, Finishes}
@@ -27,7 +28,7 @@ use Rattle.payload.proofs.Openings.{opens-meant}
 use Rattle.dcs.specs.declared.Session.{Session}
 use Rattle.dcs.specs.Session.{openedBy, fedBy, finishedBy}
 use Rattle.dcs.specs.History.{answerMeant, heldAt, Stands, Feeds, Held, feedHeld, feedMeant, Past, fedAll, PastMeant, fedAllMeant, callsOf, properCalls}
-use Rattle.dcs.proofs.Standing.{feed-stands, finish-stands, finished-meant, stands-shows, stands-long, stands-fit}
+use Rattle.dcs.proofs.Standing.{feed-stands, finish-stands, stands-shows, stands-long, stands-fit}
 use Rattle.dcs.proofs.Openings.{opened-stands}
 use Rattle.dcs.proofs.Callers.{CallerStands, calls-stand}
 
@@ -133,12 +134,12 @@ module _ (l : Limits) (stride : ℕ) (p : Palette) (opening : List ℕ) (opens :
     -- Demand 2, and the second sentence of demand 3: at an end a finish answers what reading the whole stream at once does.
     pub whole-finishes : (now .how ≡ stopped → ⊥) → isRefused (now .how) ≡ false → {e : End} → calls.dcsEnd (there .state) ≡ some e → (owner : Palette)
         → Finishes (calls.shown stride (calls.drawingAtFinish setting (there .state)) opening) owner canvas (finishedBy session owner canvas) (oneShot setting p (stream ts))
-    unfolding calls.dcsShownAtFinish settingMeant calls.settingFor calls.firstOf calls.misfits
+    unfolding calls.dcsShownAtFinish settingMeant calls.settingFor calls.finishDcsSession
     whole-finishes going fine e owner =
         let m : calls.Session Phase = heldAt l stride (length opening) (there .state) (isRefused (there .how)) in
         let answer : calls.finishDcsSession m (length canvas) ≡ oneShot setting p (stream ts) =
         ap (calls.finishDcsSession m) (stands-long l stride p opening (stood .session))
-        ∙ finished-meant l stride p opening m (length opening) {o = none} (rw (fine-there fine, stands-fit l stride p opening (stood .session)) refl)
+        ∙ finish-answers (λ (t : Phase). calls.visibleArea (calls.drawingOf t)) finishDcs m (length opening) (fine-there fine) (stands-fit l stride p opening (stood .session))
         ∙ dcs-finishes setting p A ts proper-there (going-there going) e in
         subst (Finishes (calls.shown stride (calls.drawingAtFinish setting (there .state)) opening) owner canvas (finishedBy session owner canvas)) answer
         (finish-stands l stride p opening owner (stood .session))

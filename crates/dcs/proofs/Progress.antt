@@ -3,7 +3,7 @@
 use Prim.Native.Nat.{ℕ, _*_, _≤_, _<_}
 use native.Mathlib.Omega.{arith}
 use mathlib.Core.Bool.{true, false}
-use mathlib.Core.Option.{Option, none, some}
+use mathlib.Core.Option.{none, some}
 use mathlib.Core.List.{List, [], _∷_, _++_}
 use mathlib.Core.Path.{_≡_, refl, sym, ap, _∙_, subst}
 use lib.ListN.{length}
@@ -12,7 +12,7 @@ use Rattle.frame.specs.declared.Limits.{Limits}
 use Rattle.meaning.specs.Calls as calls
 use Rattle.meaning.specs.Callers as callers
 use Rattle.meaning.specs.Drawing.{Setting}
-use Rattle.meaning.specs.Reader.{Step, next, halt, refuse, How, readAll, stopped, halted, refusedBy, isRefused, isOngoing, Run, still, after, follow, readFrom, call, Turn, pieceOf, allowanceOf, stream, Caller, ranBy, mayCall, having, turn, turns}
+use Rattle.meaning.specs.Reader.{Step, next, halt, refuse, How, readAll, stopped, halted, refusedBy, isRefused, isOngoing, Run, still, after, follow, readFrom, Turn, pieceOf, allowanceOf, stream, Caller, ranBy, mayCall, having, turn, turns}
 use Rattle.meaning.specs.Payload.{turnedDown}
 use Rattle.meaning.specs.Sessions.{End, Phase, start, introduced, header, within, afterEscape, over, dcsStep, dcsRested, finishDcs}
 use Rattle.meaning.proofs.AreaLaws.{DcsDoes, advances, begins, turns as refused, reads, refuses, escapes, closes, breaks, completes, lapses, remains, dcs-does}
@@ -23,6 +23,7 @@ use Rattle.meaning.proofs.DcsParts.{no-end}
 use Rattle.meaning.proofs.EachCall.{dcs-so-far}
 use Rattle.meaning.proofs.InkLaws.{Halts}
 use Rattle.meaning.proofs.SoFarLaws.{LeftBy, allRead, stoppedAt}
+use Rattle.meaning.proofs.FeedingLaws.{finish-answers}
 use Rattle.meaning.proofs.ToldLaws.{endTold, told-stopped, told-more, answered-end, proper-one}
 use Rattle.payload.specs.History.{settingMeant, Finishes}
 use Rattle.payload.specs.Judge.{openable}
@@ -32,7 +33,7 @@ use Rattle.dcs.specs.Session.{fedBy, finishedBy}
 use Rattle.dcs.specs.History.{endMeant, answerMeant, Held, tellHeld, called, properCalls}
 use Rattle.dcs.proofs.Callers.{CallerStands, sessionAt, fed-feeds, may-there, calls-stand}
 use Rattle.dcs.proofs.History as history
-use Rattle.dcs.proofs.Standing.{finish-stands, finished-meant, stands-long, stands-fit}
+use Rattle.dcs.proofs.Standing.{finish-stands, stands-long, stands-fit}
 
 -- ---- calls of the definition
 
@@ -133,13 +134,13 @@ module _ (l : Limits) (stride : ℕ) (p : Palette) (opening : List ℕ) (opens :
   -- A finish is 8 there, which leaves the canvas as it was.
   pub unfinished : now .how ≡ readAll → (owner : Palette)
       → Finishes (calls.shown stride (calls.drawingAtFinish setting (there .state)) opening) owner (now .state .1) (finishedBy (now .state .0) owner (now .state .1)) (turnedDown 8)
-  unfolding calls.dcsShownAtFinish settingMeant calls.settingFor calls.firstOf calls.misfits
+  unfolding calls.dcsShownAtFinish settingMeant calls.settingFor calls.finishDcsSession
   unfinished e owner =
       let m : calls.Session Phase = sessionAt l stride p opening there in
       let fine : isRefused (there .how) ≡ false = told-more (there .how) (calls.dcsEnd (there .state)) (sym (stood .learned .how) ∙ e) .1 in
       let answer : calls.finishDcsSession m (length (now .state .1)) ≡ turnedDown 8 =
       ap (calls.finishDcsSession m) (stands-long l stride p opening (stood .session))
-      ∙ finished-meant l stride p opening m (length opening) {o = none} (rw (fine, stands-fit l stride p opening (stood .session)) refl)
+      ∙ finish-answers (λ (t : Phase). calls.visibleArea (calls.drawingOf t)) finishDcs m (length opening) fine (stands-fit l stride p opening (stood .session))
       ∙ finish-before setting (there .state) (not-ended e) in
       subst (Finishes (calls.shown stride (calls.drawingAtFinish setting (there .state)) opening) owner (now .state .1) (finishedBy (now .state .0) owner (now .state .1))) answer
       (finish-stands l stride p opening owner (stood .session))
@@ -159,7 +160,8 @@ module _ (l : Limits) (stride : ℕ) (p : Palette) (opening : List ℕ) (opens :
           arith,
           stood .learned .consumed live,
           next-one .learned .consumed (ap isRefused there-stops),
-          call-stop-reads (dcsStep setting p) (dcsRested setting) (6 * setting .limits .width) (dcs-caps setting p) (allowanceOf t) (there .state) (there .unread ++ pieceOf t) (omega arith) there-stops,
+          call-stop-reads (dcsStep setting p) (dcsRested setting) (6 * setting .limits .width) (dcs-caps setting p) (allowanceOf t) (there .state)
+              (there .unread ++ pieceOf t) (omega arith) there-stops,
         )
 
     -- An end that is told is the one that the definition has come to.

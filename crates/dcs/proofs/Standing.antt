@@ -3,7 +3,7 @@
 use Prim.Native.Nat.{ℕ, _*_}
 use native.Mathlib.Omega.{arith}
 use mathlib.Core.Bool.{Bool, true, false}
-use mathlib.Core.Option.{Option, none, some}
+use mathlib.Core.Option.{none, some}
 use mathlib.Core.List.{List, [], _∷_}
 use mathlib.Core.Path.{_≡_, refl, sym, ap, subst, _∙_}
 use borrow.Author.Tests.{eq-eqb, le-leb}
@@ -20,12 +20,10 @@ use Rattle.frame.specs.declared.Refusal.the-variants as refusals
 use Rattle.frame.specs.Numbers.{numberOf}
 use Rattle.meaning.specs.Calls as calls
 use Rattle.meaning.specs.Drawing.{Setting}
-use Rattle.meaning.specs.Payload as meant
-use Rattle.meaning.specs.Reader.{Run, after, call}
+use Rattle.meaning.specs.Reader.{Run, call}
 use Rattle.meaning.specs.Sessions as sessions
+use Rattle.meaning.proofs.FeedingLaws.{fed-as, finished-as}
 use Rattle.meaning.proofs.RunLaws.{after-zero}
-use Rattle.agreement.proofs.Feed.{turnedDown}
-use Rattle.payload.specs.declared.Finished.{Finished}
 use Rattle.payload.specs.declared.Finishing.the-variants as finishes
 use Rattle.payload.specs.declared.Session as payloadSession
 use Rattle.payload.specs.declared.judge.Judged.{Judged}
@@ -39,7 +37,6 @@ use Rattle.payload.proofs.Openings as openings
 use Rattle.payload.proofs.Judgements as judgements
 use Rattle.payload.proofs.Finishings as finishings
 use Rattle.dcs.specs.declared.Answer.the-variants as answers
-use Rattle.dcs.specs.declared.Fed.{Fed}
 use Rattle.dcs.specs.declared.Phase.{Phase}
 use Rattle.dcs.specs.declared.Phase.the-variants as phases
 use Rattle.dcs.specs.declared.Session.{Session}
@@ -48,41 +45,14 @@ use Rattle.dcs.specs.declared.lead.Place.the-variants as places
 use Rattle.dcs.specs.Session.{sessionOf, openedBy, overAs, escapedBy, fedPayload, fedLead, fedIn, fedAs, fedBy, finishedIn, finishedAs, finishedBy}
 use Rattle.dcs.specs.History.{endMeant, answerMeant, SamePlace, atStart, atIntroduced, inHeader, heldAt, Stands, before, refused, inside, escaped, ended, Opens, isReady, isRefused, Feeds}
 use Rattle.dcs.proofs.Runs.{both}
-use Rattle.dcs.proofs.Within.{over-feeds, escaped-feeds, payload-feeds}
+use Rattle.dcs.proofs.Within.{here, dcsCall, answered, over-feeds, escaped-feeds, payload-feeds}
 use Rattle.dcs.proofs.Before.{waiting, place-area, place-unfinished, lead-feeds}
 
 module _ (l : Limits) (stride : ℕ) (p : Palette) (opening : List ℕ) where
   abbrev setting : Setting
   setting = payload.settingMeant l stride (length opening)
 
-  -- the definition's session in a phase, and its call
-  abbrev here : sessions.Phase → calls.Session sessions.Phase
-  here x = heldAt l stride (length opening) x false
-
-  abbrev dcsCall : ℕ → sessions.Phase → List ℕ → Run sessions.Phase
-  dcsCall = call (sessions.dcsStep setting p) (sessions.dcsRested setting)
-
-  abbrev answered : sessions.Phase → Run sessions.Phase → calls.Fed sessions.Phase sessions.End
-  answered x = calls.answered calls.dcsEnd (here x)
-
   -- ---- feeding
-
-  -- a feed by its refusal: refused, or read
-  pub fed-meant : (m : calls.Session sessions.Phase) (size a : ℕ) (bs : List ℕ) {o : Option ℕ} → calls.feedRefusal (λ (t : sessions.Phase). calls.visibleArea (calls.drawingOf t)) m size a ≡ o
-      → calls.feedDcs p m size a bs
-      ≡ elim o as (λ _. calls.Fed sessions.Phase sessions.End) [
-        | none ↦ calls.answered calls.dcsEnd m (call (sessions.dcsStep (m .setting) p) (sessions.dcsRested (m .setting)) a (m .state) bs)
-        | some n ↦ record { answer = calls.refused n; session = m }
-      ]
-  unfolding calls.feedDcs calls.feed
-  fed-meant m size a bs e =
-      ap
-      (λ (o : Option ℕ).
-      elim o as (λ _. calls.Fed sessions.Phase sessions.End) [
-        | none ↦ calls.answered calls.dcsEnd m (call (sessions.dcsStep (m .setting) p) (sessions.dcsRested (m .setting)) a (m .state) bs)
-        | some n ↦ record { answer = calls.refused n; session = m }
-      ])
-      e
 
   -- 9, 12 and 13 are the definition's, and leave all as it is; else the bytes are read
   by-judged : {s : Session} {c : List ℕ} {m : calls.Session sessions.Phase} → Stands l stride p opening s c m → (bs : List ℕ) (a : ℕ)
@@ -90,19 +60,22 @@ module _ (l : Limits) (stride : ℕ) (p : Palette) (opening : List ℕ) where
       → (feedJudged (s .payload) (length c) a ≡ judged.Fine
       → Feeds l stride p opening (fedIn (s .phase) s c bs a) (calls.answered calls.dcsEnd m (call (sessions.dcsStep (m .setting) p) (sessions.dcsRested (m .setting)) a (m .state) bs)))
       → Feeds l stride p opening (fedBy s c bs a) (calls.feedDcs p m (length c) a bs)
-  unfolding fedBy fedAs judgements.judgedMeant answerMeant
+  unfolding fedBy fedAs judgements.judgedMeant answerMeant calls.feedDcs
   by-judged {s} {c} {m} k bs a same read = go (feedJudged (s .payload) (length c) a) refl
     where
       go : (j : Judged) → feedJudged (s .payload) (length c) a ≡ j → Feeds l stride p opening (fedAs j s c bs a) (calls.feedDcs p m (length c) a bs)
       go judged.Fine e =
-          subst (Feeds l stride p opening (fedIn (s .phase) s c bs a)) (sym (fed-meant m (length c) a bs (sym same ∙ ap judgements.judgedMeant e))) (read e)
+          subst (Feeds l stride p opening (fedIn (s .phase) s c bs a))
+          (sym (fed-as (λ (t : sessions.Phase). calls.visibleArea (calls.drawingOf t)) (λ t. sessions.dcsStep t p) sessions.dcsRested calls.dcsEnd m (length c) a bs
+          (sym same ∙ ap judgements.judgedMeant e))) (read e)
       go (judged.Refused n) e =
           subst (Feeds l stride p opening (record { answer = answers.Refused n; session = s }, c))
-          (sym (fed-meant m (length c) a bs (sym same ∙ ap judgements.judgedMeant e))) (record { answer = refl; session = k })
+          (sym (fed-as (λ (t : sessions.Phase). calls.visibleArea (calls.drawingOf t)) (λ t. sessions.dcsStep t p) sessions.dcsRested calls.dcsEnd m (length c) a bs
+          (sym same ∙ ap judgements.judgedMeant e))) (record { answer = refl; session = k })
 
   -- before the payload the canvas of the opening fits
   place-fits : {t : Place} {h : Parameters} {x : sessions.Phase} → SamePlace t h x
-      → calls.misfits (λ (t : sessions.Phase). calls.visibleArea (calls.drawingOf t)) (here x) (length opening) ≡ false
+      → calls.misfits (λ (t : sessions.Phase). calls.visibleArea (calls.drawingOf t)) (here l stride p opening x) (length opening) ≡ false
   unfolding calls.misfits fits
   place-fits same =
       rw (place-area l stride p opening same, eq-eqb (length opening) (length opening) refl, le-leb 0 (setting .stride) (omega arith), le-leb 0 (rowsOf (length opening) (setting .stride)) (omega arith))
@@ -114,7 +87,7 @@ module _ (l : Limits) (stride : ℕ) (p : Palette) (opening : List ℕ) where
     waits = openings.ready-stands l stride noSettings p opening opens
 
     before-judged : (a : ℕ) → judgements.judgedMeant (feedJudged (waiting l stride p opening) (length opening) a)
-        ≡ calls.feedRefusal (λ (t : sessions.Phase). calls.visibleArea (calls.drawingOf t)) (here x) (length opening) a
+        ≡ calls.feedRefusal (λ (t : sessions.Phase). calls.visibleArea (calls.drawingOf t)) (here l stride p opening x) (length opening) a
     unfolding calls.feedRefusal
     before-judged a =
         judgements.feed-judged waits (length opening) a
@@ -130,7 +103,7 @@ module _ (l : Limits) (stride : ℕ) (p : Palette) (opening : List ℕ) where
     before-ends : judgements.judgedMeant (finishJudged (waiting l stride p opening) (length opening))
         ≡ calls.firstOf
         (record { holds = false; number = 9 }
-        ∷ record { holds = calls.misfits (λ (t : sessions.Phase). calls.visibleArea (calls.drawingOf t)) (here x) (length opening); number = 12 }
+        ∷ record { holds = calls.misfits (λ (t : sessions.Phase). calls.visibleArea (calls.drawingOf t)) (here l stride p opening x) (length opening); number = 12 }
         ∷ [])
     unfolding judgements.misfit
     before-ends =
@@ -138,13 +111,14 @@ module _ (l : Limits) (stride : ℕ) (p : Palette) (opening : List ℕ) where
         ∙ ap (λ (u : Bool). calls.firstOf (record { holds = false; number = 9 } ∷ record { holds = u; number = 12 } ∷ []))
         (judgements.stands-fit waits ∙ sym (place-fits same))
 
-    before-feeds : (bs : List ℕ) (a : ℕ) → Feeds l stride p opening (fedBy (sessionOf (waiting l stride p opening) h (phases.Before t)) opening bs a) (calls.feedDcs p (here x) (length opening) a bs)
+    before-feeds : (bs : List ℕ) (a : ℕ) → Feeds l stride p opening (fedBy (sessionOf (waiting l stride p opening) h (phases.Before t)) opening bs a)
+        (calls.feedDcs p (here l stride p opening x) (length opening) a bs)
     unfolding fedIn fedLead
     before-feeds bs a =
         by-judged (before opens same) bs a (before-judged a)
         (λ fine.
-        subst (λ (q : Run sessions.Phase). Feeds l stride p opening (fedLead (sessionOf (waiting l stride p opening) h (phases.Before t)) t opening bs a) (answered x q))
-        (after-zero (dcsCall a x bs))
+        subst (λ (q : Run sessions.Phase). Feeds l stride p opening (fedLead (sessionOf (waiting l stride p opening) h (phases.Before t)) t opening bs a) (answered l stride p opening x q))
+        (after-zero (dcsCall l stride p opening a x bs))
         (lead-feeds l stride p opening opens h (phases.Before t) x bs a fine bs t h x same 0 refl))
 
   inside-feeds : {s : payloadSession.Session} {c : List ℕ} {r : sessions.Reading} (h : Parameters) (failed : Bool) (k : payload.Stands opening s c (heldAt l stride (length opening) r failed))
@@ -159,8 +133,8 @@ module _ (l : Limits) (stride : ℕ) (p : Palette) (opening : List ℕ) where
   inside-feeds {s} {c} {r} h false k over bs a =
       by-judged (inside k over) bs a (judgements.feed-judged k (length c) a)
       (λ fine.
-      subst (λ (q : Run sessions.Phase). Feeds l stride p opening (fedPayload (sessionOf s h phases.Within) c bs 0 a) (answered (sessions.within r) q))
-      (after-zero (dcsCall a (sessions.within r) bs))
+      subst (λ (q : Run sessions.Phase). Feeds l stride p opening (fedPayload (sessionOf s h phases.Within) c bs 0 a) (answered l stride p opening (sessions.within r) q))
+      (after-zero (dcsCall l stride p opening a (sessions.within r) bs))
       (payload-feeds l stride p opening k (over refl) h (sessions.within r) 0 a bs fine))
 
   -- a feed of the code is the definition's
@@ -174,14 +148,14 @@ module _ (l : Limits) (stride : ℕ) (p : Palette) (opening : List ℕ) where
   feed-stands (escaped {s} {h} {c} {r} k) bs a =
       by-judged (escaped k) bs a (judgements.feed-judged k (length c) a)
       (λ fine.
-      subst (λ (q : Run sessions.Phase). Feeds l stride p opening (escapedBy (sessionOf s h phases.Escaped) bs 0 0, c) (answered (sessions.afterEscape r) q))
-      (after-zero (dcsCall a (sessions.afterEscape r) bs))
+      subst (λ (q : Run sessions.Phase). Feeds l stride p opening (escapedBy (sessionOf s h phases.Escaped) bs 0 0, c) (answered l stride p opening (sessions.afterEscape r) q))
+      (after-zero (dcsCall l stride p opening a (sessions.afterEscape r) bs))
       (escaped-feeds l stride p opening k h phases.Escaped (sessions.afterEscape r) 0 0 a bs))
   feed-stands (ended {s} {h} {c} {r} {e} k) bs a =
       by-judged (ended k) bs a (judgements.feed-judged k (length c) a)
       (λ fine.
-      subst (λ (q : Run sessions.Phase). Feeds l stride p opening (overAs (sessionOf s h (phases.Over e)) 0 0 e, c) (answered (sessions.over (endMeant e) r) q))
-      (after-zero (dcsCall a (sessions.over (endMeant e) r) bs))
+      subst (λ (q : Run sessions.Phase). Feeds l stride p opening (overAs (sessionOf s h (phases.Over e)) 0 0 e, c) (answered l stride p opening (sessions.over (endMeant e) r) q))
+      (after-zero (dcsCall l stride p opening a (sessions.over (endMeant e) r) bs))
       (over-feeds l stride p opening k h (phases.Over e) (sessions.over (endMeant e) r) 0 0 a bs e))
 
   -- ---- opening
@@ -197,15 +171,6 @@ module _ (l : Limits) (stride : ℕ) (p : Palette) (opening : List ℕ) where
 
   -- ---- finishing
 
-  -- a finish by its refusal
-  pub finished-meant : (m : calls.Session sessions.Phase) (size : ℕ) {o : Option ℕ}
-      → calls.firstOf (record { holds = m .failed; number = 9 } ∷ record { holds = calls.misfits (λ (t : sessions.Phase). calls.visibleArea (calls.drawingOf t)) m size; number = 12 } ∷ []) ≡ o
-      → calls.finishDcsSession m size
-      ≡ elim o as (λ _. meant.Finished) [ none ↦ sessions.finishDcs (m .setting) (m .state) | some n ↦ meant.turnedDown n ]
-  unfolding calls.finishDcsSession calls.finishSession
-  finished-meant m size e =
-      ap (λ (o : Option ℕ). elim o as (λ _. meant.Finished) [ none ↦ sessions.finishDcs (m .setting) (m .state) | some n ↦ meant.turnedDown n ]) e
-
   module _ (owner : Palette) where
     -- 9 and 12 are the definition's
     by-finish : {s : Session} {c : List ℕ} {m : calls.Session sessions.Phase} → Stands l stride p opening s c m → (picture : List ℕ)
@@ -214,20 +179,21 @@ module _ (l : Limits) (stride : ℕ) (p : Palette) (opening : List ℕ) where
         → (finishJudged (s .payload) (length c) ≡ judged.Fine
         → payload.Finishes picture owner c (finishedIn (s .phase) s owner c) (sessions.finishDcs (m .setting) (m .state)))
         → payload.Finishes picture owner c (finishedBy s owner c) (calls.finishDcsSession m (length c))
-    unfolding finishedBy finishedAs judgements.judgedMeant coded.turnedAway
+    unfolding finishedBy finishedAs judgements.judgedMeant coded.turnedAway calls.finishDcsSession
     by-finish {s} {c} {m} k picture same read = go (finishJudged (s .payload) (length c)) refl
       where
         go : (j : Judged) → finishJudged (s .payload) (length c) ≡ j → payload.Finishes picture owner c (finishedAs j s owner c) (calls.finishDcsSession m (length c))
         go judged.Fine e =
-            subst (payload.Finishes picture owner c (finishedIn (s .phase) s owner c)) (sym (finished-meant m (length c) (sym same ∙ ap judgements.judgedMeant e))) (read e)
+            subst (payload.Finishes picture owner c (finishedIn (s .phase) s owner c))
+            (sym (finished-as (λ (t : sessions.Phase). calls.visibleArea (calls.drawingOf t)) sessions.finishDcs m (length c) (sym same ∙ ap judgements.judgedMeant e))) (read e)
         go (judged.Refused n) e =
             subst (payload.Finishes picture owner c (record { answer = finishes.Refused n; palette = owner }, c))
-            (sym (finished-meant m (length c) (sym same ∙ ap judgements.judgedMeant e))) (payload.declines n)
+            (sym (finished-as (λ (t : sessions.Phase). calls.visibleArea (calls.drawingOf t)) sessions.finishDcs m (length c) (sym same ∙ ap judgements.judgedMeant e))) (payload.declines n)
 
     -- a finish of the code is the definition's
     pub finish-stands : {s : Session} {c : List ℕ} {m : calls.Session sessions.Phase} → Stands l stride p opening s c m
         → payload.Finishes (calls.dcsShownAtFinish m opening) owner c (finishedBy s owner c) (calls.finishDcsSession m (length c))
-    unfolding finishedIn coded.turnedAway judgements.judgedMeant judgements.misfit finishJudged isFailed coded.sessionFor numberOf sessions.finishDcs calls.firstOf calls.misfits calls.visibleArea calls.drawingOf calls.dcsShownAtFinish calls.drawingAtFinish calls.payloadShownAtFinish
+    unfolding finishedIn coded.turnedAway judgements.judgedMeant judgements.misfit finishJudged isFailed coded.sessionFor numberOf sessions.finishDcs calls.firstOf calls.misfits calls.visibleArea calls.drawingOf calls.dcsShownAtFinish calls.drawingAtFinish calls.payloadShownAtFinish calls.finishPayload
     finish-stands (before opens same) =
         by-finish (before opens same) _ (before-ends opens same)
         (λ _. subst (payload.Finishes _ owner opening (record { answer = finishes.Refused refusals.Unfinished; palette = owner }, opening)) (sym (place-unfinished l stride p opening same)) (payload.declines refusals.Unfinished))
@@ -238,7 +204,8 @@ module _ (l : Limits) (stride : ℕ) (p : Palette) (opening : List ℕ) where
         by-finish (ended k) _ (judgements.finish-judged k (length c))
         (λ fine.
         subst (payload.Finishes (calls.payloadShownAtFinish (heldAt l stride (length opening) r false) opening) owner c (coded.finishedBy s owner c))
-        (finishings.finished-meant (heldAt l stride (length opening) r false) (length c) (sym (judgements.finish-judged k (length c)) ∙ ap judgements.judgedMeant fine))
+        (finished-as (λ (r : sessions.Reading). r .drawing .area) sessions.finishReading (heldAt l stride (length opening) r false) (length c)
+        (sym (judgements.finish-judged k (length c)) ∙ ap judgements.judgedMeant fine))
         (finishings.finish-stands k owner))
 
   -- ---- the canvas

@@ -2,7 +2,7 @@
 use Prim.Native.Nat.{ℕ, _+_, _-_}
 use native.Mathlib.Nat.{add-zero, zero-add}
 use native.Mathlib.Omega.{arith}
-use mathlib.Core.Bool.{true, false, _||_, true≢false}
+use mathlib.Core.Bool.{false, _||_, true≢false}
 use mathlib.Core.Option.{Option, none, some}
 use mathlib.Core.List.{List, [], _∷_}
 use mathlib.Core.Path.{_≡_, refl, sym, ap, ap₂, subst, _∙_}
@@ -22,6 +22,7 @@ use Rattle.meaning.specs.Sequence.{inPayload}
 use Rattle.meaning.specs.Sessions as sessions
 use Rattle.meaning.proofs.RunLaws.{after-after}
 use Rattle.meaning.proofs.CallLaws.{called}
+use Rattle.meaning.proofs.FeedingLaws.{fed-as}
 use Rattle.agreement.proofs.Feed.{EndsAlike, allRead, stoppedEarly, atEnd, turnedDown}
 use Rattle.payload.specs.declared.Answer as payloadAnswer
 use Rattle.payload.specs.declared.Answer.the-variants as payloadAnswers
@@ -40,7 +41,7 @@ use Rattle.dcs.specs.declared.Phase.{Phase}
 use Rattle.dcs.specs.declared.Phase.the-variants as phases
 use Rattle.dcs.specs.declared.Session.{Session}
 use Rattle.dcs.specs.Session.{sessionOf, movedTo, overAs, escapedBy, closedBy, passedOn, fedPayload, fedBy}
-use Rattle.dcs.specs.History.{endMeant, answerMeant, heldAt, Stands, before, refused, inside, escaped, ended, Feeds}
+use Rattle.dcs.specs.History.{endMeant, answerMeant, heldAt, Stands, refused, inside, escaped, ended, Feeds}
 use Rattle.dcs.proofs.Runs.{both, after-one, halted-at, endCall, framedCall, within-call, escape-call}
 
 -- ---- what an answer of the payload session means, read back
@@ -205,13 +206,14 @@ module _ (l : Limits) (stride : ℕ) (p : Palette) (opening : List ℕ) where
     -- the payload's bytes, with a session that passes 9, 12 and 13
     pub payload-feeds : (n a : ℕ) (bs : List ℕ) → feedJudged s (length c) a ≡ judged.Fine
         → Feeds l stride p opening (fedPayload (sessionOf s h phases.Within) c bs n a) (answered x (after n 0 (dcsCall a (sessions.within r) bs)))
-    unfolding fedPayload judgements.judgedMeant
+    unfolding fedPayload judgements.judgedMeant calls.feedPayload
     payload-feeds n a bs fine =
         let q : Run sessions.Reading = call (sessions.payloadStep setting) (sessions.rested setting) a r bs in
         let y : payloadFed.Fed × List ℕ = coded.fedBy s c bs a in
         let f : payload.Feeds opening y (calls.answered (λ (r : sessions.Reading). r .over) (heldAt l stride (length opening) r false) q) =
         subst (payload.Feeds opening y)
-        (feedings.fed-meant (heldAt l stride (length opening) r false) (length c) a bs (sym (judgements.feed-judged k (length c) a) ∙ ap judgements.judgedMeant fine))
+        (fed-as (λ (r : sessions.Reading). r .drawing .area) sessions.payloadStep sessions.rested (λ (r : sessions.Reading). r .over)
+        (heldAt l stride (length opening) r false) (length c) a bs (sym (judgements.feed-judged k (length c) a) ∙ ap judgements.judgedMeant fine))
         (feedings.feed-stands k bs a) in
         subst (λ (z : Run sessions.Phase). Feeds l stride p opening (fedPayload (sessionOf s h phases.Within) c bs n a) (answered x (after n 0 z)))
         (sym (within-call setting p a r bs))

@@ -4,6 +4,7 @@ pub mod CallLaws
 pub mod CallerLaws
 pub mod HistoryLaws
 pub mod ToldLaws
+pub mod FeedingLaws
 pub mod SoFarLaws
 pub mod ReaderLaws
 pub mod CommandLaws

@@ -1,20 +1,18 @@
 -- Laws of any session's callers: what the answers of its code tell is what the definition's caller comes to.
-use Prim.Native.Nat.{ℕ, _+_, _*_, _≤_}
+use Prim.Native.Nat.{ℕ, _+_, _≤_}
 use native.Mathlib.Omega.{arith}
 use mathlib.Core.Bool.{true, false, true≢false}
 use mathlib.Core.Option.{Option, none, some}
 use mathlib.Core.List.{List, [], _∷_, _++_, map}
-use mathlib.Core.Path.{_≡_, refl, sym, ap, ap₂, _∙_}
-use borrow.Author.Tests.{le-leb, le-ltb, leb-true}
+use mathlib.Core.Path.{_≡_, refl, ap, ap₂}
+use borrow.Author.Tests.{le-leb, leb-true}
 use lib.Dec.{leb}
 use lib.ListN.{drop}
-use Rattle.canvas.specs.Picture.{Area}
-use Rattle.meaning.specs.Calls.{ended, Answer, told, refused, Session, Fed, atEnd, sessionAfter, tells, answered, firstOf, misfits, feedRefusal, feed}
+use Rattle.meaning.specs.Calls.{ended, Answer, told, Session, Fed, atEnd, sessionAfter, tells, answered}
 use Rattle.meaning.specs.Callers.{Feed, Past, fedAll, howTold, consumedTold, inkTold, afterFeed, called, callsOf, properCalls}
-use Rattle.meaning.specs.Drawing.{Setting}
 use Rattle.meaning.specs.Histories.{Ask}
-use Rattle.meaning.specs.Reader.{Step, How, readAll, stopped, halted, refusedBy, isRefused, Run, call, Turn, fresh, again, allowanceOf, Caller, mayCall, having, turn, turns, proper}
-use Rattle.meaning.proofs.Cases.{cond-no, both, and-both}
+use Rattle.meaning.specs.Reader.{Step, How, readAll, stopped, halted, refusedBy, isRefused, Run, Turn, fresh, again, allowanceOf, Caller, mayCall, having, turn, turns, proper}
+use Rattle.meaning.proofs.Cases.{both, and-both}
 
 -- ---- any calls
 
@@ -161,24 +159,6 @@ module _ {S E : Type 0} (end : S → Option E) (m : Session S) (q : Run S) where
       each halted none z = cc
       each halted (some y) z = cc
       each (refusedBy k) o z = cc
-
--- a feed that is refused neither 9, 12 nor 13 is a call, answered
-module _ {S E : Type 0} (areaOf : S → Area) (step : Setting → S → ℕ → Step S) (rest : Setting → S → S) (end : S → Option E) (m : Session S) (size a : ℕ)
-    (live : m .failed ≡ false) (fits : misfits areaOf m size ≡ false) (enough : 6 * m .setting .limits .width ≤ a) where
-  passes : feedRefusal areaOf m size a ≡ none
-  unfolding feedRefusal firstOf
-  passes = cond-no _ _ _ live ∙ cond-no _ _ _ fits ∙ cond-no _ _ _ (le-ltb a (6 * m .setting .limits .width) enough)
-
-  pub feed-answers : (bs : List ℕ) → feed areaOf step rest end m size a bs ≡ answered end m (call (step (m .setting)) (rest (m .setting)) a (m .state) bs)
-  unfolding feed
-  feed-answers bs =
-      ap
-      (λ (o : Option ℕ).
-      elim o as (λ _. Fed S E) [
-        | none ↦ answered end m (call (step (m .setting)) (rest (m .setting)) a (m .state) bs)
-        | some n ↦ record { answer = refused n; session = m }
-      ])
-      passes
 
 -- ---- a caller of the code, and one of the definition
 

@@ -2,7 +2,7 @@
 use Prim.Native.Nat.{ℕ, _*_, _≤_, _<_}
 use mathlib.Core.Bool.{Bool, true, false}
 use mathlib.Core.List.{List, [], _∷_}
-use mathlib.Core.Option.{none, some}
+use mathlib.Core.Option.{some}
 use mathlib.Core.Path.{_≡_, refl, sym, ap, subst, _∙_}
 use native.Mathlib.Nat.{zero-add}
 use native.Mathlib.Omega.{arith}
@@ -15,13 +15,13 @@ use Rattle.meaning.specs.Reader.{How, readAll, stopped, halted, isRefused, Run,
 use Rattle.meaning.specs.Sessions.{Reading, rested, payloadStep, finishReading}
 use Rattle.meaning.proofs.CallLaws.{call-stop-reads}
 use Rattle.meaning.proofs.Demand3.{payload-caps}
+use Rattle.meaning.proofs.FeedingLaws.{finish-answers}
 use Rattle.meaning.proofs.ToldLaws.{proper-one}
 use Rattle.payload.specs.declared.Fed.{Fed}
 use Rattle.payload.specs.declared.Session.{Session}
 use Rattle.payload.specs.History.{answerMeant, Stands, Held, tellWith, callsOf, properCalls}
 use Rattle.payload.specs.Session.{fedBy}
 use Rattle.payload.proofs.Callers.{CallerStands, calls-stand}
-use Rattle.payload.proofs.Finishings.{finished-meant}
 use Rattle.payload.proofs.Judgements.{stands-long, stands-fit}
 
 -- the definition's session in a state, on a canvas as long as at the opening
@@ -92,10 +92,7 @@ module _ {opening : List ℕ} {t : Setting} {r : Reading} {s : Session} {l : Lis
   fitting : calls.misfits (λ (u : Reading). u .drawing .area) (sessionIn opening t r false) (length l) ≡ false
   fitting = ap (calls.misfits (λ (u : Reading). u .drawing .area) (sessionIn opening t r false)) (stands-long k) ∙ stands-fit k
 
-  unjudged : calls.firstOf (record { holds = false; number = 9 } ∷ record { holds = calls.misfits (λ (u : Reading). u .drawing .area) (sessionIn opening t r false) (length l); number = 12 } ∷ []) ≡ none
-  unfolding calls.firstOf calls.misfits
-  unjudged = rw fitting refl
-
   -- so finishing finishes the reading
   pub finish-lives : calls.finishPayload (sessionIn opening t r false) (length l) ≡ finishReading t r
-  finish-lives = finished-meant (sessionIn opening t r false) (length l) unjudged
+  unfolding calls.finishPayload
+  finish-lives = finish-answers (λ (u : Reading). u .drawing .area) finishReading (sessionIn opening t r false) (length l) refl fitting

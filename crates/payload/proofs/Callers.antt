@@ -18,9 +18,10 @@ use Rattle.meaning.specs.Sessions.{Reading, rested, payloadStep}
 use Rattle.meaning.proofs.CallLaws as callLaws
 use Rattle.meaning.proofs.CallerLaws.{not-refused}
 use Rattle.meaning.proofs.Demand3.{payload-halts}
+use Rattle.meaning.proofs.FeedingLaws.{feed-answers}
 use Rattle.meaning.proofs.HistoryLaws.{StaysHalted, halts-again}
 use Rattle.meaning.proofs.ToldLaws as toldLaws
-use Rattle.meaning.proofs.ToldLaws.{endTold, Tells, answered-tells, answered-leaves, feed-answers, Learned, learned-more}
+use Rattle.meaning.proofs.ToldLaws.{endTold, Tells, answered-tells, answered-leaves, Learned, learned-more}
 use Rattle.agreement.proofs.Feed.{EndsAlike, allRead, stoppedEarly, atEnd, turnedDown}
 use Rattle.payload.specs.declared.Fed.{Fed}
 use Rattle.payload.specs.Session.{fedBy}

@@ -20,6 +20,7 @@ use Rattle.meaning.specs.Reader.{Step, next, halt, refuse, How, readAll, stoppe
 use Rattle.meaning.specs.Sessions.{Reading, rested, readByte, payloadStep}
 use Rattle.agreement.specs.Same as same
 use Rattle.meaning.proofs.AreaLaws.{Leaves, leaves-map, call-keeps}
+use Rattle.meaning.proofs.FeedingLaws.{fed-as}
 use Rattle.meaning.proofs.PayloadLaws.{reading-parameters}
 use Rattle.agreement.proofs.Feed.{EndsAlike, allRead, stoppedEarly, atEnd, turnedDown, FeedAgrees, feed-agrees}
 use Rattle.payload.specs.declared.Answer.the-variants as answers
@@ -57,23 +58,6 @@ call-parameters s a r bs =
 over-halts : (s : drawing.Setting) (r : Reading) (x : ℕ) {b : ℕ} → r .over ≡ some b → payloadStep s r x ≡ halt r
 unfolding payloadStep
 over-halts s r x e = ap (λ (o : Option ℕ). elim o as (λ _. Step Reading) [ none ↦ readByte s r x | some n ↦ halt r ]) e
-
--- a feed by its refusal: refused, or read
-pub fed-meant : (m : calls.Session Reading) (size a : ℕ) (bs : List ℕ) {o : Option ℕ} → calls.feedRefusal (λ (r : Reading). r .drawing .area) m size a ≡ o
-    → calls.feedPayload m size a bs
-    ≡ elim o as (λ _. calls.Fed Reading ℕ) [
-      | none ↦ calls.answered (λ (r : Reading). r .over) m (call (payloadStep (m .setting)) (rested (m .setting)) a (m .state) bs)
-      | some n ↦ record { answer = calls.refused n; session = m }
-    ]
-unfolding calls.feedPayload calls.feed
-fed-meant m size a bs e =
-    ap
-    (λ (o : Option ℕ).
-    elim o as (λ _. calls.Fed Reading ℕ) [
-      | none ↦ calls.answered (λ (r : Reading). r .over) m (call (payloadStep (m .setting)) (rested (m .setting)) a (m .state) bs)
-      | some n ↦ record { answer = calls.refused n; session = m }
-    ])
-    e
 
 module _ {opening : List ℕ} {s : Session} {l : List ℕ} {m : calls.Session Reading} (k : Stands opening s l m) where
   -- the session after a call
@@ -175,13 +159,16 @@ module _ {opening : List ℕ} {s : Session} {l : List ℕ} {m : calls.Session Re
 -- a feed of the code is the definition's
 pub feed-stands : {opening : List ℕ} {s : Session} {l : List ℕ} {m : calls.Session Reading} → Stands opening s l m → (bytes : List ℕ) (allowance : ℕ)
     → Feeds opening (fedBy s l bytes allowance) (calls.feedPayload m (length l) allowance bytes)
-unfolding fedBy fedAs judgedMeant answerMeant
+unfolding fedBy fedAs judgedMeant answerMeant calls.feedPayload
 feed-stands {opening} {s} {l} {m} k bs a = go (feedJudged s (length l) a) refl
   where
     go : (j : Judged) → feedJudged s (length l) a ≡ j → Feeds opening (fedAs j s l bs a) (calls.feedPayload m (length l) a bs)
     go judged.Fine e =
-        subst (Feeds opening (fedIn (s .life) s l bs a)) (sym (fed-meant m (length l) a bs (sym (feed-judged k (length l) a) ∙ ap judgedMeant e)))
+        subst (Feeds opening (fedIn (s .life) s l bs a))
+        (sym (fed-as (λ (r : Reading). r .drawing .area) payloadStep rested (λ (r : Reading). r .over) m (length l) a bs
+        (sym (feed-judged k (length l) a) ∙ ap judgedMeant e)))
         (passed-feeds k a bs (length l) e (s .life) refl)
     go (judged.Refused n) e =
         subst (Feeds opening (record { answer = answers.Refused n; session = s }, l))
-        (sym (fed-meant m (length l) a bs (sym (feed-judged k (length l) a) ∙ ap judgedMeant e))) (record { answer = refl; session = k })
+        (sym (fed-as (λ (r : Reading). r .drawing .area) payloadStep rested (λ (r : Reading). r .over) m (length l) a bs
+        (sym (feed-judged k (length l) a) ∙ ap judgedMeant e))) (record { answer = refl; session = k })

@@ -1,8 +1,7 @@
 -- A finish of the code is the definition's.
 use Prim.Native.Nat.{ℕ, _-_}
 use mathlib.Core.Bool.{Bool, false, cond}
-use mathlib.Core.Option.{Option, none, some}
-use mathlib.Core.List.{List, [], _∷_}
+use mathlib.Core.List.{List}
 use mathlib.Core.Path.{_≡_, refl, sym, ap, ap₂, _∙_, subst}
 use lib.Dec.{eqb}
 use lib.ListN.{length}
@@ -23,6 +22,7 @@ use Rattle.meaning.specs.Payload as meant
 use Rattle.meaning.specs.Sessions.{Reading, settled, finishReading}
 use Rattle.agreement.specs.Same as same
 use Rattle.meaning.proofs.AreaLaws.{not-too-large}
+use Rattle.meaning.proofs.FeedingLaws.{finished-as}
 use Rattle.agreement.proofs.Feed.{turnedDown}
 use Rattle.agreement.proofs.Settle.{same-fact}
 use Rattle.agreement.proofs.Finish.{Finishing, reporting, declining, finish-agrees}
@@ -106,26 +106,18 @@ module _ {opening : List ℕ} {s : Session} {l : List ℕ} {m : calls.Session Re
       (ap (λ (o : Outcome). finishedIn o s owner (last .stepped .frame) (last .palette) l) (sym e))
       (subst (λ (i : ℕ). Finishes (calls.payloadShownAtFinish m opening) owner l (record { answer = finishes.Refused why; palette = owner }, l) (meant.turnedDown i)) number (declines why))
 
--- a finish by its refusal
-pub finished-meant : (m : calls.Session Reading) (size : ℕ) {o : Option ℕ}
-    → calls.firstOf (record { holds = m .failed; number = 9 } ∷ record { holds = calls.misfits (λ (r : Reading). r .drawing .area) m size; number = 12 } ∷ []) ≡ o
-    → calls.finishPayload m size
-    ≡ elim o as (λ _. meant.Finished) [ none ↦ finishReading (m .setting) (m .state) | some n ↦ meant.turnedDown n ]
-unfolding calls.finishPayload calls.finishSession
-finished-meant m size e =
-    ap (λ (o : Option ℕ). elim o as (λ _. meant.Finished) [ none ↦ finishReading (m .setting) (m .state) | some n ↦ meant.turnedDown n ]) e
-
 -- a finish of the code is the definition's
 pub finish-stands : {opening : List ℕ} {s : Session} {l : List ℕ} {m : calls.Session Reading} → Stands opening s l m → (owner : Palette)
     → Finishes (calls.payloadShownAtFinish m opening) owner l (finishedBy s owner l) (calls.finishPayload m (length l))
-unfolding finishedBy finishedAs turnedAway judgedMeant misfit finishJudged
+unfolding finishedBy finishedAs turnedAway judgedMeant misfit finishJudged calls.finishPayload
 finish-stands {opening} {s} {l} {m} k owner = go (finishJudged s (length l)) refl
   where
     go : (j : Judged) → finishJudged s (length l) ≡ j → Finishes (calls.payloadShownAtFinish m opening) owner l (finishedAs j s owner l) (calls.finishPayload m (length l))
     go judged.Fine e =
         let live : m .failed ≡ false = sym (failed-test k (length l)) ∙ passes refusals.Failed (isFailed (s .life)) _ e .0 in
-        subst (Finishes (calls.payloadShownAtFinish m opening) owner l (finishedLive s owner l)) (sym (finished-meant m (length l) (sym (finish-judged k (length l)) ∙ ap judgedMeant e)))
+        subst (Finishes (calls.payloadShownAtFinish m opening) owner l (finishedLive s owner l))
+        (sym (finished-as (λ (r : Reading). r .drawing .area) finishReading m (length l) (sym (finish-judged k (length l)) ∙ ap judgedMeant e)))
         (live-finishes k owner (finish-agrees (record { drawing = k .drawing; begun = k .begun live })))
     go (judged.Refused n) e =
         subst (Finishes (calls.payloadShownAtFinish m opening) owner l (record { answer = finishes.Refused n; palette = owner }, l))
-        (sym (finished-meant m (length l) (sym (finish-judged k (length l)) ∙ ap judgedMeant e))) (declines n)
+        (sym (finished-as (λ (r : Reading). r .drawing .area) finishReading m (length l) (sym (finish-judged k (length l)) ∙ ap judgedMeant e))) (declines n)

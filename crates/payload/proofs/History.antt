@@ -1,7 +1,7 @@
 -- Any calls of the code, the canvas given back each time as it was left, are the definition's; and so demands 2 and 3 hold of the code.
 use Prim.Native.Nat.{ℕ, _+_, _-_, _*_, _/_, _≤_}
 use mathlib.Core.Bool.{true, false}
-use mathlib.Core.Option.{none, some}
+use mathlib.Core.Option.{some}
 use mathlib.Core.List.{List}
 use mathlib.Core.Path.{_≡_, refl, sym, ap, ap₂, _∙_, subst}
 use lib.ListN.{length, take}
@@ -16,6 +16,7 @@ use Rattle.meaning.specs.Reader.{stopped, refusedBy, isAll, isRefused, Turn, st
 use Rattle.meaning.specs.Sessions.{Reading, opened, settled, finishReading}
 use Rattle.meaning.proofs.Demand3.{payload-calls, payload-outcome, payload-refused, payload-all-ink, payload-consumed}
 use Rattle.meaning.proofs.EachCall.{payload-so-far, payload-drawn-so-far, payload-ink-so-far}
+use Rattle.meaning.proofs.FeedingLaws.{finish-answers}
 use Rattle.meaning.proofs.PayloadLaws.{outcome-settled}
 use Rattle.meaning.proofs.ToldLaws as toldLaws
 use Rattle.meaning.proofs.ToldLaws.{all-pass}
@@ -27,7 +28,7 @@ use Rattle.payload.specs.History.{parametersMeant, limitsMeant, settingM
 use Rattle.payload.proofs.Openings.{opened-stands}
 use Rattle.payload.proofs.Judgements.{stands-shows, stands-long, stands-fit}
 use Rattle.payload.proofs.Feedings.{feed-stands}
-use Rattle.payload.proofs.Finishings.{finish-stands, finished-meant}
+use Rattle.payload.proofs.Finishings.{finish-stands}
 use Rattle.payload.proofs.Callers.{sessionAt, CallerStands, calls-stand}
 
 -- ---- any calls
@@ -166,13 +167,13 @@ module _ (l : Limits) (stride : ℕ) (o : Settings) (p : Palette) (opening : Lis
     -- a finish after calls that were not refused
     finish-there : isRefused (now .how) ≡ false → (owner : Palette) {out : Outcome} → settled setting (there .state) ≡ out
         → Finishes (shownOf (out .drawing)) owner canvas (finishedBy session owner canvas) (meant.finish setting given out)
-    unfolding calls.payloadShownAtFinish settingMeant calls.settingFor finishReading calls.firstOf calls.misfits
+    unfolding calls.payloadShownAtFinish settingMeant calls.settingFor finishReading calls.finishPayload
     finish-there fine owner {out} e =
         let m : calls.Session Reading = sessionAt setting (length opening) there in
         let live : isRefused (there .how) ≡ false = fine-there fine in
         let answer : calls.finishPayload m (length canvas) ≡ meant.finish setting given out =
         ap (calls.finishPayload m) (stands-long (stood .session))
-        ∙ finished-meant m (length opening) {o = none} (rw (live, stands-fit (stood .session)) refl)
+        ∙ finish-answers (λ (r : Reading). r .drawing .area) finishReading m (length opening) live (stands-fit (stood .session))
         ∙ ap₂ (meant.finish setting) (stood .parameters) e in
         subst (λ (x : Outcome). Finishes (shownOf (x .drawing)) owner canvas (finishedBy session owner canvas) (meant.finish setting given out)) e
         (subst (Finishes (calls.payloadShownAtFinish m opening) owner canvas (finishedBy session owner canvas)) answer

@@ -1,4 +1,4 @@
--- What the promise asks of the definition: at an end the picture is that of the whole stream, and bytes after an end or a refusal make no difference.
+-- What the promise asks of the definition: at an end there is a picture, and bytes after an end or a refusal make no difference.
 use Prim.Native.Nat.{ℕ, _≤_}
 use native.Mathlib.Omega.{arith}
 use mathlib.Core.Option.{none, some}
@@ -15,8 +15,9 @@ use Rattle.meaning.specs.Sequence.{sequencePayload, sequenceInk}
 use Rattle.meaning.specs.Sessions.{End, Phase, start, introduced, header, within, afterEscape, over, dcsStep, finishDcs}
 use Rattle.meaning.proofs.AreaLaws.{Roomy, payload-reports}
 use Rattle.meaning.proofs.Cases.{cond-case}
-use Rattle.meaning.proofs.DcsLaws.{sequence-over, sequence-drawing, sequence-missing, sequence-finish, sequence-ink, sequence-refused, sequence-turned-down}
+use Rattle.meaning.proofs.DcsLaws.{sequence-over, sequence-missing, sequence-finish, sequence-ink, sequence-refused, sequence-turned-down}
 use Rattle.meaning.proofs.DcsParts.{Agrees, sequence-agrees, before-open, no-end}
+use Rattle.meaning.proofs.DcsSoFar.{sequence-finish-drawing}
 use Rattle.meaning.proofs.PayloadLaws.{readPayload, reading-settled, settled-none, halted-settled}
 use Rattle.meaning.proofs.RunLaws.{read-append}
 use Rattle.pieces.specs.declared.Standing.{Standing}
@@ -32,19 +33,8 @@ stood-going standings.Reading e = let never : _≡_ {A = ℕ} 0 1 = cc in omega 
 stood-going (standings.Ended d) e = let never : _≡_ {A = ℕ} 0 1 = cc in omega arith
 stood-going (standings.Refused n) e = let never : _≡_ {A = ℕ} 0 1 = cc in omega arith
 
--- ---- the picture at the end is that of the whole stream
+-- ---- at an end there is always a picture
 
-pub drawing-whole : (s : Setting) (p : Palette) (bs : List ℕ) {e : End} → calls.dcsEnd (readFrom (dcsStep s p) start bs .state) ≡ some e
-    → calls.drawingAtFinish s (readFrom (dcsStep s p) start bs .state) ≡ calls.drawingFound s p (findPayload bs)
-unfolding calls.drawingFound
-drawing-whole s p bs {e} z = go (sequencePayload bs) refl (sequence-agrees bs)
-  where
-    go : (f : Found) → sequencePayload bs ≡ f → Agrees bs f
-        → calls.drawingAtFinish s (readFrom (dcsStep s p) start bs .state) ≡ calls.drawingFound s p (findPayload bs)
-    go (found o part) q same = sequence-drawing s p bs q z ∙ ap (calls.drawingFound s p) (sym same)
-    go (missing n) q same = absurd (no-end (sym (before-open _ (sequence-missing s p bs q .0)) ∙ z))
-
--- and it is always reported
 pub ended-reports : (s : Setting) (p : Palette) (bs : List ℕ) {e : End} → Roomy s → calls.dcsEnd (readFrom (dcsStep s p) start bs .state) ≡ some e
     → (r : meant.Report) × (oneShot s p bs ≡ meant.finished r)
 unfolding oneShot answerOf isRefused
@@ -109,6 +99,11 @@ module _ (s : Setting) (p : Palette) where
 
     pub ended-answer : {e : End} → calls.dcsEnd (readFrom (dcsStep s p) start xs .state) ≡ some e → oneShot s p (xs ++ ys) ≡ oneShot s p xs
     ended-answer h = sym (sequence-finish s p (xs ++ ys) (ended-end h)) ∙ ap (finishDcs s) (over-more h .0) ∙ sequence-finish s p xs h
+
+    pub ended-drawing : {e : End} → calls.dcsEnd (readFrom (dcsStep s p) start xs .state) ≡ some e
+        → calls.drawingFound s p (findPayload (xs ++ ys)) ≡ calls.drawingFound s p (findPayload xs)
+    ended-drawing h =
+        sym (sequence-finish-drawing s p (xs ++ ys) (ended-end h)) ∙ ap (calls.drawingAtFinish s) (over-more h .0) ∙ sequence-finish-drawing s p xs h
 
     pub refused-ink : {n : ℕ} → readFrom (dcsStep s p) start xs .how ≡ refusedBy n → sequenceInk s p (xs ++ ys) ≡ sequenceInk s p xs
     refused-ink h = sym (sequence-ink s p (xs ++ ys)) ∙ ap (λ (q : Run Phase). q .ink) (refused-more h) ∙ sequence-ink s p xs

@@ -3,7 +3,7 @@
 use Prim.Native.Nat.{ℕ, _+_, _*_, _-_, _/_, _≤_}
 use native.Mathlib.Nat.{div-one}
 use native.Mathlib.Omega.{arith}
-use mathlib.Core.Bool.{true, false}
+use mathlib.Core.Bool.{true, false, cond}
 use mathlib.Core.Option.{Option, none, some}
 use mathlib.Core.List.{List, [], _++_, append-nil}
 use mathlib.Core.Path.{_≡_, refl, sym, ap, _∙_, subst}
@@ -17,9 +17,9 @@ use Rattle.frame.specs.declared.Refusal.{Refusal}
 use Rattle.frame.specs.Numbers.{numberOf}
 use Rattle.meaning.specs.Calls as calls
 use Rattle.meaning.specs.Drawing.{Setting, Drawing}
-use Rattle.meaning.specs.OneShot.{missing, oneShot}
+use Rattle.meaning.specs.OneShot.{missing, findPayload, oneShot}
 use Rattle.meaning.specs.Payload as meant
-use Rattle.meaning.specs.Reader.{readAll, stopped, refusedBy, isRefused, Run, readFrom, Turn, stream, pieces, Caller, ranBy}
+use Rattle.meaning.specs.Reader.{readAll, stopped, halted, refusedBy, isRefused, Run, readFrom, Turn, stream, pieces, Caller, ranBy}
 use Rattle.meaning.specs.Sequence.{sequencePayload, sequenceInk}
 use Rattle.meaning.specs.Sessions.{Phase, start, dcsStep}
 use Rattle.meaning.proofs.AreaLaws.{Roomy, opens-roomy}
@@ -28,8 +28,8 @@ use Rattle.payload.specs.declared.Finished.{Finished}
 use Rattle.payload.specs.declared.Report.{Report}
 use Rattle.payload.specs.History.{settingMeant, limitsMeant, reportMeant, Finishes}
 use Rattle.payload.specs.Judge.{openable}
-use Rattle.payload.proofs.Openings.{opens-meant}
 use Rattle.payload.specs.Session.{turnedAway}
+use Rattle.payload.proofs.Openings.{opens-meant}
 use Rattle.dcs.specs.declared.Ending.{Ending}
 use Rattle.dcs.specs.declared.Session.{Session}
 use Rattle.dcs.specs.History.{endMeant, Held, properCalls}
@@ -43,7 +43,7 @@ use Rattle.pieces.specs.declared.Standing.the-variants as standings
 use Rattle.pieces.specs.Pieces.{openedBy, held, finishedAs, finishedBy}
 use Rattle.pieces.specs.Stream.{joined, takenAll, howStood}
 use Rattle.pieces.proofs.Copies.{Declined, declined, Reported, reported, report-fits, copy-rows, length-shown}
-use Rattle.pieces.proofs.Ends.{stood-going, drawing-whole, ended-reports, ended-ink, ended-state, ended-consumed, ended-answer, refused-ink, refused-state, refused-answer}
+use Rattle.pieces.proofs.Ends.{stood-going, ended-reports, ended-ink, ended-state, ended-consumed, ended-answer, ended-drawing, refused-ink, refused-state, refused-answer}
 use Rattle.pieces.proofs.Taking.{joined-append, length-append, start-follows, Taken, taken-all}
 use Rattle.pieces.proofs.Turns.{now, Follows}
 
@@ -213,6 +213,10 @@ module _ (l : Limits) (stride : ℕ) (p : Palette) (opening : List ℕ) (opens :
     unfolding howStood isRefused
     answered = ap (λ (t : Standing). isRefused (howStood t)) ended
 
+    told : caller .how ≡ halted
+    unfolding howStood
+    told = follows .how ∙ ap howStood ended
+
     -- The end is the one that reading the whole stream at once comes to.
     pub end-whole : calls.dcsEnd (readFrom (dcsStep setting p) start bytes .state) ≡ some (endMeant e)
     end-whole = sym (ap calls.dcsEnd state-taken) ∙ end-taken ended
@@ -234,14 +238,12 @@ module _ (l : Limits) (stride : ℕ) (p : Palette) (opening : List ℕ) (opens :
     abbrev pub picture : List ℕ
     picture = calls.oneShotShown (limitsMeant l) stride (length opening) p bytes opening
 
-    picture-whole : calls.shown stride (calls.drawingAtFinish setting (there .state)) opening ≡ picture
-    unfolding ranBy calls.oneShotShown settingMeant
+    picture-whole : calls.oneShotShown (limitsMeant l) stride (length opening) p (stream turns) opening ≡ picture
+    unfolding calls.oneShotShown settingMeant
     picture-whole =
-        ap (λ (d : Option Drawing). calls.shown stride d opening)
-        (sym (ap (λ (q : Run Phase). calls.drawingAtFinish setting (q .state)) ran)
-        ∙ ap (calls.drawingAtFinish setting) state-taken
-        ∙ drawing-whole setting p bytes end-whole)
-        ∙ sym (cond-yes _ _ (sym (opens-meant l stride (length opening)) ∙ opens))
+        ap (λ (d : Option Drawing). cond (calls.opens (limitsMeant l) stride (length opening)) (calls.shown stride d opening) opening)
+        (ap (λ (bs : List ℕ). calls.drawingFound setting p (findPayload bs)) whole
+        ∙ sym (ap (λ (bs : List ℕ). calls.drawingFound setting p (findPayload bs)) split ∙ ended-drawing setting p taken (joined (all .later)) (end-taken ended)))
 
     finish-same : (owner : Palette) → finishedBy reader owner canvas ≡ dcs.finishedBy (caller .state .0) owner (caller .state .1)
     unfolding finishedBy finishedAs
@@ -259,8 +261,8 @@ module _ (l : Limits) (stride : ℕ) (p : Palette) (opening : List ℕ) (opens :
     finish-whole : (owner : Palette) → Finishes picture owner canvas (finishedBy reader owner canvas) (oneShot setting p bytes)
     finish-whole owner =
         let ends : Finished × List ℕ = dcs.finishedBy (caller .state .0) owner (caller .state .1) in
-        let answers : Finishes (calls.shown stride (calls.drawingAtFinish setting (there .state)) opening) owner (caller .state .1) ends (oneShot setting p (stream turns)) =
-        history.whole-finishes l stride p opening opens (6 * l .width) turns enough ok going (fine answered) (follows .end e ended) owner in
+        let answers : Finishes (calls.oneShotShown (limitsMeant l) stride (length opening) p (stream turns) opening) owner (caller .state .1) ends (oneShot setting p (stream turns)) =
+        history.stream-finishes l stride p opening opens (6 * l .width) turns enough ok told owner in
         subst (λ (lent : List ℕ). Finishes picture owner lent (finishedBy reader owner canvas) (oneShot setting p bytes)) (sym (follows .keeps .canvas))
         (subst (λ (y : Finished × List ℕ). Finishes picture owner (caller .state .1) y (oneShot setting p bytes)) (sym (finish-same owner))
         (subst (λ (z : meant.Finished). Finishes picture owner (caller .state .1) ends z) answer-whole
@@ -275,7 +277,10 @@ module _ (l : Limits) (stride : ℕ) (p : Palette) (opening : List ℕ) (opens :
     picture-reported owner = reported (finish-whole owner) (ended-reports setting p bytes roomy end-whole .1)
 
     picture-long : length picture ≡ length opening
-    picture-long = ap length (sym picture-whole) ∙ length-shown stride (calls.drawingAtFinish setting (there .state)) opening
+    unfolding calls.oneShotShown settingMeant
+    picture-long =
+        ap length (cond-yes _ _ (sym (opens-meant l stride (length opening)) ∙ opens))
+        ∙ length-shown stride (calls.drawingFound setting p (findPayload bytes)) opening
 
     -- A copy of it puts its rows without gaps at the front of the other buffer, whose later bytes stay.
     pub copy-whole : (r : Report) (q : Palette) → oneShot setting p bytes ≡ meant.finished (reportMeant r q) → (out : List ℕ)

@@ -16,9 +16,8 @@ use Rattle.meaning.specs.Reader.{stopped, refusedBy, isRefused, Turn, stream, p
 use Rattle.meaning.specs.Sessions.{Reading, opened}
 use Rattle.payload.specs.declared.Session.{Session}
 use Rattle.payload.specs.declared.Settings.{Settings}
-use Rattle.payload.specs.declared.Life.the-variants as lives
 use Rattle.payload.specs.Judge.{openable}
-use Rattle.payload.specs.Session.{sessionFor, backgroundFor, openedBy, finishedBy}
+use Rattle.payload.specs.Session.{openedBy, finishedBy}
 use Rattle.payload.specs.History.{parametersMeant, limitsMeant, settingMeant, answerMeant, Stands, Opens, Finishes, Past, fedAll, PastMeant, fedAllMeant, Held, callsOf, properCalls}
 use Rattle.payload.proofs.Openings.{open-stands, opened-stands}
 use Rattle.payload.proofs.History as history

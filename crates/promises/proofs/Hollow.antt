@@ -15,7 +15,8 @@ use Rattle.frame.specs.declared.Refusal.{Refusal}
 use Rattle.meaning.specs.Calls as calls
 use Rattle.meaning.specs.Callers.{inkTold}
 use Rattle.meaning.specs.Reader.{still, call}
-use Rattle.meaning.specs.Sessions.{Reading, opened}
+use Rattle.meaning.specs.Sessions.{Reading, opened, rested, payloadStep}
+use Rattle.meaning.proofs.FeedingLaws.{fed-as}
 use Rattle.meaning.proofs.Trials.{computed}
 use Rattle.payload.specs.declared.Answer.the-variants as answers
 use Rattle.payload.specs.declared.Fed.{Fed}
@@ -28,7 +29,7 @@ use Rattle.payload.specs.Session.{backgroundFor, sessionFor, fedBy}
 use Rattle.payload.specs.History.{givenMeant, parametersMeant, limitsMeant, settingMeant, answerMeant, Stands, Feeds}
 use Rattle.payload.proofs.Openings.{ready-stands}
 use Rattle.payload.proofs.Judgements.{stands-shows, stands-long}
-use Rattle.payload.proofs.Feedings.{fed-meant, feed-stands}
+use Rattle.payload.proofs.Feedings.{feed-stands}
 use Rattle.promises.proofs.StoppedCalls.{Worked, payload-stop-works}
 
 -- a feed: of a session, a canvas, bytes and an allowance it makes an answer, a session and a canvas
@@ -169,14 +170,18 @@ module _ (f : Reader) (meets : Meets f) where
 
   -- and none paints without bytes.
   pub no-painting-ahead : {opening : List ℕ} {s : Session} {l : List ℕ} {m : calls.Session Reading} → Stands opening s l m → (a : ℕ) → f s l [] a .1 ≡ l
-  unfolding calls.payloadShown calls.answered calls.tells calls.sessionAfter call still
+  unfolding calls.payloadShown calls.feedPayload calls.answered calls.tells calls.sessionAfter call still
   no-painting-ahead {opening} {s} {l} {m} k a =
       canvas-fixed f meets k [] a ∙ go (calls.feedRefusal (λ (r : Reading). r .drawing .area) m (length l) a) refl ∙ sym (stands-shows k)
     where
       go : (o : Option ℕ) → calls.feedRefusal (λ (r : Reading). r .drawing .area) m (length l) a ≡ o
           → calls.payloadShown (calls.feedPayload m (length l) a [] .session) opening ≡ calls.payloadShown m opening
-      go none e = ap (λ (x : calls.Fed Reading ℕ). calls.payloadShown (x .session) opening) (fed-meant m (length l) a [] e)
-      go (some n) e = ap (λ (x : calls.Fed Reading ℕ). calls.payloadShown (x .session) opening) (fed-meant m (length l) a [] e)
+      go none e =
+          ap (λ (x : calls.Fed Reading ℕ). calls.payloadShown (x .session) opening)
+          (fed-as (λ (r : Reading). r .drawing .area) payloadStep rested (λ (r : Reading). r .over) m (length l) a [] e)
+      go (some n) e =
+          ap (λ (x : calls.Fed Reading ℕ). calls.payloadShown (x .session) opening)
+          (fed-as (λ (r : Reading). r .drawing .area) payloadStep rested (λ (r : Reading). r .over) m (length l) a [] e)
 
   -- An invented ink figure: `~` has an ink of 6, and no other is told.
   pub no-inventor : (i : ℕ) → ¬ (i ≡ 6) → ¬ (inkTold (answerMeant (f s₀ l₀ (0x7E ∷ []) 6144 .0 .answer)) ≡ i)
