@@ -1,14 +1,13 @@
 -- What the functions over numbers in memory come to: one law for each of them.
-use Prim.Native.Nat.{ℕ, _%_}
-use mathlib.Core.List.{List, [], _∷_}
-use mathlib.Core.Path.{_≡_, refl, sym, ap, ap₂, _∙_}
+use Prim.Native.Nat.{ℕ}
+use mathlib.Core.List.{List}
+use mathlib.Core.Path.{_≡_, refl, sym, ap, _∙_}
 use lib.ListN.{getD, set, replicate}
 use Rattle.numbers.specs.declared.Parameters.{Parameters}
 use Rattle.numbers.specs.Memory as parameters
 use Rattle.colours.specs.declared.Palette.{Palette}
 use Rattle.colours.specs.Palette.{ofTable}
 use Rattle.frame.specs.declared.Command.{Command}
-use Rattle.frame.specs.declared.Frame.{Frame}
 use Rattle.frame.specs.declared.Ground.{Ground}
 use Rattle.frame.specs.declared.Kind.{Kind}
 use Rattle.frame.specs.declared.Pen.{Pen}

@@ -9,3 +9,5 @@ pub mod Callers
 pub mod History
 pub mod CodeLaws
 pub mod MemoryLaws
+pub mod RangeLaws
+pub mod SessionRanges
