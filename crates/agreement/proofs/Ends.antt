@@ -27,7 +27,7 @@ use Rattle.frame.specs.declared.Refusal.the-variants as refusals
 use Rattle.frame.specs.declared.sizes.Needed.{Needed}
 use Rattle.frame.specs.Numbers.{numberOf}
 use Rattle.frame.specs.Sizes.{rasterArea}
-use Rattle.frame.specs.Commands.{settledAs, refusedAs, withRepeat, redefinedBy, registerIn, withColor, quotientOf, ratioBy, keptSize, rasterBy, rasterGrown, rasterEndedBy, Ended, endedIn, ended}
+use Rattle.frame.specs.Commands.{noCommand, settledAs, refusedAs, withRepeat, definedBy, redefinedBy, registerIn, withColor, quotientOf, ratioBy, keptSize, rasterBy, rasterGrown, rasterEndedBy, Ended, endedIn, ended}
 use Rattle.meaning.specs.Commands.{Kind, repeat, colour, raster, argued}
 use Rattle.meaning.specs.Drawing.{Setting, Raster, Drawing, Drawn, drawn, refused, withPen, withRepeats, repeated, selected, redefined, coloured, unless, quotient, ratioAfter, kept, rasterAfter, withRaster, stretched, rastered, drawCommand}
 use Rattle.meaning.proofs.AreaLaws.{Sound}
@@ -39,13 +39,9 @@ unfoldable pub settledTo : Drawing → Command → Ended
 unfolding frameOf
 settledTo e c = record { stepped = record { frame = frameOf e c; ink = 0; outcome = outcomes.Settled }; palette = e .palette }
 
--- the same command, ended
-unfoldable pub idle : Command → Command
-idle c = record { kind = kinds.Data; number = c .number; parameters = c .parameters }
-
 -- what a command comes to in the definition and in the code: the frame of the drawing that it gives, or one refusal
 pub data Ends (d : Drawing) (c : Command) : Drawn → Ended → Type 0 where
-  gives : (e : Drawing) → Ends d c (drawn e) (settledTo e (idle c))
+  gives : (e : Drawing) → Ends d c (drawn e) (settledTo e noCommand)
   turned : (why : Refusal) {n : ℕ} → numberOf why ≡ n → Ends d c (refused n) (record { stepped = refusedAs (frameOf d c) why; palette = d .palette })
 
 -- ---- repeat
@@ -53,7 +49,7 @@ pub data Ends (d : Drawing) (c : Command) : Drawn → Ended → Type 0 where
 module _ {s : Setting} (bounded : Bounded s) (d : Drawing) (background : List ℕ) (c : Command) where
   repeat-ends : {bs : List ℕ} → Counted bs (c .number)
       → Ends d c (repeated s (decimal bs) d) (endedIn kinds.Repeat (frameOf d c) (groundOf s background) (d .palette))
-  unfolding repeated endedIn groundOf frameOf settledTo idle numberOf
+  unfolding repeated endedIn groundOf frameOf settledTo noCommand numberOf
   repeat-ends {bs} h = rw (sym (counted-above (s .limits .repeats) (bounded .repeats) h)) (go (ltb (s .limits .repeats) (c .number)) refl)
     where
       go : (t : Bool) → ltb (s .limits .repeats) (c .number) ≡ t
@@ -61,7 +57,7 @@ module _ {s : Setting} (bounded : Bounded s) (d : Drawing) (background : List �
           (record {
             stepped =
                 cond t (refusedAs (frameOf d c) refusals.Repeat)
-                (settledAs (withRepeat (penOf (d .palette) (d .pen)) (max 1 (c .number))) (sheetOf d) (rasterOf (d .raster)) c);
+                (settledAs (withRepeat (penOf (d .palette) (d .pen)) (max 1 (c .number))) (sheetOf d) (rasterOf (d .raster)));
             palette = d .palette;
           })
       go true e = turned refusals.Repeat refl
@@ -71,7 +67,7 @@ module _ {s : Setting} (bounded : Bounded s) (d : Drawing) (background : List �
 
 -- what a record has read redefines the same register in the same way
 redefines : (p : Palette) (n : ℕ) {bs : List ℕ} {v : Parameters} → Read 5 bs v → redefinedBy p n (numbers.finished v) ≡ redefined p n (values 5 bs)
-unfolding redefinedBy redefined
+unfolding redefinedBy definedBy redefined
 redefines p n h =
     simp (read-count (lit≤ tt) h, read-value 1 (lit≤ tt) h, read-value 2 (lit≤ tt) h, read-value 3 (lit≤ tt) h, read-value 4 (lit≤ tt) h)
 
@@ -82,7 +78,7 @@ selects h = rw (read-value 0 (lit≤ tt) h)
 
 color-ends : (d : Drawing) (g : Ground) (c : Command) {bs : List ℕ} → Read 5 bs (c .parameters)
     → Ends d c (drawn (coloured (values 5 bs) d)) (endedIn kinds.Color (frameOf d c) g (d .palette))
-unfolding endedIn coloured frameOf settledTo idle
+unfolding endedIn coloured frameOf settledTo noCommand
 color-ends d g c {bs} h =
     let p : Palette = d .palette in
     let n : ℕ = selected (values 5 bs) in
@@ -93,7 +89,7 @@ color-ends d g c {bs} h =
     coloredTo : ℕ → Palette → Ended
     coloredTo n after =
         record {
-          stepped = settledAs (withColor (penOf (d .palette) (d .pen)) n (registerOf after n)) (sheetOf d) (rasterOf (d .raster)) c;
+          stepped = settledAs (withColor (penOf (d .palette) (d .pen)) n (registerOf after n)) (sheetOf d) (rasterOf (d .raster));
           palette = after;
         }
 
@@ -161,21 +157,21 @@ module _ {s : Setting} {d : Drawing} (sound : Sound s d) (background : List ℕ)
   grown-ends : (r : Raster) {x : Needed} {o : Option ℕ} → Sized s (d .area) (max 1 (r .width)) (max 1 (r .height)) x o
       → Ends d c (unless o (withRaster d r (grownTo (d .area) (max 1 (r .width)) (max 1 (r .height)))))
       (record { stepped = rasterGrown (frameOf d c) (rasterOf r) x; palette = d .palette })
-  unfolding unless rasterGrown withRaster frameOf settledTo idle
+  unfolding unless rasterGrown withRaster frameOf settledTo noCommand
   grown-ends r (allows k p q) = rw (p, q) (gives _)
   grown-ends r (turns why e) = turned why e
 
   -- it does so if a width or a height is kept
   kept-ends : (r : Raster)
       → Ends d c (rastered s r d) (record { stepped = rasterEndedBy (frameOf d c) (groundOf s background) (rasterOf r); palette = d .palette })
-  unfolding rastered stretched rasterEndedBy frameOf rasterOf settledTo idle withRaster
+  unfolding rastered stretched rasterEndedBy frameOf rasterOf settledTo withRaster
   kept-ends r = rw (neither-kept (r .width) (r .height)) (go (eqb (r .width + r .height) 0))
     where
       go : (t : Bool)
           → Ends d c (cond t (drawn (withRaster d r (d .area))) (stretched s r d))
           (record {
             stepped =
-                cond t (settledAs (penOf (d .palette) (d .pen)) (sheetOf d) (rasterOf r) c)
+                cond t (settledAs (penOf (d .palette) (d .pen)) (sheetOf d) (rasterOf r))
                 (rasterGrown (frameOf d c) (rasterOf r) (rasterArea (sheetOf d) (groundOf s background) (max 1 (r .width)) (max 1 (r .height))));
             palette = d .palette;
           })

@@ -13,7 +13,7 @@ use Rattle.frame.specs.declared.Ground.{Ground}
 use Rattle.frame.specs.declared.Outcome.the-variants as outcomes
 use Rattle.frame.specs.declared.Refusal.{Refusal}
 use Rattle.frame.specs.Numbers.{numberOf}
-use Rattle.frame.specs.Commands.{refusedAs, Ended, endedIn, ended}
+use Rattle.frame.specs.Commands.{noCommand, refusedAs, Ended, endedIn, ended}
 use Rattle.frame.specs.Step.{Turned, settledStep}
 use Rattle.meaning.specs.Commands as meaningCommands
 use Rattle.meaning.specs.Commands.{Begun, argued, closed}
@@ -22,7 +22,7 @@ use Rattle.meaning.specs.Sessions.{Reading, settled, rested}
 use Rattle.meaning.proofs.AreaLaws.{Sound, Follows, follows-refl, command-drawn, quiet-drawn}
 use Rattle.agreement.specs.Same.{groundOf, frameOf, canvasOf, Rated, Bounded, SameDrawing, SameBegun, Same}
 use Rattle.agreement.proofs.Ratio.{command-rated}
-use Rattle.agreement.proofs.Ends.{settledTo, idle, Ends, gives, turned, command-ends}
+use Rattle.agreement.proofs.Ends.{settledTo, Ends, gives, turned, command-ends}
 
 -- ---- what the two say of each other
 
@@ -46,14 +46,14 @@ same-drawing {s} {opening} {g = g} {f} {p} {l} q = subst (λ (d : Drawing). Same
 -- a pending command's end, and what follows from it of the drawing
 pub data EndsAs (s : Setting) (d : Drawing) (c : Command) : Outcome → Ended → Type 0 where
   settles : (e : Drawing) → Follows s d e → e .strokes ≡ d .strokes → (Rated (d .raster .ratio) → Rated (e .raster .ratio))
-      → EndsAs s d c (record { drawing = e; refusal = none }) (settledTo e (idle c))
+      → EndsAs s d c (record { drawing = e; refusal = none }) (settledTo e noCommand)
   refuses : (why : Refusal) {n : ℕ} → numberOf why ≡ n
       → EndsAs s d c (record { drawing = d; refusal = some n }) (record { stepped = refusedAs (frameOf d c) why; palette = d .palette })
 
 -- whichever is pending, or none
 pub pending-ends : {s : Setting} {d : Drawing} → Bounded s → Sound s d → (background : List ℕ) (c : Command) (o : Option Begun) → SameBegun o c
     → EndsAs s d c (drawAll s (closed o) d) (ended (frameOf d c) (groundOf s background) (d .palette))
-unfolding closed drawAll andThen ended frameOf settledTo idle
+unfolding closed drawAll andThen ended frameOf settledTo noCommand
 pending-ends {s} {d} bounded sound background c none h =
     subst (λ k. EndsAs s d c (record { drawing = d; refusal = none }) (endedIn k (frameOf d c) (groundOf s background) (d .palette))) (sym h)
     (settles d (follows-refl s d) refl (λ h. h))
@@ -106,7 +106,7 @@ module _ {s : Setting} (opening : List ℕ) (r : Reading) (bounded : Bounded s) 
   settle-ends : {out : Outcome} {e : Ended} → settled s r ≡ out → EndsAs s (r .drawing) c out e
       → Settling s opening r (groundOf s (r .drawing .background)) (out .refusal)
       (settledBy (frameOf (r .drawing) c) (groundOf s (r .drawing .background)) (canvasOf s (r .drawing) opening) e)
-  unfolding settledBy rested settledTo idle frameOf groundOf refusedAs
+  unfolding settledBy rested settledTo noCommand frameOf groundOf refusedAs
   settle-ends q (settles e follows same rates) =
       settling refl
       (record {

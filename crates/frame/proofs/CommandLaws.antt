@@ -35,7 +35,7 @@ use Rattle.frame.specs.declared.commands.Selected.{Selected}
 use Rattle.frame.specs.declared.sizes.Needed.{Needed}
 use Rattle.frame.specs.declared.sizes.Needed.the-variants.{Area, Refused}
 use Rattle.frame.specs.Sizes.{rasterArea}
-use Rattle.frame.specs.Commands.{withCommand, begun, valuesLonger, numberLonger, byDigitIn, byDigit, bySemicolon, settledAs, refusedAs, withRepeat, repeatEnded, redefinedBy, registerIn, withColor, paletteAfter, selectedIn, colorEndedBy, finishedOf, quotientOf, ratioBy, keptSize, rasterBy, withArea, rasterGrown, measuredIn, measuredBy, rasterEndedIn, rasterEndedBy, Ended, endedIn, ended}
+use Rattle.frame.specs.Commands.{withCommand, begun, valuesLonger, numberLonger, byDigitIn, byDigit, bySemicolon, settledAs, refusedAs, withRepeat, repeatEnded, definedBy, redefinedBy, registerIn, withColor, paletteAfter, selectedIn, colorEndedBy, finishedOf, quotientOf, ratioBy, keptSize, rasterBy, withArea, rasterGrown, measuredIn, measuredBy, rasterEndedIn, rasterEndedBy, Ended, endedIn, ended}
 use Rattle.frame.proofs.Kind as KindType
 
 -- ---- a command begins and goes on
@@ -82,57 +82,55 @@ unfolding repeatEnded
 repeat-refused f g h e = e ∙ sym (cond-yes _ _ (lt-ltb _ _ h))
 
 pub repeat-settled : {r : Stepped} {n : ℕ} (f : Frame) (g : Ground) → f .command .number ≤ g .limits .repeats → n ≡ max 1 (f .command .number)
-    → r ≡ settledAs (record { column = f .pen .column; row = f .pen .row; repeat = n; register = f .pen .register; color = f .pen .color }) (f .sheet) (f .raster) (f .command)
+    → r ≡ settledAs (record { column = f .pen .column; row = f .pen .row; repeat = n; register = f .pen .register; color = f .pen .color }) (f .sheet) (f .raster)
     → r ≡ repeatEnded f g
 unfolding repeatEnded withRepeat
 repeat-settled f g h e k =
     k
-    ∙ ap (λ (m : ℕ). settledAs (withRepeat (f .pen) m) (f .sheet) (f .raster) (f .command)) e
+    ∙ ap (λ (m : ℕ). settledAs (withRepeat (f .pen) m) (f .sheet) (f .raster)) e
     ∙ sym (cond-no _ _ (le-ltb _ _ h))
 
 -- ---- a colour ends
 
 -- a value fits a signed number
-pub value-signed : {r : ℕ} (v : Parameters) (i : ℕ) → r ≡ numbers.valueAt v i → SFits w32 (pos r)
-value-signed v i e = record { sfits = rw e (omega (arith, value-small v i)) }
+pub value-within : {r : ℕ} (v : Parameters) (i : ℕ) → r ≡ numbers.valueAt v i → r ≤ 2147483647
+value-within v i e = rw e (omega (arith, value-small v i))
 
-value-passed : {r : ℕ} (v : Parameters) (i : ℕ) → r ≡ numbers.valueAt v i → passed (pos r) ≡ pos (numbers.valueAt v i)
-value-passed v i e = ap (λ (n : ℕ). passed (pos n)) e ∙ passed-pos (numbers.valueAt v i) (omega (arith, value-small v i))
+pub small-signed : {n : ℕ} → n ≤ 2147483647 → SFits w32 (pos n)
+small-signed h = record { sfits = omega arith }
 
+small-passed : (n : ℕ) → n ≤ 2147483647 → passed (pos n) ≡ pos n
+small-passed n h = passed-pos n (omega arith)
+
+-- a space defines
+module _ (p : Palette) (k s x y z : ℕ) where
+  pub defined-none : (s ≡ 1 → ⊥) → (s ≡ 2 → ⊥) → p ≡ definedBy p k s x y z
+  unfolding definedBy
+  defined-none h l = sym (cond-no _ _ (ne-eqb _ _ h) ∙ cond-no _ _ (ne-eqb _ _ l))
+
+  module _ {q : Palette} (few : (x ≤ 2147483647) × (y ≤ 2147483647) × (z ≤ 2147483647)) where
+    pub defined-hls : s ≡ 1 → q ≡ setHls p k (passed (pos x)) (passed (pos y)) (passed (pos z)) → q ≡ definedBy p k s x y z
+    unfolding definedBy
+    defined-hls h e =
+        e ∙ rw (small-passed x (few .0), small-passed y (few .1), small-passed z (few .2)) (sym (cond-yes _ _ (eq-eqb _ _ h)))
+
+    pub defined-rgb : (s ≡ 1 → ⊥) → s ≡ 2 → q ≡ setRgb p k (passed (pos x)) (passed (pos y)) (passed (pos z)) → q ≡ definedBy p k s x y z
+    unfolding definedBy
+    defined-rgb h l e =
+        e
+        ∙ rw (small-passed x (few .0), small-passed y (few .1), small-passed z (few .2))
+        (sym (cond-no _ _ (ne-eqb _ _ h) ∙ cond-yes _ _ (eq-eqb _ _ l)))
+
+-- five values do
 module _ (p : Palette) (k : ℕ) (v : Parameters) {n : ℕ} (count : n ≡ v .count) where
   pub redefined-few : (n ≡ 5 → ⊥) → p ≡ redefinedBy p k v
   unfolding redefinedBy
   redefined-few h = sym (cond-no _ _ (ne-eqb _ _ (λ e. h (count ∙ e))))
 
-  module _ {s : ℕ} (five : n ≡ 5) (space : s ≡ numbers.valueAt v 1) where
-    five-values : eqb (v .count) 5 ≡ true
-    five-values = eq-eqb _ _ (sym count ∙ five)
-
-    pub redefined-none : (s ≡ 1 → ⊥) → (s ≡ 2 → ⊥) → p ≡ redefinedBy p k v
-    unfolding redefinedBy
-    redefined-none h l =
-        sym
-        (cond-yes _ _ five-values
-        ∙ cond-no _ _ (ne-eqb _ _ (λ e. h (space ∙ e)))
-        ∙ cond-no _ _ (ne-eqb _ _ (λ e. l (space ∙ e))))
-
-    module _ {x y z : ℕ} {q : Palette} (ex : x ≡ numbers.valueAt v 2) (ey : y ≡ numbers.valueAt v 3) (ez : z ≡ numbers.valueAt v 4) where
-      pub redefined-hls : s ≡ 1 → q ≡ setHls p k (passed (pos x)) (passed (pos y)) (passed (pos z)) → q ≡ redefinedBy p k v
-      unfolding redefinedBy
-      redefined-hls h e =
-          e
-          ∙ rw (value-passed v 2 ex, value-passed v 3 ey, value-passed v 4 ez)
-          (sym (cond-yes _ _ five-values ∙ cond-yes _ _ (eq-eqb _ _ (sym space ∙ h))))
-
-      pub redefined-rgb : (s ≡ 1 → ⊥) → s ≡ 2 → q ≡ setRgb p k (passed (pos x)) (passed (pos y)) (passed (pos z)) → q ≡ redefinedBy p k v
-      unfolding redefinedBy
-      redefined-rgb h l e =
-          e
-          ∙ rw (value-passed v 2 ex, value-passed v 3 ey, value-passed v 4 ez)
-          (sym
-          (cond-yes _ _ five-values
-          ∙ cond-no _ _ (ne-eqb _ _ (λ d. h (space ∙ d)))
-          ∙ cond-yes _ _ (eq-eqb _ _ (sym space ∙ l))))
+  pub redefined-five : {s x y z : ℕ} {q : Palette} → n ≡ 5 → s ≡ numbers.valueAt v 1 → x ≡ numbers.valueAt v 2 → y ≡ numbers.valueAt v 3 → z ≡ numbers.valueAt v 4
+      → q ≡ definedBy p k s x y z → q ≡ redefinedBy p k v
+  unfolding redefinedBy
+  redefined-five five es ex ey ez e = e ∙ rw (es, ex, ey, ez) (sym (cond-yes _ _ (eq-eqb _ _ (sym count ∙ five))))
 
 pub register-first : {n : ℕ} (v : Parameters) → n ≡ numbers.valueAt v 0 → n < 255 → n ≡ registerIn v
 unfolding registerIn
@@ -229,12 +227,12 @@ module _ (begun : Parameters) (old : Raster) (a : Sheet) (g : Ground) {v : Param
     measured-refused e = ap (measuredIn r) (sym e) ∙ measured-in
 
 module _ (f : Frame) {m : Measured} {s : Stepped} where
-  pub raster-none : {r : Raster} → m ≡ measures.Sizeless r → s ≡ settledAs (f .pen) (f .sheet) r (f .command) → s ≡ rasterEndedIn m f
+  pub raster-none : {r : Raster} → m ≡ measures.Sizeless r → s ≡ settledAs (f .pen) (f .sheet) r → s ≡ rasterEndedIn m f
   unfolding rasterEndedIn
   raster-none e k = k ∙ ap (λ (x : Measured). rasterEndedIn x f) (sym e)
 
   pub raster-area : {r : Raster} {w h : ℕ} → m ≡ measures.Area r w h
-      → s ≡ settledAs (f .pen) (record { width = w; height = h; right = f .sheet .right; bottom = f .sheet .bottom }) r (f .command) → s ≡ rasterEndedIn m f
+      → s ≡ settledAs (f .pen) (record { width = w; height = h; right = f .sheet .right; bottom = f .sheet .bottom }) r → s ≡ rasterEndedIn m f
   unfolding rasterEndedIn withArea
   raster-area e k = k ∙ ap (λ (x : Measured). rasterEndedIn x f) (sym e)
 
@@ -257,7 +255,7 @@ raster-by f g r =
 -- ---- whichever is pending
 
 module _ (f : Frame) (g : Ground) (p : Palette) {s : Stepped} where
-  pub ended-data : f .command .kind ≡ kinds.Data → s ≡ settledAs (f .pen) (f .sheet) (f .raster) (f .command)
+  pub ended-data : f .command .kind ≡ kinds.Data → s ≡ settledAs (f .pen) (f .sheet) (f .raster)
       → _≡_ {A = Ended} (record { stepped = s; palette = p }) (ended f g p)
   unfolding ended endedIn
   ended-data k e = ap (λ (x : Stepped). record { stepped = x; palette = p }) e ∙ sym (ap (λ (j : Kind). endedIn j f g p) k)
@@ -268,11 +266,11 @@ module _ (f : Frame) (g : Ground) (p : Palette) {s : Stepped} where
 
   pub ended-color : {q : Palette} {x : Selected} → f .command .kind ≡ kinds.Color
       → (q ≡ paletteAfter p (numbers.finished (f .command .parameters))) × (x ≡ selectedIn q (numbers.finished (f .command .parameters)))
-      → s ≡ settledAs (withColor (f .pen) (x .register) (x .color)) (f .sheet) (f .raster) (f .command)
+      → s ≡ settledAs (withColor (f .pen) (x .register) (x .color)) (f .sheet) (f .raster)
       → _≡_ {A = Ended} (record { stepped = s; palette = q }) (ended f g p)
   unfolding ended endedIn colorEndedBy selectedIn finishedOf
   ended-color {q} k e h =
-      let same : s ≡ colorEndedBy f q (finishedOf f) = h ∙ ap (λ (y : Selected). settledAs (withColor (f .pen) (y .register) (y .color)) (f .sheet) (f .raster) (f .command)) (e .1) in
+      let same : s ≡ colorEndedBy f q (finishedOf f) = h ∙ ap (λ (y : Selected). settledAs (withColor (f .pen) (y .register) (y .color)) (f .sheet) (f .raster)) (e .1) in
       ap₂ (λ (y : Stepped) (z : Palette). record { stepped = y; palette = z }) (same ∙ ap (λ (z : Palette). colorEndedBy f z (finishedOf f)) (e .0)) (e .0)
       ∙ sym (ap (λ (j : Kind). endedIn j f g p) k)
 
@@ -286,7 +284,7 @@ module _ (f : Frame) (g : Ground) (p : Palette) {s : Stepped} where
 pub ruleset begins = (begun-as, digit-number, digit-value, semicolon-as)
 
 pub ruleset colored =
-    (value-signed, redefined-few, redefined-none, redefined-hls, redefined-rgb, register-first, register-last, selected-palette, selected-as)
+    (value-within, small-signed, defined-none, defined-hls, defined-rgb, redefined-few, redefined-five, register-first, register-last, selected-palette, selected-as)
 
 pub ruleset rastered =
     (quotient-one, quotient-two, quotient-three, quotient-five, quotient-none, ratio-old, ratio-new, kept-old, kept-new, sizeless-yes, sizeless-no, raster-as, measured-none, measured-area, measured-refused, raster-none, raster-area, raster-refused)

@@ -5,3 +5,6 @@ pub mod StepLaws
 pub mod FeedLaws
 pub mod RunSteps
 pub mod RunLaws
+pub mod ArgumentLaws
+pub mod LeapLaws
+pub mod RideLaws

@@ -30,17 +30,17 @@ use Rattle.frame.specs.declared.sizes.Needed.the-variants as needs
 use Rattle.frame.specs.Sizes.{sixelArea}
 use Rattle.frame.specs.Commands.{withRepeat}
 use Rattle.frame.specs.Step.{Fits, Holds, penAfter, sheetAfter, inked}
-use Rattle.frame.specs.Feed.{Reached, feedFrom}
+use Rattle.frame.specs.Feed.{feedFrom}
 use Rattle.frame.specs.Run.{idle, single, Sixels, planned, runInk, runPainted, afterRun, Painted, Runs}
 use Rattle.frame.proofs.SizeLaws.{sixel-reach}
 use Rattle.frame.proofs.StepLaws.{needed-holds}
-use Rattle.frame.proofs.FeedLaws.{Going, left-over}
+use Rattle.frame.proofs.FeedLaws.{Going}
 use Rattle.frame.proofs.Kind as KindType
 use Rattle.frame.proofs.RunSteps.{ink-few, going-as, wide, high, ranFrame, ranCanvas, run-going}
 
 -- ---- a run that was painted
 
-going-here : (g : Ground) (allowance : ℕ) (bytes : List ℕ) (p : Palette) (l : List ℕ) (f : Frame) (i spent : ℕ) → i ≤ length bytes → spent ≤ allowance → Fits f g (length l)
+pub going-here : (g : Ground) (allowance : ℕ) (bytes : List ℕ) (p : Palette) (l : List ℕ) (f : Frame) (i spent : ℕ) → i ≤ length bytes → spent ≤ allowance → Fits f g (length l)
     → Going g allowance bytes (feedFrom g allowance (drop i bytes) i spent f p l) (length l) p l f i spent
 going-here g allowance bytes p l f i spent within few fits = record { same = refl; within = within; spent = few; fits = fits; long = refl }
 
@@ -202,31 +202,5 @@ ran-painted {ink = ink} f g w h bytes i e₁ e₂ e₃ e₄ =
       ink = e₂ .0;
       canvas = e₂ .1 ∙ ap (runPainted (g .stride) (f .pen .column) (f .pen .row) (f .pen .color) bytes i (f .pen .repeat)) e₁;
     }
-
--- ---- the loop
-
--- a run leads on
-module _ {g : Ground} {allowance : ℕ} {bytes : List ℕ} {whole : Reached} {room : ℕ} {p : Palette} {l l′ : List ℕ} {f : Frame} {i spent : ℕ} {r : Ran} (going : Going g allowance bytes whole room p l f i spent) (ran : Runs g bytes i ((allowance - spent) / 6) f l r l′) where
-  run-ink : spent + 6 * r .count ≤ allowance
-  run-ink = omega (arith, ran .few, going .spent)
-
-  pub run-spent : spent + r .ink ≤ allowance
-  run-spent = omega (arith, run-ink, ran .ink)
-
-  pub going-ran : {next : Frame} → next ≡ afterRun f r → length l′ ≡ length l → Going g allowance bytes whole room p l′ next (i + r .count) (spent + r .ink)
-  going-ran e kept =
-      subst (λ (x : Frame). Going g allowance bytes whole room p l′ x (i + r .count) (spent + r .ink)) (sym e)
-      (record {
-        same = ran .same allowance spent p run-ink ∙ going .same;
-        within = ran .within;
-        spent = run-spent;
-        fits = ran .fits;
-        long = kept ∙ going .long;
-      })
-
-  -- and leaves no more to do
-  pub run-left : {next : Frame} → next ≡ afterRun f r → left-over bytes (i + r .count) next ≤ left-over bytes i f
-  unfolding afterRun
-  run-left e = rw e (omega arith)
 
 pub ruleset ways = (single-yes, single-no, mark-none, mark-some)

@@ -70,7 +70,7 @@ bottom-more b y ink bits small =
 
 -- ---- one plain step
 
-kept-canvas : (f : Frame) (g : Ground) (bits w h : ℕ) (l : List ℕ) → length (canvasAfter f g bits w h l) ≡ length l
+pub kept-canvas : (f : Frame) (g : Ground) (bits w h : ℕ) (l : List ℕ) → length (canvasAfter f g bits w h l) ≡ length l
 unfolding canvasAfter sixelPainted grown
 kept-canvas f g bits w h l = length-painted _ _ _ ∙ length-painted _ _ l
 

@@ -235,7 +235,7 @@ pub record Ends (f : Frame) (g : Ground) (s : Stepped) : Type 0 where
   pub ink : s .ink ≡ 0
   pub settled : s .outcome ≡ outcomes.Settled → s .frame .command .kind ≡ kinds.Data
 
-settled-ends : (f : Frame) (g : Ground) (p : Pen) (a : Sheet) (r : Raster) → Roomy (f .sheet) g (a .width) (a .height) → Ends f g (settledAs p a r (f .command))
+settled-ends : (f : Frame) (g : Ground) (p : Pen) (a : Sheet) (r : Raster) → Roomy (f .sheet) g (a .width) (a .height) → Ends f g (settledAs p a r)
 unfolding settledAs
 settled-ends f g p a r k = record { roomy = k; ink = refl; settled = λ e. refl }
 

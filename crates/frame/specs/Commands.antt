@@ -60,14 +60,15 @@ bySemicolon c = record { kind = c .kind; number = c .number; parameters = number
 
 -- ---- a command ends
 
--- no command is pending any more
-unfoldable pub settledAs : Pen → Sheet → Raster → Command → Stepped
-settledAs p a r c =
-    record {
-      frame = record { pen = p; sheet = a; raster = r; command = record { kind = kinds.Data; number = c .number; parameters = c .parameters } };
-      ink = 0;
-      outcome = outcomes.Settled;
-    }
+-- no command is pending
+unfoldable pub noCommand : Command
+noCommand = record { kind = kinds.Data; number = 0; parameters = numbers.opened 0 }
+
+-- none is pending any more
+unfoldable pub settledAs : Pen → Sheet → Raster → Stepped
+unfolding noCommand
+settledAs p a r =
+    record { frame = record { pen = p; sheet = a; raster = r; command = noCommand }; ink = 0; outcome = outcomes.Settled }
 
 unfoldable pub refusedAs : Frame → Refusal → Stepped
 refusedAs f r = record { frame = f; ink = 0; outcome = outcomes.Refused r }
@@ -80,16 +81,18 @@ unfoldable pub repeatEnded : Frame → Ground → Stepped
 unfolding withRepeat settledAs refusedAs
 repeatEnded f g =
     cond (ltb (g .limits .repeats) (f .command .number)) (refusedAs f refusals.Repeat)
-    (settledAs (withRepeat (f .pen) (max 1 (f .command .number))) (f .sheet) (f .raster) (f .command))
+    (settledAs (withRepeat (f .pen) (max 1 (f .command .number))) (f .sheet) (f .raster))
 
--- colour: with five values space 1 or 2 redefines the register
+-- colour: space 1 or 2 redefines the register
+unfoldable pub definedBy : Palette → ℕ → ℕ → ℕ → ℕ → ℕ → Palette
+definedBy p n space x y z =
+    cond (eqb space 1) (setHls p n (pos x) (pos y) (pos z)) (cond (eqb space 2) (setRgb p n (pos x) (pos y) (pos z)) p)
+
+-- with five values
 unfoldable pub redefinedBy : Palette → ℕ → Parameters → Palette
+unfolding definedBy
 redefinedBy p n v =
-    cond (eqb (v .count) 5)
-    (cond (eqb (numbers.valueAt v 1) 1) (setHls p n (pos (numbers.valueAt v 2)) (pos (numbers.valueAt v 3)) (pos (numbers.valueAt v 4)))
-    (cond (eqb (numbers.valueAt v 1) 2) (setRgb p n (pos (numbers.valueAt v 2)) (pos (numbers.valueAt v 3)) (pos (numbers.valueAt v 4)))
-    p))
-    p
+    cond (eqb (v .count) 5) (definedBy p n (numbers.valueAt v 1) (numbers.valueAt v 2) (numbers.valueAt v 3) (numbers.valueAt v 4)) p
 
 -- the register that the first value selects
 unfoldable pub registerIn : Parameters → ℕ
@@ -111,7 +114,7 @@ selectedIn p v = record { register = registerIn v; color = registerOf p (registe
 unfoldable pub colorEndedBy : Frame → Palette → Parameters → Stepped
 unfolding settledAs withColor registerIn
 colorEndedBy f after v =
-    settledAs (withColor (f .pen) (registerIn v) (registerOf after (registerIn v))) (f .sheet) (f .raster) (f .command)
+    settledAs (withColor (f .pen) (registerIn v) (registerOf after (registerIn v))) (f .sheet) (f .raster)
 
 -- raster
 unfoldable pub quotientOf : ℕ → ℕ → ℕ
@@ -135,7 +138,7 @@ withArea a w h = record { width = w; height = h; right = a .right; bottom = a .b
 -- the visible area grows to the size that a raster needs
 unfoldable pub rasterGrown : Frame → Raster → Needed → Stepped
 unfolding settledAs refusedAs withArea
-rasterGrown f r (Area w h) = settledAs (f .pen) (withArea (f .sheet) w h) r (f .command)
+rasterGrown f r (Area w h) = settledAs (f .pen) (withArea (f .sheet) w h) r
 rasterGrown f r (Refused n) = refusedAs f n
 
 -- what a raster comes to: it has no size, or needs an area, or is refused
@@ -152,14 +155,14 @@ measuredBy r a g =
 -- the step that ends it
 unfoldable pub rasterEndedIn : Measured → Frame → Stepped
 unfolding settledAs refusedAs withArea
-rasterEndedIn (measures.Sizeless r) f = settledAs (f .pen) (f .sheet) r (f .command)
-rasterEndedIn (measures.Area r w h) f = settledAs (f .pen) (withArea (f .sheet) w h) r (f .command)
+rasterEndedIn (measures.Sizeless r) f = settledAs (f .pen) (f .sheet) r
+rasterEndedIn (measures.Area r w h) f = settledAs (f .pen) (withArea (f .sheet) w h) r
 rasterEndedIn (measures.Refused n) f = refusedAs f n
 
 unfoldable pub rasterEndedBy : Frame → Ground → Raster → Stepped
 unfolding settledAs rasterGrown
 rasterEndedBy f g r =
-    cond (eqb (r .width) 0 && eqb (r .height) 0) (settledAs (f .pen) (f .sheet) r (f .command))
+    cond (eqb (r .width) 0 && eqb (r .height) 0) (settledAs (f .pen) (f .sheet) r)
     (rasterGrown f r (rasterArea (f .sheet) g (max 1 (r .width)) (max 1 (r .height))))
 
 -- ---- whichever is pending
@@ -174,7 +177,7 @@ finishedOf f = numbers.finished (f .command .parameters)
 
 unfoldable pub endedIn : Kind → Frame → Ground → Palette → Ended
 unfolding settledAs repeatEnded colorEndedBy paletteAfter rasterEndedBy rasterBy finishedOf
-endedIn kinds.Data f g p = record { stepped = settledAs (f .pen) (f .sheet) (f .raster) (f .command); palette = p }
+endedIn kinds.Data f g p = record { stepped = settledAs (f .pen) (f .sheet) (f .raster); palette = p }
 endedIn kinds.Repeat f g p = record { stepped = repeatEnded f g; palette = p }
 endedIn kinds.Color f g p =
     record { stepped = colorEndedBy f (paletteAfter p (finishedOf f)) (finishedOf f); palette = paletteAfter p (finishedOf f) }

@@ -4,3 +4,5 @@ pub mod Commands
 pub mod Step
 pub mod Feed
 pub mod Run
+pub mod Argument
+pub mod Leap

@@ -1,8 +1,9 @@
 // Commands with an argument: how one begins, goes on and ends.
 ghost use mathlib.Core.Path.{_≡_};
+ghost use Prim.Native.Nat.{_≤_};
 ghost use Rattle.numbers.specs.Step.{finished};
 ghost use Rattle.colours.specs.Palette.{ofTable};
-ghost use Rattle.frame.specs.Commands.{withCommand, begun, byDigit, bySemicolon, settledAs, refusedAs, repeatEnded, redefinedBy, registerIn, paletteAfter, withColor, selectedIn, rasterEndedIn, Ended, ended};
+ghost use Rattle.frame.specs.Commands.{withCommand, begun, byDigit, bySemicolon, noCommand, settledAs, refusedAs, repeatEnded, definedBy, redefinedBy, registerIn, paletteAfter, withColor, selectedIn, rasterEndedIn, Ended, ended};
 use crate::Command;
 use crate::Frame;
 use crate::Ground;
@@ -59,21 +60,26 @@ pub fn extend_by_semicolon(frame: Frame) -> Frame
     next
 }
 
-// No command is pending any more.
-fn settled(frame: Frame) -> Stepped
-    ensures { λ r. ⌜ r ≡ settledAs (frame .pen) (frame .sheet) (frame .raster) (frame .command) ⌝ }
+// The frame with no command pending.
+pub fn without_command(frame: Frame) -> Frame
+    ensures { λ r. ⌜ r ≡ withCommand frame noCommand ⌝ }
 {
-    let ended = frame.command;
-    let parameters = ended.parameters;
     let command = Command {
         kind: Kind::Data,
-        number: ended.number,
-        parameters,
+        number: 0,
+        parameters: Parameters::new(0),
     };
     let mut next = frame;
     next.command = command;
+    next
+}
+
+// No command is pending any more.
+fn settled(frame: Frame) -> Stepped
+    ensures { λ r. ⌜ r ≡ settledAs (frame .pen) (frame .sheet) (frame .raster) ⌝ }
+{
     Stepped {
-        frame: next,
+        frame: without_command(frame),
         ink: 0,
         outcome: Outcome::Settled,
     }
@@ -103,22 +109,31 @@ fn end_repeat(frame: Frame, ground: Ground) -> Stepped
     settled(next)
 }
 
-// With five values, space 1 or 2 redefines the register.
+// Space 1 or 2 redefines the register.
+// Inner: asks for values that a signed number can hold.
+pub fn define(colors: &mut [u32; 256], register: usize, space: u32, x: u32, y: u32, z: u32)
+    requires { ⌜ (x ≤ 2147483647) × (y ≤ 2147483647) × (z ≤ 2147483647) ⌝ }
+    ensures { λ _. ⌜ ofTable (now (colors .exit)) ≡ definedBy (ofTable (now (colors .entry))) register space x y z ⌝ }
+{
+    if space == 1 {
+        colours::define_hls(colors, register, x as i32, y as i32, z as i32);
+        return;
+    }
+    if space == 2 {
+        colours::define_rgb(colors, register, x as i32, y as i32, z as i32);
+    }
+}
+
+// Five values may redefine the register.
 fn redefine(colors: &mut [u32; 256], register: usize, parameters: Parameters)
     ensures { λ _. ⌜ ofTable (now (colors .exit)) ≡ redefinedBy (ofTable (now (colors .entry))) register parameters ⌝ }
 {
     if parameters.count() == 5 {
         let space = parameters.value(1);
-        let x = parameters.value(2) as i32;
-        let y = parameters.value(3) as i32;
-        let z = parameters.value(4) as i32;
-        if space == 1 {
-            colours::define_hls(colors, register, x, y, z);
-            return;
-        }
-        if space == 2 {
-            colours::define_rgb(colors, register, x, y, z);
-        }
+        let x = parameters.value(2);
+        let y = parameters.value(3);
+        let z = parameters.value(4);
+        define(colors, register, space, x, y, z);
     }
 }
 
@@ -152,7 +167,7 @@ fn select(begun: Parameters, colors: &mut [u32; 256]) -> Selected
 }
 
 fn colored(frame: Frame, selected: Selected) -> Stepped
-    ensures { λ r. ⌜ r ≡ settledAs (withColor (frame .pen) (selected .register) (selected .color)) (frame .sheet) (frame .raster) (frame .command) ⌝ }
+    ensures { λ r. ⌜ r ≡ settledAs (withColor (frame .pen) (selected .register) (selected .color)) (frame .sheet) (frame .raster) ⌝ }
 {
     let color = selected.color;
     let mut pen = frame.pen;

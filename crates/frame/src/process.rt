@@ -10,8 +10,8 @@ use crate::Outcome;
 use crate::Progress;
 use crate::Stepped;
 use crate::renew::renewed;
-use crate::run::after_run;
-use crate::run::run;
+use crate::ride::resume;
+use crate::ride::ride;
 use crate::step::step;
 
 // One byte, and the frame made anew after it.
@@ -63,10 +63,10 @@ pub fn process(
     let mut consumed = 0;
     let mut ink = 0;
     while consumed < bytes.len() {
-        let ran = run(now, ground, canvas, bytes, consumed, allowance - ink);
-        now = after_run(now, ran);
-        consumed = consumed + ran.count;
-        ink = ink + ran.ink;
+        let ridden = ride(now, ground, colors, canvas, bytes, consumed, ink, allowance);
+        now = resume(now, ridden.pen, ridden.sheet, ridden.settled);
+        consumed = ridden.at;
+        ink = ridden.ink;
         if consumed == bytes.len() {
             return reached(now, consumed, ink, Outcome::Read);
         }

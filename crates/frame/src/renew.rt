@@ -7,7 +7,7 @@ use crate::Pen;
 use crate::Raster;
 use crate::Sheet;
 
-fn renewed_pen(pen: Pen) -> Pen
+pub fn renewed_pen(pen: Pen) -> Pen
     ensures { λ r. ⌜ r ≡ pen ⌝ }
 {
     let color = pen.color;

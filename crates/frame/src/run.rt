@@ -8,7 +8,7 @@ ghost use lib.ListN.{length};
 ghost use Rattle.canvas.specs.Picture.{rowsOf};
 ghost use Rattle.canvas.specs.Paint.{sixelPainted};
 ghost use Rattle.frame.specs.Step.{Fits, Holds};
-ghost use Rattle.frame.specs.Run.{Sixels, Painted, Runs, single, planned, runInk, runPainted, afterRun};
+ghost use Rattle.frame.specs.Run.{Sixels, Painted, Runs, single, planned, runInk, runPainted};
 use crate::Frame;
 use crate::Ground;
 use crate::Kind;
@@ -226,15 +226,4 @@ pub fn run(
         return no_run(frame);
     }
     no_run(frame)
-}
-
-// A frame with what a run changed.
-pub fn after_run(frame: Frame, ran: Ran) -> Frame
-    ensures { λ r. ⌜ r ≡ afterRun frame ran ⌝ }
-{
-    let mut next = frame;
-    next.pen.column = ran.column;
-    let sheet = ran.sheet;
-    next.sheet = sheet;
-    next
 }

@@ -24,7 +24,7 @@ use crate::sizes::sixel_area;
 // The row stops here, above every height limit.
 const ROW_CEILING: usize = 1_000_002;
 
-fn row_below(row: usize) -> usize
+pub fn row_below(row: usize) -> usize
     ensures { λ r. ⌜ r ≡ min (row + 6) rowCeiling ⌝ }
 {
     if row < ROW_CEILING - 6 {
