@@ -53,7 +53,8 @@ module _ (l : Limits) (stride : ℕ) (p : Palette) (opening : List ℕ) where
     fed-feeds =
         subst (λ (us : List ℕ). Feeds l stride p opening (fedBy (c .state .0) (c .state .1) (us ++ z) a) (calls.answered calls.dcsEnd (sessionAt k) run)) (sym (h .learned .unread live))
         (subst (Feeds l stride p opening (fedBy (c .state .0) (c .state .1) presented a))
-        (feed-answers (λ (t : Phase). calls.visibleArea (calls.drawingOf t)) (λ s. dcsStep s p) dcsRested calls.dcsEnd (sessionAt k) (length opening) a live (stands-fit l stride p opening (h .session)) enough presented)
+        (feed-answers (λ (t : Phase). calls.visibleArea (calls.drawingOf t)) (λ s. dcsStep s p) dcsRested calls.dcsEnd (sessionAt k) (length opening) a live
+        (stands-fit l stride p opening (h .session)) enough presented)
         (subst (λ (n : ℕ). Feeds l stride p opening (fedBy (c .state .0) (c .state .1) presented a) (calls.feedDcs p (sessionAt k) n a presented)) (stands-long l stride p opening (h .session))
         (feed-stands l stride p opening (h .session) presented a)))
 

@@ -160,7 +160,8 @@ module _ (l : Limits) (stride : ℕ) (p : Palette) (opening : List ℕ) (opens :
           arith,
           stood .learned .consumed live,
           next-one .learned .consumed (ap isRefused there-stops),
-          call-stop-reads (dcsStep setting p) (dcsRested setting) (6 * setting .limits .width) (dcs-caps setting p) (allowanceOf t) (there .state) (there .unread ++ pieceOf t) (omega arith) there-stops,
+          call-stop-reads (dcsStep setting p) (dcsRested setting) (6 * setting .limits .width) (dcs-caps setting p) (allowanceOf t) (there .state)
+              (there .unread ++ pieceOf t) (omega arith) there-stops,
         )
 
     -- An end that is told is the one that the definition has come to.

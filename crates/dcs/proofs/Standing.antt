@@ -65,10 +65,13 @@ module _ (l : Limits) (stride : ℕ) (p : Palette) (opening : List ℕ) where
     where
       go : (j : Judged) → feedJudged (s .payload) (length c) a ≡ j → Feeds l stride p opening (fedAs j s c bs a) (calls.feedDcs p m (length c) a bs)
       go judged.Fine e =
-          subst (Feeds l stride p opening (fedIn (s .phase) s c bs a)) (sym (fed-as (λ (t : sessions.Phase). calls.visibleArea (calls.drawingOf t)) (λ t. sessions.dcsStep t p) sessions.dcsRested calls.dcsEnd m (length c) a bs (sym same ∙ ap judgements.judgedMeant e))) (read e)
+          subst (Feeds l stride p opening (fedIn (s .phase) s c bs a))
+          (sym (fed-as (λ (t : sessions.Phase). calls.visibleArea (calls.drawingOf t)) (λ t. sessions.dcsStep t p) sessions.dcsRested calls.dcsEnd m (length c) a bs
+          (sym same ∙ ap judgements.judgedMeant e))) (read e)
       go (judged.Refused n) e =
           subst (Feeds l stride p opening (record { answer = answers.Refused n; session = s }, c))
-          (sym (fed-as (λ (t : sessions.Phase). calls.visibleArea (calls.drawingOf t)) (λ t. sessions.dcsStep t p) sessions.dcsRested calls.dcsEnd m (length c) a bs (sym same ∙ ap judgements.judgedMeant e))) (record { answer = refl; session = k })
+          (sym (fed-as (λ (t : sessions.Phase). calls.visibleArea (calls.drawingOf t)) (λ t. sessions.dcsStep t p) sessions.dcsRested calls.dcsEnd m (length c) a bs
+          (sym same ∙ ap judgements.judgedMeant e))) (record { answer = refl; session = k })
 
   -- before the payload the canvas of the opening fits
   place-fits : {t : Place} {h : Parameters} {x : sessions.Phase} → SamePlace t h x
@@ -108,7 +111,8 @@ module _ (l : Limits) (stride : ℕ) (p : Palette) (opening : List ℕ) where
         ∙ ap (λ (u : Bool). calls.firstOf (record { holds = false; number = 9 } ∷ record { holds = u; number = 12 } ∷ []))
         (judgements.stands-fit waits ∙ sym (place-fits same))
 
-    before-feeds : (bs : List ℕ) (a : ℕ) → Feeds l stride p opening (fedBy (sessionOf (waiting l stride p opening) h (phases.Before t)) opening bs a) (calls.feedDcs p (here l stride p opening x) (length opening) a bs)
+    before-feeds : (bs : List ℕ) (a : ℕ) → Feeds l stride p opening (fedBy (sessionOf (waiting l stride p opening) h (phases.Before t)) opening bs a)
+        (calls.feedDcs p (here l stride p opening x) (length opening) a bs)
     unfolding fedIn fedLead
     before-feeds bs a =
         by-judged (before opens same) bs a (before-judged a)
@@ -180,7 +184,8 @@ module _ (l : Limits) (stride : ℕ) (p : Palette) (opening : List ℕ) where
       where
         go : (j : Judged) → finishJudged (s .payload) (length c) ≡ j → payload.Finishes picture owner c (finishedAs j s owner c) (calls.finishDcsSession m (length c))
         go judged.Fine e =
-            subst (payload.Finishes picture owner c (finishedIn (s .phase) s owner c)) (sym (finished-as (λ (t : sessions.Phase). calls.visibleArea (calls.drawingOf t)) sessions.finishDcs m (length c) (sym same ∙ ap judgements.judgedMeant e))) (read e)
+            subst (payload.Finishes picture owner c (finishedIn (s .phase) s owner c))
+            (sym (finished-as (λ (t : sessions.Phase). calls.visibleArea (calls.drawingOf t)) sessions.finishDcs m (length c) (sym same ∙ ap judgements.judgedMeant e))) (read e)
         go (judged.Refused n) e =
             subst (payload.Finishes picture owner c (record { answer = finishes.Refused n; palette = owner }, c))
             (sym (finished-as (λ (t : sessions.Phase). calls.visibleArea (calls.drawingOf t)) sessions.finishDcs m (length c) (sym same ∙ ap judgements.judgedMeant e))) (payload.declines n)
@@ -199,7 +204,8 @@ module _ (l : Limits) (stride : ℕ) (p : Palette) (opening : List ℕ) where
         by-finish (ended k) _ (judgements.finish-judged k (length c))
         (λ fine.
         subst (payload.Finishes (calls.payloadShownAtFinish (heldAt l stride (length opening) r false) opening) owner c (coded.finishedBy s owner c))
-        (finished-as (λ (r : sessions.Reading). r .drawing .area) sessions.finishReading (heldAt l stride (length opening) r false) (length c) (sym (judgements.finish-judged k (length c)) ∙ ap judgements.judgedMeant fine))
+        (finished-as (λ (r : sessions.Reading). r .drawing .area) sessions.finishReading (heldAt l stride (length opening) r false) (length c)
+        (sym (judgements.finish-judged k (length c)) ∙ ap judgements.judgedMeant fine))
         (finishings.finish-stands k owner))
 
   -- ---- the canvas

@@ -212,7 +212,8 @@ module _ (l : Limits) (stride : ℕ) (p : Palette) (opening : List ℕ) where
         let y : payloadFed.Fed × List ℕ = coded.fedBy s c bs a in
         let f : payload.Feeds opening y (calls.answered (λ (r : sessions.Reading). r .over) (heldAt l stride (length opening) r false) q) =
         subst (payload.Feeds opening y)
-        (fed-as (λ (r : sessions.Reading). r .drawing .area) sessions.payloadStep sessions.rested (λ (r : sessions.Reading). r .over) (heldAt l stride (length opening) r false) (length c) a bs (sym (judgements.feed-judged k (length c) a) ∙ ap judgements.judgedMeant fine))
+        (fed-as (λ (r : sessions.Reading). r .drawing .area) sessions.payloadStep sessions.rested (λ (r : sessions.Reading). r .over)
+        (heldAt l stride (length opening) r false) (length c) a bs (sym (judgements.feed-judged k (length c) a) ∙ ap judgements.judgedMeant fine))
         (feedings.feed-stands k bs a) in
         subst (λ (z : Run sessions.Phase). Feeds l stride p opening (fedPayload (sessionOf s h phases.Within) c bs n a) (answered x (after n 0 z)))
         (sym (within-call setting p a r bs))

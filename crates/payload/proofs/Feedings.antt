@@ -164,8 +164,11 @@ feed-stands {opening} {s} {l} {m} k bs a = go (feedJudged s (length l) a) refl
   where
     go : (j : Judged) → feedJudged s (length l) a ≡ j → Feeds opening (fedAs j s l bs a) (calls.feedPayload m (length l) a bs)
     go judged.Fine e =
-        subst (Feeds opening (fedIn (s .life) s l bs a)) (sym (fed-as (λ (r : Reading). r .drawing .area) payloadStep rested (λ (r : Reading). r .over) m (length l) a bs (sym (feed-judged k (length l) a) ∙ ap judgedMeant e)))
+        subst (Feeds opening (fedIn (s .life) s l bs a))
+        (sym (fed-as (λ (r : Reading). r .drawing .area) payloadStep rested (λ (r : Reading). r .over) m (length l) a bs
+        (sym (feed-judged k (length l) a) ∙ ap judgedMeant e)))
         (passed-feeds k a bs (length l) e (s .life) refl)
     go (judged.Refused n) e =
         subst (Feeds opening (record { answer = answers.Refused n; session = s }, l))
-        (sym (fed-as (λ (r : Reading). r .drawing .area) payloadStep rested (λ (r : Reading). r .over) m (length l) a bs (sym (feed-judged k (length l) a) ∙ ap judgedMeant e))) (record { answer = refl; session = k })
+        (sym (fed-as (λ (r : Reading). r .drawing .area) payloadStep rested (λ (r : Reading). r .over) m (length l) a bs
+        (sym (feed-judged k (length l) a) ∙ ap judgedMeant e))) (record { answer = refl; session = k })

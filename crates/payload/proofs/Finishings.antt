@@ -115,7 +115,8 @@ finish-stands {opening} {s} {l} {m} k owner = go (finishJudged s (length l)) ref
     go : (j : Judged) → finishJudged s (length l) ≡ j → Finishes (calls.payloadShownAtFinish m opening) owner l (finishedAs j s owner l) (calls.finishPayload m (length l))
     go judged.Fine e =
         let live : m .failed ≡ false = sym (failed-test k (length l)) ∙ passes refusals.Failed (isFailed (s .life)) _ e .0 in
-        subst (Finishes (calls.payloadShownAtFinish m opening) owner l (finishedLive s owner l)) (sym (finished-as (λ (r : Reading). r .drawing .area) finishReading m (length l) (sym (finish-judged k (length l)) ∙ ap judgedMeant e)))
+        subst (Finishes (calls.payloadShownAtFinish m opening) owner l (finishedLive s owner l))
+        (sym (finished-as (λ (r : Reading). r .drawing .area) finishReading m (length l) (sym (finish-judged k (length l)) ∙ ap judgedMeant e)))
         (live-finishes k owner (finish-agrees (record { drawing = k .drawing; begun = k .begun live })))
     go (judged.Refused n) e =
         subst (Finishes (calls.payloadShownAtFinish m opening) owner l (record { answer = finishes.Refused n; palette = owner }, l))

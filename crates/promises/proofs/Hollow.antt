@@ -176,8 +176,12 @@ module _ (f : Reader) (meets : Meets f) where
     where
       go : (o : Option ℕ) → calls.feedRefusal (λ (r : Reading). r .drawing .area) m (length l) a ≡ o
           → calls.payloadShown (calls.feedPayload m (length l) a [] .session) opening ≡ calls.payloadShown m opening
-      go none e = ap (λ (x : calls.Fed Reading ℕ). calls.payloadShown (x .session) opening) (fed-as (λ (r : Reading). r .drawing .area) payloadStep rested (λ (r : Reading). r .over) m (length l) a [] e)
-      go (some n) e = ap (λ (x : calls.Fed Reading ℕ). calls.payloadShown (x .session) opening) (fed-as (λ (r : Reading). r .drawing .area) payloadStep rested (λ (r : Reading). r .over) m (length l) a [] e)
+      go none e =
+          ap (λ (x : calls.Fed Reading ℕ). calls.payloadShown (x .session) opening)
+          (fed-as (λ (r : Reading). r .drawing .area) payloadStep rested (λ (r : Reading). r .over) m (length l) a [] e)
+      go (some n) e =
+          ap (λ (x : calls.Fed Reading ℕ). calls.payloadShown (x .session) opening)
+          (fed-as (λ (r : Reading). r .drawing .area) payloadStep rested (λ (r : Reading). r .over) m (length l) a [] e)
 
   -- An invented ink figure: `~` has an ink of 6, and no other is told.
   pub no-inventor : (i : ℕ) → ¬ (i ≡ 6) → ¬ (inkTold (answerMeant (f s₀ l₀ (0x7E ∷ []) 6144 .0 .answer)) ≡ i)
