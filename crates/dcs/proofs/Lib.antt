@@ -12,3 +12,4 @@ pub mod History
 pub mod SoFar
 pub mod Progress
 pub mod MemoryLaws
+pub mod SessionRanges
