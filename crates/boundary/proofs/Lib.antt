@@ -1,3 +1,4 @@
 pub mod BenchLaws
 pub mod ReportLaws
 pub mod SessionCalls
+pub mod SessionLaws

@@ -27,7 +27,7 @@ use Rattle.dcs.specs.Memory as dcsMemory
 use Rattle.dcs.specs.Session as dcs
 use Rattle.oneshot.specs.OneShot.{finishMeant}
 use Rattle.boundary.specs.Reading.{reportNumbers, refusalNumber}
-use Rattle.boundary.specs.Sessions.{openingNumber, payloadNumber, payloadReport, endingKind, endingByte, dcsNumber, dcsReport, finishReport, payloadOpened, payloadFed, finishedAs, payloadFinished, dcsOpened, dcsFed, dcsFinished}
+use Rattle.boundary.specs.Sessions.{openingNumber, payloadNumber, payloadReport, endingKind, endingByte, dcsNumber, dcsReport, finishReport, payloadOpenedAs, payloadOpened, payloadFedAs, payloadFed, finishedAs, payloadFinished, dcsOpenedAs, dcsOpened, dcsFedAs, dcsFed, dcsFinished}
 
 -- ---- by the cases of an enum
 
@@ -76,22 +76,22 @@ pub payload-opened : (w h m n stride p1 p2 : ℕ) (table canvas : List ℕ) {g1 
     → (x, l₁) ≡ payload.openedBy (record { width = w; height = h; repeats = m; pixels = n }) stride (record { p1 = g1; p2 = g2 }) owner canvas
     → ns ≡ payloadMemory.numbersOf (x .session) → ts ≡ payloadMemory.tableOf (x .session) → r ≡ openingNumber (x .answer)
     → (r, ns, ts, l₁) ≡ payloadOpened (record { width = w; height = h; repeats = m; pixels = n }) stride p1 p2 table canvas
-unfolding payloadOpened
+unfolding payloadOpened payloadOpenedAs
 payload-opened w h m n stride p1 p2 table canvas {g1} {g2} {owner} x l₁ a b o e en et er =
     let limits : Limits = record { width = w; height = h; repeats = m; pixels = n } in
     let same : payload.openedBy limits stride (record { p1 = g1; p2 = g2 }) owner canvas ≡ payload.openedBy limits stride (record { p1 = givenFrom p1; p2 = givenFrom p2 }) (ofTable table) canvas = rw (a, b, o) refl in
     rw (er, en, et)
-    (ap (λ (y : payloadOpenedRecord.Opened × List ℕ). (openingNumber (y .0 .answer), payloadMemory.numbersOf (y .0 .session), payloadMemory.tableOf (y .0 .session), y .1))
+    (ap payloadOpenedAs
     (e ∙ same))
 
 pub payload-fed : (ns ts canvas bytes : List ℕ) (allowance : ℕ) {s : payloadSession.Session} (x : payloadFedRecord.Fed) (l₁ : List ℕ) {ns′ ts′ report : List ℕ} {r : ℕ}
     → s ≡ payloadMemory.sessionFrom ns ts → (x, l₁) ≡ payload.fedBy s canvas bytes allowance
     → ns′ ≡ payloadMemory.numbersOf (x .session) → ts′ ≡ payloadMemory.tableOf (x .session) → report ≡ payloadReport (x .answer) → r ≡ payloadNumber (x .answer)
     → (r, ns′, ts′, l₁, report) ≡ payloadFed ns ts canvas bytes allowance
-unfolding payloadFed
+unfolding payloadFed payloadFedAs
 payload-fed ns ts canvas bytes allowance x l₁ k e en et ep er =
     rw (er, en, et, ep)
-    (ap (λ (y : payloadFedRecord.Fed × List ℕ). (payloadNumber (y .0 .answer), payloadMemory.numbersOf (y .0 .session), payloadMemory.tableOf (y .0 .session), y .1, payloadReport (y .0 .answer)))
+    (ap payloadFedAs
     (e ∙ ap (λ (s : payloadSession.Session). payload.fedBy s canvas bytes allowance) k))
 
 -- ---- a finish
@@ -121,18 +121,18 @@ pub dcs-opened : (w h m n stride size : ℕ) (table : List ℕ) {owner : Palette
     → owner ≡ ofTable table → x ≡ dcs.openedBy (record { width = w; height = h; repeats = m; pixels = n }) stride owner size
     → ns ≡ dcsMemory.numbersOf (x .session) → ts ≡ dcsMemory.tableOf (x .session) → r ≡ openingNumber (x .answer)
     → (r, ns, ts) ≡ dcsOpened (record { width = w; height = h; repeats = m; pixels = n }) stride size table
-unfolding dcsOpened
+unfolding dcsOpened dcsOpenedAs
 dcs-opened w h m n stride size table x o e en et er =
     let limits : Limits = record { width = w; height = h; repeats = m; pixels = n } in
     rw (er, en, et)
-    (ap (λ (y : dcsOpenedRecord.Opened). (openingNumber (y .answer), dcsMemory.numbersOf (y .session), dcsMemory.tableOf (y .session))) (e ∙ ap (λ (q : Palette). dcs.openedBy limits stride q size) o))
+    (ap dcsOpenedAs (e ∙ ap (λ (q : Palette). dcs.openedBy limits stride q size) o))
 
 pub dcs-fed : (ns ts canvas bytes : List ℕ) (allowance : ℕ) {s : dcsSession.Session} (x : dcsFedRecord.Fed) (l₁ : List ℕ) {ns′ ts′ report : List ℕ} {r : ℕ}
     → s ≡ dcsMemory.sessionFrom ns ts → (x, l₁) ≡ dcs.fedBy s canvas bytes allowance
     → ns′ ≡ dcsMemory.numbersOf (x .session) → ts′ ≡ dcsMemory.tableOf (x .session) → report ≡ dcsReport (x .answer) → r ≡ dcsNumber (x .answer)
     → (r, ns′, ts′, l₁, report) ≡ dcsFed ns ts canvas bytes allowance
-unfolding dcsFed
+unfolding dcsFed dcsFedAs
 dcs-fed ns ts canvas bytes allowance x l₁ k e en et ep er =
     rw (er, en, et, ep)
-    (ap (λ (y : dcsFedRecord.Fed × List ℕ). (dcsNumber (y .0 .answer), dcsMemory.numbersOf (y .0 .session), dcsMemory.tableOf (y .0 .session), y .1, dcsReport (y .0 .answer)))
+    (ap dcsFedAs
     (e ∙ ap (λ (s : dcsSession.Session). dcs.fedBy s canvas bytes allowance) k))

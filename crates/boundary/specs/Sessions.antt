@@ -77,21 +77,29 @@ finishReport x = take 7 (reportNumbers x 0 0)
 
 -- ---- the outcomes
 
--- an opening: the session gets a copy of the owner's registers
-unfoldable pub payloadOpened : Limits → ℕ → ℕ → ℕ → List ℕ → List ℕ → ℕ × List ℕ × List ℕ × List ℕ
+-- an opening's
+unfoldable pub payloadOpenedAs : payloadOpenedRecord.Opened × List ℕ → ℕ × List ℕ × List ℕ × List ℕ
 unfolding openingNumber
-payloadOpened l stride p1 p2 palette canvas =
-    let x : payloadOpenedRecord.Opened × List ℕ =
-    payload.openedBy l stride (record { p1 = givenFrom p1; p2 = givenFrom p2 }) (ofTable palette) canvas in
-    (openingNumber (x .0 .answer), payloadMemory.numbersOf (x .0 .session), payloadMemory.tableOf (x .0 .session), x .1)
+payloadOpenedAs x = (openingNumber (x .0 .answer), payloadMemory.numbersOf (x .0 .session), payloadMemory.tableOf (x .0 .session), x .1)
 
-unfoldable pub payloadFed : List ℕ → List ℕ → List ℕ → List ℕ → ℕ → ℕ × List ℕ × List ℕ × List ℕ × List ℕ
+-- the session gets a copy of the owner's registers
+unfoldable pub payloadOpened : Limits → ℕ → ℕ → ℕ → List ℕ → List ℕ → ℕ × List ℕ × List ℕ × List ℕ
+unfolding payloadOpenedAs
+payloadOpened l stride p1 p2 palette canvas =
+    payloadOpenedAs (payload.openedBy l stride (record { p1 = givenFrom p1; p2 = givenFrom p2 }) (ofTable palette) canvas)
+
+-- a feed's
+unfoldable pub payloadFedAs : payloadFedRecord.Fed × List ℕ → ℕ × List ℕ × List ℕ × List ℕ × List ℕ
 unfolding payloadNumber payloadReport
-payloadFed ns registers canvas bytes allowance =
-    let x : payloadFedRecord.Fed × List ℕ = payload.fedBy (payloadMemory.sessionFrom ns registers) canvas bytes allowance in
+payloadFedAs x =
     (payloadNumber (x .0 .answer), payloadMemory.numbersOf (x .0 .session), payloadMemory.tableOf (x .0 .session), x .1, payloadReport (x .0 .answer))
 
--- a finish: no session is left, and the registers are the owner's
+unfoldable pub payloadFed : List ℕ → List ℕ → List ℕ → List ℕ → ℕ → ℕ × List ℕ × List ℕ × List ℕ × List ℕ
+unfolding payloadFedAs
+payloadFed ns registers canvas bytes allowance =
+    payloadFedAs (payload.fedBy (payloadMemory.sessionFrom ns registers) canvas bytes allowance)
+
+-- a finish's: no session is left, and the registers are the owner's
 unfoldable pub finishedAs : Finished × List ℕ → ℕ × List ℕ × List ℕ × List ℕ × List ℕ
 unfolding finishReport
 finishedAs x =
@@ -103,17 +111,23 @@ unfolding finishedAs
 payloadFinished ns registers palette canvas =
     finishedAs (payload.finishedBy (payloadMemory.sessionFrom ns registers) (ofTable palette) canvas)
 
-unfoldable pub dcsOpened : Limits → ℕ → ℕ → List ℕ → ℕ × List ℕ × List ℕ
+-- those of a DCS session
+unfoldable pub dcsOpenedAs : dcsOpenedRecord.Opened → ℕ × List ℕ × List ℕ
 unfolding openingNumber
-dcsOpened l stride size palette =
-    let x : dcsOpenedRecord.Opened = dcs.openedBy l stride (ofTable palette) size in
-    (openingNumber (x .answer), dcsMemory.numbersOf (x .session), dcsMemory.tableOf (x .session))
+dcsOpenedAs x = (openingNumber (x .answer), dcsMemory.numbersOf (x .session), dcsMemory.tableOf (x .session))
+
+unfoldable pub dcsOpened : Limits → ℕ → ℕ → List ℕ → ℕ × List ℕ × List ℕ
+unfolding dcsOpenedAs
+dcsOpened l stride size palette = dcsOpenedAs (dcs.openedBy l stride (ofTable palette) size)
+
+unfoldable pub dcsFedAs : dcsFedRecord.Fed × List ℕ → ℕ × List ℕ × List ℕ × List ℕ × List ℕ
+unfolding dcsNumber dcsReport
+dcsFedAs x =
+    (dcsNumber (x .0 .answer), dcsMemory.numbersOf (x .0 .session), dcsMemory.tableOf (x .0 .session), x .1, dcsReport (x .0 .answer))
 
 unfoldable pub dcsFed : List ℕ → List ℕ → List ℕ → List ℕ → ℕ → ℕ × List ℕ × List ℕ × List ℕ × List ℕ
-unfolding dcsNumber dcsReport
-dcsFed ns registers canvas bytes allowance =
-    let x : dcsFedRecord.Fed × List ℕ = dcs.fedBy (dcsMemory.sessionFrom ns registers) canvas bytes allowance in
-    (dcsNumber (x .0 .answer), dcsMemory.numbersOf (x .0 .session), dcsMemory.tableOf (x .0 .session), x .1, dcsReport (x .0 .answer))
+unfolding dcsFedAs
+dcsFed ns registers canvas bytes allowance = dcsFedAs (dcs.fedBy (dcsMemory.sessionFrom ns registers) canvas bytes allowance)
 
 unfoldable pub dcsFinished : List ℕ → List ℕ → List ℕ → List ℕ → ℕ × List ℕ × List ℕ × List ℕ × List ℕ
 unfolding finishedAs

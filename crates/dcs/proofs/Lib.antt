@@ -13,3 +13,4 @@ pub mod History
 pub mod SoFar
 pub mod Progress
 pub mod MemoryLaws
+pub mod SessionRanges
