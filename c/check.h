@@ -41,6 +41,7 @@ progress feed_in_pieces(kind which, sixel_session *session, sixel_canvas canvas,
 
 void test_examples(void);
 void test_refusals(void);
+void test_calls(void);
 void test_damage(void);
 
 #endif

@@ -4,6 +4,7 @@
 int main(void) {
     test_examples();
     test_refusals();
+    test_calls();
     test_damage();
     summary();
     return found_differences();

@@ -153,7 +153,7 @@ static void test_stop(void) {
     same(name, "ink", fed.ink, 48);
 }
 
-/* P1 and P2, an end that stays unread, and ends of a DCS sequence. */
+/* Every end of a DCS sequence, and that it is repeated. */
 static void test_ends(void) {
     static const struct {
         const char *bytes;
@@ -183,7 +183,16 @@ static void test_ends(void) {
         same(name, "the finish", owl_dcs_finish(&session, canvas, palette, &picture), 0);
         same(name, "width", picture.width, 1);
     }
+}
+
+/* P1 and P2 of a payload session, no bytes at all, and an end that stays unread. */
+static void test_parameters(void) {
+    uint32_t palette[SIXEL_REGISTERS];
+    sixel_session session;
+    sixel_fed fed;
+    sixel_picture picture;
     sixel_canvas canvas = fresh_canvas(8, 6);
+    sixel_standard_palette(palette);
     same("P1 2, P2 1", "the opening", owl_payload_open(&session, owl_house_limits(), canvas, 2, 1, palette), 0);
     holds("P1 2, P2 1", "pixel (0, 0) is clear", memcmp(canvas.bytes, "\0\0\0\0", 4) == 0);
     holds("P1 2, P2 1", "no other is written", untouched_outside(canvas, 1, 1));
@@ -205,4 +214,5 @@ void test_examples(void) {
     }
     test_stop();
     test_ends();
+    test_parameters();
 }

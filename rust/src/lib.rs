@@ -17,12 +17,14 @@
 //! assert_eq!(image.pixels[..4], [255, 0, 0, 255]);
 //! # Ok::<(), owlgantry::SixelError>(())
 //! ```
-#![deny(unsafe_op_in_unsafe_fn)]
+#![deny(unsafe_code)]
 #![warn(missing_docs)]
 
 mod decoder;
 mod error;
+#[allow(unsafe_code)]
 mod ffi;
+mod frames;
 mod image;
 mod limits;
 mod palette;
@@ -33,11 +35,11 @@ mod stream;
 
 pub use decoder::SixelDecoder;
 pub use error::{Refusal, Result, SixelError};
+pub use frames::{
+    SixelDcsFeedResult, SixelDcsFeedStatus, SixelDcsStreamDecoder, SixelFeedResult, SixelFeedStatus, SixelStreamDecoder,
+};
 pub use image::{BackgroundMode, PixelAspectRatio, SixelImage};
 pub use limits::Limits;
 pub use palette::Palette;
 pub use session::{copy, read, DcsSession, DcsStatus, Fed, PayloadSession, PayloadStatus, Picture, Ratio, Reading};
 pub use settings::DcsSettings;
-pub use stream::{
-    SixelDcsFeedResult, SixelDcsFeedStatus, SixelDcsStreamDecoder, SixelFeedResult, SixelFeedStatus, SixelStreamDecoder,
-};
