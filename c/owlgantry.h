@@ -27,7 +27,7 @@ extern "C" {
 #endif
 
 #define SIXEL_REGISTERS 256
-#define SIXEL_SESSION_NUMBERS 40
+#define SIXEL_SESSION_NUMBERS 48
 
 /* What every function but the palette's answers. 1 to 7 in a feed fail the session; 9, 12 and 13 leave it as it was.
  * After a refusal the canvas holds what came before the refused byte or command, and the palette is as it was. */

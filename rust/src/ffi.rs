@@ -6,7 +6,7 @@
 use crate::Limits;
 
 /// A session's numbers; all zeros are a failed one.
-pub type Numbers = [u64; 40];
+pub type Numbers = [u64; 48];
 /// 256 packed colours.
 pub type Registers = [u32; 256];
 
@@ -107,7 +107,7 @@ pub struct Memory {
 }
 
 impl Memory {
-    const FAILED: Self = Self { numbers: [0; 40], registers: [0; 256] };
+    const FAILED: Self = Self { numbers: [0; 48], registers: [0; 256] };
 }
 
 pub fn standard_palette() -> Registers {
@@ -152,7 +152,7 @@ pub fn payload_open(
     let (at, count) = (canvas.as_mut_ptr(), canvas.len());
     let (numbers, registers) = (memory.numbers.as_mut_ptr(), memory.registers.as_mut_ptr());
     let colors = palette.as_ptr();
-    // SAFETY: the canvas has its slice's length, palette and registers 256 numbers, the session 40; all but the palette are exclusive.
+    // SAFETY: the canvas has its slice's length, palette and registers 256 numbers, the session 48; all but the palette are exclusive.
     let answer = unsafe {
         raw::sixel_payload_open(width, height, repeats, pixels, stride, p1, p2, at, count, colors, numbers, registers)
     };
@@ -163,7 +163,7 @@ pub fn dcs_open(limits: Limits, stride: usize, length: usize, palette: &Register
     let Limits { width, height, repeats, pixels } = limits;
     let mut memory = Memory::FAILED;
     let (numbers, registers) = (memory.numbers.as_mut_ptr(), memory.registers.as_mut_ptr());
-    // SAFETY: palette and registers have 256 numbers, the session 40; the latter two are exclusive.
+    // SAFETY: palette and registers have 256 numbers, the session 48; the latter two are exclusive.
     let answer = unsafe {
         raw::sixel_dcs_open(width, height, repeats, pixels, stride, length, palette.as_ptr(), numbers, registers)
     };
@@ -175,7 +175,7 @@ pub fn payload_feed(memory: &mut Memory, canvas: &mut [u8], bytes: &[u8], allowa
     let (numbers, registers) = (memory.numbers.as_mut_ptr(), memory.registers.as_mut_ptr());
     let (at, count) = (canvas.as_mut_ptr(), canvas.len());
     let told = report.as_mut_ptr();
-    // SAFETY: the session has 40 numbers and 256 registers, canvas and bytes their slices' lengths, the report 4 numbers; all but
+    // SAFETY: the session has 48 numbers and 256 registers, canvas and bytes their slices' lengths, the report 4 numbers; all but
     // bytes are exclusive.
     let answer =
         unsafe { raw::sixel_payload_feed(numbers, registers, at, count, bytes.as_ptr(), bytes.len(), allowance, told) };
@@ -197,7 +197,7 @@ pub fn payload_finish(memory: &mut Memory, canvas: &mut [u8], palette: &mut Regi
     let mut report = [0; 7];
     let (numbers, registers) = (memory.numbers.as_mut_ptr(), memory.registers.as_ptr());
     let (at, count) = (canvas.as_mut_ptr(), canvas.len());
-    // SAFETY: the session has 40 numbers and 256 registers, the canvas its slice's length, the palette 256 numbers and the report 7;
+    // SAFETY: the session has 48 numbers and 256 registers, the canvas its slice's length, the palette 256 numbers and the report 7;
     // all but the registers are exclusive.
     let answer =
         unsafe { raw::sixel_payload_finish(numbers, registers, at, count, palette.as_mut_ptr(), report.as_mut_ptr()) };
