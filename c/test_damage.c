@@ -55,8 +55,8 @@ static uint64_t finish_one(kind which) {
                             : sixel_dcs_finish(numbers, registers, canvas, LENGTH, palette, report);
 }
 
-/* Feeds and finishes whatever lies in the session's memory. */
-static void check_answers(const char *name, kind which) {
+/* Feeds whatever lies in the session's memory. */
+static void check_feeds(const char *name, kind which) {
     for (size_t at = 0; at < sizeof streams / sizeof *streams; at++) {
         const char *text = streams[at];
         uint64_t answer = feed_one(which, text, allowances[at % 3]);
@@ -66,6 +66,9 @@ static void check_answers(const char *name, kind which) {
         holds(name, "a byte is a byte", report[3] <= 255);
         holds(name, "a refused feed reports zeros", answer == 0 || (report[0] | report[1] | report[2] | report[3]) == 0);
     }
+}
+
+static void check_finish(const char *name, kind which) {
     uint64_t answer = finish_one(which);
     holds(name, "a finish answers 0, 4 to 10 or 12", answer == 0 || (answer >= 4 && answer <= 10) || answer == 12);
     holds(name, "a refused finish reports zeros", answer == 0 || (report[0] | report[1] | report[6]) == 0);
@@ -75,15 +78,24 @@ static void check_answers(const char *name, kind which) {
     same(name, "a feed after a finish", feed_one(which, "~", SIZE_MAX), SIXEL_FAILED);
 }
 
-/* A session that was fed something, then one bit of it is flipped. */
+static void check_answers(const char *name, kind which) {
+    check_feeds(name, which);
+    check_finish(name, which);
+}
+
+/* A session that was fed something, then one bit of it is flipped; it is finished at once, and again after more feeds. */
 static void flip_each_bit(kind which, const char *fed) {
     char name[80];
-    for (unsigned bit = 0; bit < 64 * SIXEL_SESSION_NUMBERS; bit++) {
+    for (unsigned turn = 0; turn < 2 * 64 * SIXEL_SESSION_NUMBERS; turn++) {
+        unsigned bit = turn / 2;
         snprintf(name, sizeof name, "%s session, bit %u of number %u", which == DCS ? "DCS" : "payload", bit % 64, bit / 64);
         open_one(which);
         same(name, "the feed before", feed_one(which, fed, SIZE_MAX), 0);
         numbers[bit / 64] ^= (uint64_t)1 << bit % 64;
-        check_answers(name, which);
+        if (turn % 2 == 1) {
+            check_feeds(name, which);
+        }
+        check_finish(name, which);
     }
 }
 
@@ -95,7 +107,10 @@ static void change_numbers(kind which, int turns) {
             uint64_t place = any() % SIXEL_SESSION_NUMBERS, width = any() % 64;
             numbers[place] = any() % 5 == 0 ? UINT64_MAX - any() % 9 : any() >> width;
         }
-        check_answers("a session with other numbers", which);
+        if (turn % 2 == 1) {
+            check_feeds("a session with other numbers", which);
+        }
+        check_finish("a session with other numbers", which);
     }
 }
 
@@ -134,9 +149,11 @@ void test_damage(void) {
     sixel_standard_palette(palette);
     flip_each_bit(PAYLOAD, "");
     flip_each_bit(PAYLOAD, "#1;2;3~-!4");
+    flip_each_bit(PAYLOAD, "!20~-!20~-\"1;1;21");
     flip_each_bit(DCS, "");
     flip_each_bit(DCS, "\033P1;");
     flip_each_bit(DCS, "\x90q\"1;1;3~#2;");
+    flip_each_bit(DCS, "\x90q!20~-!20~\x9c");
     change_numbers(PAYLOAD, 4000);
     change_numbers(DCS, 4000);
     fill_with(PAYLOAD, 1000);
