@@ -1,0 +1,162 @@
+/* Damaged sessions: every call answers a stated number and keeps to the memory that it is lent. Each memory ends where a
+ * page begins that nobody may touch, so a step outside ends the program. */
+#include "check.h"
+
+#include <stdio.h>
+#include <string.h>
+
+#define STRIDE 24
+#define ROWS 20
+#define LENGTH (4 * STRIDE * ROWS)
+
+static uint64_t *numbers, *report;
+static uint32_t *registers, *palette;
+static uint8_t *canvas, *stream;
+static const char *const streams[] = {
+    "",
+    "~",
+    "5;2~-!3?#9;2;1;2;3$~",
+    "\033Pq\"1;1;9;9!5~-#300@\033\\",
+    "\x90" "9;1q!7~-----~\x9c",
+    "q--------------------------------!99999999999999~",
+};
+static const size_t allowances[] = {0, 144, SIZE_MAX};
+
+/* SplitMix64. */
+static uint64_t any(void) {
+    static uint64_t seed = 2;
+    uint64_t z = seed += 0x9e3779b97f4a7c15;
+    z = (z ^ (z >> 30)) * 0xbf58476d1ce4e5b9;
+    z = (z ^ (z >> 27)) * 0x94d049bb133111eb;
+    return z ^ (z >> 31);
+}
+
+static void open_one(kind which) {
+    sixel_limits limits = owl_limits(STRIDE, ROWS, 99, STRIDE * ROWS);
+    uint64_t answer =
+        which == PAYLOAD
+            ? sixel_payload_open(limits.width, limits.height, limits.repeats, limits.pixels, STRIDE, 1, 1, canvas, LENGTH,
+                                 palette, numbers, registers)
+            : sixel_dcs_open(limits.width, limits.height, limits.repeats, limits.pixels, STRIDE, LENGTH, palette, numbers,
+                             registers);
+    same("a session to damage", "the opening", answer, 0);
+}
+
+/* The stream's bytes at the very end of their memory. */
+static uint64_t feed_one(kind which, const char *text, size_t allowance) {
+    size_t count = strlen(text);
+    uint8_t *bytes = memcpy(stream + 64 - count, text, count);
+    return which == PAYLOAD ? sixel_payload_feed(numbers, registers, canvas, LENGTH, bytes, count, allowance, report)
+                            : sixel_dcs_feed(numbers, registers, canvas, LENGTH, bytes, count, allowance, report);
+}
+
+static uint64_t finish_one(kind which) {
+    return which == PAYLOAD ? sixel_payload_finish(numbers, registers, canvas, LENGTH, palette, report)
+                            : sixel_dcs_finish(numbers, registers, canvas, LENGTH, palette, report);
+}
+
+/* Feeds whatever lies in the session's memory. */
+static void check_feeds(const char *name, kind which) {
+    for (size_t at = 0; at < sizeof streams / sizeof *streams; at++) {
+        const char *text = streams[at];
+        uint64_t answer = feed_one(which, text, allowances[at % 3]);
+        holds(name, "a feed answers 0 to 7, 9, 12 or 13", answer <= 7 || answer == 9 || answer == 12 || answer == 13);
+        holds(name, "a feed has a known end", report[0] <= (which == DCS ? SIXEL_DCS_INTERRUPTED : SIXEL_PAYLOAD_ENDED));
+        holds(name, "no more is consumed than given", report[1] <= strlen(text));
+        holds(name, "a byte is a byte", report[3] <= 255);
+        holds(name, "a refused feed reports zeros", answer == 0 || (report[0] | report[1] | report[2] | report[3]) == 0);
+    }
+}
+
+static void check_finish(const char *name, kind which) {
+    uint64_t answer = finish_one(which);
+    holds(name, "a finish answers 0, 4 to 10 or 12", answer == 0 || (answer >= 4 && answer <= 10) || answer == 12);
+    holds(name, "a refused finish reports zeros", answer == 0 || (report[0] | report[1] | report[6]) == 0);
+    for (size_t at = 0; at < SIXEL_SESSION_NUMBERS; at++) {
+        same(name, "a number after a finish", numbers[at], 0);
+    }
+    same(name, "a feed after a finish", feed_one(which, "~", SIZE_MAX), SIXEL_FAILED);
+}
+
+static void check_answers(const char *name, kind which) {
+    check_feeds(name, which);
+    check_finish(name, which);
+}
+
+/* A session that was fed something, then one bit of it is flipped; it is finished at once, and again after more feeds. */
+static void flip_each_bit(kind which, const char *fed) {
+    char name[80];
+    for (unsigned turn = 0; turn < 2 * 64 * SIXEL_SESSION_NUMBERS; turn++) {
+        unsigned bit = turn / 2;
+        snprintf(name, sizeof name, "%s session, bit %u of number %u", which == DCS ? "DCS" : "payload", bit % 64, bit / 64);
+        open_one(which);
+        same(name, "the feed before", feed_one(which, fed, SIZE_MAX), 0);
+        numbers[bit / 64] ^= (uint64_t)1 << bit % 64;
+        if (turn % 2 == 1) {
+            check_feeds(name, which);
+        }
+        check_finish(name, which);
+    }
+}
+
+/* One to four numbers of a session get a small number, a huge one, or any. */
+static void change_numbers(kind which, int turns) {
+    for (int turn = 0; turn < turns; turn++) {
+        open_one(which);
+        for (uint64_t more = any() % 4 + 1; more > 0; more--) {
+            uint64_t place = any() % SIXEL_SESSION_NUMBERS, width = any() % 64;
+            numbers[place] = any() % 5 == 0 ? UINT64_MAX - any() % 9 : any() >> width;
+        }
+        if (turn % 2 == 1) {
+            check_feeds("a session with other numbers", which);
+        }
+        check_finish("a session with other numbers", which);
+    }
+}
+
+static void fill_with(kind which, int turns) {
+    memset(numbers, 0xff, 8 * SIXEL_SESSION_NUMBERS);
+    memset(registers, 0xff, 4 * SIXEL_REGISTERS);
+    check_answers("a session of FF bytes", which);
+    memset(numbers, 0, 8 * SIXEL_SESSION_NUMBERS);
+    check_answers("a session of zeros", which);
+    for (int turn = 0; turn < turns; turn++) {
+        for (size_t at = 0; at < SIXEL_SESSION_NUMBERS; at++) {
+            numbers[at] = any();
+        }
+        for (size_t at = 0; at < SIXEL_REGISTERS; at++) {
+            registers[at] = (uint32_t)any();
+        }
+        check_answers("a session of random bytes", which);
+    }
+}
+
+/* A session of one kind lent to the other's functions. */
+static void mistake_the_kind(void) {
+    open_one(PAYLOAD);
+    check_answers("a payload session as a DCS one", DCS);
+    open_one(DCS);
+    check_answers("a DCS session as a payload one", PAYLOAD);
+}
+
+void test_damage(void) {
+    numbers = lend(8 * SIXEL_SESSION_NUMBERS);
+    registers = lend(4 * SIXEL_REGISTERS);
+    palette = lend(4 * SIXEL_REGISTERS);
+    report = lend(8 * 7);
+    canvas = lend(LENGTH);
+    stream = lend(64);
+    sixel_standard_palette(palette);
+    flip_each_bit(PAYLOAD, "");
+    flip_each_bit(PAYLOAD, "#1;2;3~-!4");
+    flip_each_bit(PAYLOAD, "!20~-!20~-\"1;1;21");
+    flip_each_bit(DCS, "");
+    flip_each_bit(DCS, "\033P1;");
+    flip_each_bit(DCS, "\x90q\"1;1;3~#2;");
+    flip_each_bit(DCS, "\x90q!20~-!20~\x9c");
+    change_numbers(PAYLOAD, 4000);
+    change_numbers(DCS, 4000);
+    fill_with(PAYLOAD, 1000);
+    fill_with(DCS, 1000);
+    mistake_the_kind();
+}

@@ -1,0 +1,218 @@
+/* Document 01's bench examples and some more, each read all at once, as a payload and as a DCS sequence, in pieces. */
+#include "check.h"
+
+#include <stdio.h>
+#include <string.h>
+
+#define HOUSE {1024, 768, 1024, 786432}
+#define HOUSE_CANVAS 1024, 768
+#define SIX(row) row row row row row row
+
+/* A payload and its outcome: the refusal, or size, extent, ink, ratio and every pixel (a letter of `colour_of` each). */
+typedef struct {
+    const char *payload;
+    sixel_limits limits;
+    size_t stride, rows;
+    uint64_t refusal, width, height, right, bottom, ink, ratio_kind, ratio;
+    const char *pixels;
+} example;
+
+static const example examples[] = {
+    {"", HOUSE, HOUSE_CANVAS, 0, 1, 1, 1, 1, 0, 0, 0, "k"},
+    {"~-?", HOUSE, HOUSE_CANVAS, 0, 1, 12, 1, 6, 6, 0, 0, "kkkkkkkkkkkk"},
+    {"!5#1~", HOUSE, HOUSE_CANVAS, 0, 5, 6, 5, 6, 30, 0, 0, SIX("ddddd")},
+    {"!0~", HOUSE, HOUSE_CANVAS, 0, 1, 6, 1, 6, 6, 0, 0, SIX("k")},
+    {"!1\n2~", HOUSE, HOUSE_CANVAS, 0, 12, 6, 12, 6, 72, 0, 0, SIX("kkkkkkkkkkkk")},
+    {"#1;2;100;0~", HOUSE, HOUSE_CANVAS, 0, 1, 6, 1, 6, 6, 0, 0, SIX("d")},
+    {"#1;2;100;0;~", HOUSE, HOUSE_CANVAS, 0, 1, 6, 1, 6, 6, 0, 0, SIX("r")},
+    {"#300~", HOUSE, HOUSE_CANVAS, 0, 1, 6, 1, 6, 6, 0, 0, SIX("w")},
+    {"~#0;2;100;100;100-~", HOUSE, HOUSE_CANVAS, 0, 1, 12, 1, 12, 12, 0, 0, SIX("k") SIX("w")},
+    {"\"2;1\"1;2", HOUSE, HOUSE_CANVAS, 0, 1, 1, 1, 1, 0, 0, 0, "k"},
+    {"!8~", {8, 768, 8, 786432}, HOUSE_CANVAS, 0, 8, 6, 8, 6, 48, 0, 0, SIX("kkkkkkkk")},
+    {"!9~", {8, 768, 8, 786432}, HOUSE_CANVAS, 4, 0, 0, 0, 0, 0, 0, 0, ""},
+    {"!9~", {8, 768, 1024, 786432}, HOUSE_CANVAS, 5, 0, 0, 0, 0, 0, 0, 0, ""},
+    {"--~", {1024, 12, 1024, 786432}, HOUSE_CANVAS, 5, 0, 0, 0, 0, 0, 0, 0, ""},
+    {"--", {1024, 12, 1024, 786432}, HOUSE_CANVAS, 0, 1, 1, 1, 1, 0, 0, 0, "k"},
+    {"!8~", {8, 12, 1024, 48}, HOUSE_CANVAS, 0, 8, 6, 8, 6, 48, 0, 0, SIX("kkkkkkkk")},
+    {"!8~-?", {8, 12, 1024, 48}, HOUSE_CANVAS, 6, 0, 0, 0, 0, 0, 0, 0, ""},
+    {"!5~", HOUSE, 4, 6, 7, 0, 0, 0, 0, 0, 0, 0, ""},
+    {"!8~$!8~", {8, 768, 1024, 786432}, HOUSE_CANVAS, 0, 8, 6, 8, 6, 96, 0, 0, SIX("kkkkkkkk")},
+    {"#1;1;120;50;100~", HOUSE, HOUSE_CANVAS, 0, 1, 6, 1, 6, 6, 0, 0, SIX("r")},
+    {"#1;1;0;50;100~", HOUSE, HOUSE_CANVAS, 0, 1, 6, 1, 6, 6, 0, 0, SIX("b")},
+    {"#1;2;100;0;0!2B", {128, 128, 128, 16384}, 128, 128, 0, 2, 6, 2, 6, 4, 0, 0, "rr" "rr" "kk" "kk" "kk" "kk"},
+    /* A sixel on another, a raster larger than the ink, and a ratio that stays. */
+    {"\"4;2;4;3#1!3@$#255A", HOUSE, 5, 7, 0, 4, 6, 3, 6, 4, 2, 2, "ddd" "k" "w" "kkk" "kkkk" "kkkk" "kkkk" "kkkk"},
+    /* Every sixel of the first band is one column further, and stops come between. */
+    {"#1~#255~#1~#255~-#1!4~", {4, 12, 9, 48}, 4, 12, 0, 4, 12, 4, 12, 48, 0, 0, SIX("dwdw") SIX("dddd")},
+    {"\"3;1;2;2-\"5;1", HOUSE, 2, 2, 0, 2, 2, 1, 1, 0, 2, 5, "kkkk"},
+};
+
+static uint32_t colour_of(char letter) {
+    switch (letter) {
+    case 'd': return 0x3333cc;
+    case 'r': return 0xff0000;
+    case 'b': return 0x0000ff;
+    case 'w': return 0xffffff;
+    default: return 0;
+    }
+}
+
+/* The picture on the canvas, copied without gaps, is the example's; around it nothing changed. */
+static void check_pixels(const example *it, const char *name, sixel_canvas canvas) {
+    static uint8_t out[4 * 1024];
+    memset(out, 0xa5, sizeof out);
+    size_t pixels = it->width * it->height;
+    same(name, "the copy's answer", owl_copy(canvas, it->width, it->height, out, 4 * pixels), 0);
+    for (size_t at = 0; at < pixels; at++) {
+        const uint8_t *pixel = out + 4 * at;
+        uint32_t colour = (uint32_t)pixel[0] << 16 | (uint32_t)pixel[1] << 8 | pixel[2];
+        same(name, "a pixel's colour", colour, colour_of(it->pixels[at]));
+        same(name, "a pixel's alpha", pixel[3], 255);
+    }
+    holds(name, "the copy ends with the picture", out[4 * pixels] == 0xa5);
+    holds(name, "nothing changed outside the picture", untouched_outside(canvas, it->width, it->height));
+}
+
+static void check_picture(const example *it, const char *name, sixel_canvas canvas, sixel_picture picture) {
+    same(name, "width", picture.width, it->width);
+    same(name, "height", picture.height, it->height);
+    same(name, "right", picture.right, it->right);
+    same(name, "bottom", picture.bottom, it->bottom);
+    same(name, "the ratio's kind", picture.ratio_kind, it->ratio_kind);
+    same(name, "the ratio", picture.ratio, it->ratio);
+    same(name, "transparent", picture.transparent, 0);
+    if (it->refusal == 0) {
+        check_pixels(it, name, canvas);
+    }
+}
+
+static void check_all_at_once(const example *it, const char *bytes, size_t place) {
+    char name[80];
+    uint32_t palette[SIXEL_REGISTERS];
+    sixel_picture picture;
+    sixel_part part;
+    sixel_canvas canvas = fresh_canvas(it->stride, it->rows);
+    snprintf(name, sizeof name, "%s, all at once", it->payload);
+    sixel_standard_palette(palette);
+    same(name, "the answer", owl_read(it->limits, canvas, bytes, strlen(bytes), palette, &picture, &part), it->refusal);
+    same(name, "the payload's place", part.place, place);
+    same(name, "the payload's length", part.length, strlen(bytes) - place);
+    check_picture(it, name, canvas, picture);
+}
+
+static void check_in_pieces(const example *it, kind which, const char *bytes, size_t piece) {
+    char name[80];
+    uint32_t palette[SIXEL_REGISTERS];
+    sixel_session session;
+    sixel_picture picture;
+    sixel_canvas canvas = fresh_canvas(it->stride, it->rows);
+    snprintf(name, sizeof name, "%s, %s in pieces of %zu", it->payload, which == DCS ? "DCS" : "payload", piece);
+    sixel_standard_palette(palette);
+    same(name, "the opening's answer", open_session(which, &session, it->limits, canvas, palette), 0);
+    progress fed = feed_in_pieces(which, &session, canvas, bytes, strlen(bytes), piece, owl_least_allowance(it->limits));
+    same(name, "the last feed's answer", fed.refusal, it->refusal);
+    if (it->refusal == 0) {
+        same(name, "consumed", fed.consumed, strlen(bytes));
+        same(name, "ink", fed.ink, it->ink);
+        same(name, "how it ended", fed.last.how, which == DCS ? SIXEL_DCS_COMPLETE : SIXEL_PAYLOAD_ALL_READ);
+    }
+    uint64_t finish = finish_session(which, &session, canvas, palette, &picture);
+    same(name, "the finish's answer", finish, it->refusal == 0 ? SIXEL_DONE : SIXEL_FAILED);
+    check_picture(it, name, canvas, picture);
+}
+
+static void test_example(const example *it) {
+    static const size_t pieces[] = {0, 1, 2, 7};
+    char sequence[80];
+    snprintf(sequence, sizeof sequence, "\033Pq%s\033\\", it->payload);
+    check_all_at_once(it, it->payload, 0);
+    check_all_at_once(it, sequence, 3);
+    for (size_t at = 0; at < sizeof pieces / sizeof *pieces; at++) {
+        check_in_pieces(it, PAYLOAD, it->payload, pieces[at]);
+        check_in_pieces(it, DCS, sequence, pieces[at]);
+    }
+}
+
+/* W 8, allowance 48: 6 consumed with ink 48, then 1 with ink 48. */
+static void test_stop(void) {
+    const char *name = "a stop for ink";
+    uint32_t palette[SIXEL_REGISTERS];
+    sixel_session session;
+    sixel_fed fed;
+    sixel_canvas canvas = fresh_canvas(1024, 768);
+    sixel_standard_palette(palette);
+    same(name, "the opening", open_session(PAYLOAD, &session, owl_limits(8, 768, 1024, 786432), canvas, palette), 0);
+    same(name, "allowance 47", owl_payload_feed(&session, canvas, "!8~$!8~", 7, 47, &fed), SIXEL_ALLOWANCE);
+    same(name, "the first call", owl_payload_feed(&session, canvas, "!8~$!8~", 7, 48, &fed), 0);
+    same(name, "how", fed.how, SIXEL_PAYLOAD_STOPPED);
+    same(name, "consumed", fed.consumed, 6);
+    same(name, "ink", fed.ink, 48);
+    same(name, "the second call", owl_payload_feed(&session, canvas, "~", 1, 48, &fed), 0);
+    same(name, "how", fed.how, SIXEL_PAYLOAD_ALL_READ);
+    same(name, "consumed", fed.consumed, 1);
+    same(name, "ink", fed.ink, 48);
+}
+
+/* Every end of a DCS sequence, and that it is repeated. */
+static void test_ends(void) {
+    static const struct {
+        const char *bytes;
+        uint64_t how, consumed, byte;
+    } ends[] = {
+        {"\033Pq~\033\\x", SIXEL_DCS_COMPLETE, 6, 0},       {"\x90q~\x9cx", SIXEL_DCS_COMPLETE, 4, 0},
+        {"\x90q~\x18x", SIXEL_DCS_CANCELLED, 4, 0x18},      {"\x90q~\x1ax", SIXEL_DCS_CANCELLED, 4, 0x1a},
+        {"\x90q~\033[x", SIXEL_DCS_INTERRUPTED, 4, 0x1b},   {"\x90q~\x85x", SIXEL_DCS_INTERRUPTED, 3, 0x85},
+    };
+    uint32_t palette[SIXEL_REGISTERS];
+    sixel_session session;
+    sixel_fed fed;
+    sixel_picture picture;
+    sixel_standard_palette(palette);
+    for (size_t at = 0; at < sizeof ends / sizeof *ends; at++) {
+        sixel_canvas canvas = fresh_canvas(8, 6);
+        const char *name = ends[at].bytes;
+        same(name, "the opening", owl_dcs_open(&session, owl_house_limits(), canvas, palette), 0);
+        holds(name, "nothing is written before `q`", untouched_outside(canvas, 0, 0));
+        for (int turn = 0; turn < 2; turn++) {
+            same(name, "the feed", owl_dcs_feed(&session, canvas, name, strlen(name), 6144, &fed), 0);
+            same(name, "how", fed.how, ends[at].how);
+            same(name, "the byte", fed.byte, ends[at].byte);
+            same(name, "consumed", fed.consumed, turn == 0 ? ends[at].consumed : 0);
+            same(name, "ink", fed.ink, turn == 0 ? 6 : 0);
+        }
+        same(name, "the finish", owl_dcs_finish(&session, canvas, palette, &picture), 0);
+        same(name, "width", picture.width, 1);
+    }
+}
+
+/* P1 and P2 of a payload session, no bytes at all, and an end that stays unread. */
+static void test_parameters(void) {
+    uint32_t palette[SIXEL_REGISTERS];
+    sixel_session session;
+    sixel_fed fed;
+    sixel_picture picture;
+    sixel_canvas canvas = fresh_canvas(8, 6);
+    sixel_standard_palette(palette);
+    same("P1 2, P2 1", "the opening", owl_payload_open(&session, owl_house_limits(), canvas, 2, 1, palette), 0);
+    holds("P1 2, P2 1", "pixel (0, 0) is clear", memcmp(canvas.bytes, "\0\0\0\0", 4) == 0);
+    holds("P1 2, P2 1", "no other is written", untouched_outside(canvas, 1, 1));
+    same("P1 2, P2 1", "no bytes", owl_payload_feed(&session, canvas, NULL, 0, 6144, &fed), 0);
+    same("P1 2, P2 1", "the feed", owl_payload_feed(&session, canvas, "?\033\\", 3, 6144, &fed), 0);
+    same("P1 2, P2 1", "how", fed.how, SIXEL_PAYLOAD_ENDED);
+    same("P1 2, P2 1", "consumed", fed.consumed, 1);
+    same("P1 2, P2 1", "the byte", fed.byte, 0x1b);
+    same("P1 2, P2 1", "the finish", owl_payload_finish(&session, canvas, palette, &picture), 0);
+    same("P1 2, P2 1", "the ratio's kind", picture.ratio_kind, SIXEL_RATIO_P1);
+    same("P1 2, P2 1", "the ratio", picture.ratio, 2);
+    same("P1 2, P2 1", "transparent", picture.transparent, 1);
+    holds("P1 2, P2 1", "a blank sixel is clear", memcmp(canvas.bytes + 32, "\0\0\0\0", 4) == 0);
+}
+
+void test_examples(void) {
+    for (size_t at = 0; at < sizeof examples / sizeof *examples; at++) {
+        test_example(&examples[at]);
+    }
+    test_stop();
+    test_ends();
+    test_parameters();
+}

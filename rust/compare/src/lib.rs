@@ -1,0 +1,1 @@
+//! Nothing is here: `tests/` compares the crate with icy_sixel's own decoder.

@@ -1,0 +1,193 @@
+//! Reading on a canvas that the caller lends: four bytes a pixel, rows of `stride` pixels. Nothing is allocated.
+use crate::ffi;
+use crate::{BackgroundMode, DcsSettings, Limits, Palette, PixelAspectRatio, Refusal};
+use std::ops::Range;
+
+/// What one feed did.
+#[derive(Clone, Copy, Debug, PartialEq, Eq)]
+#[must_use]
+pub struct Fed<Status> {
+    /// How it ended.
+    pub status: Status,
+    /// Bytes consumed of those that were given.
+    pub consumed: usize,
+    /// Pixels painted, each as often as a sixel painted it.
+    pub ink: u64,
+}
+
+/// How a feed of a payload ended.
+#[derive(Clone, Copy, Debug, PartialEq, Eq)]
+pub enum PayloadStatus {
+    /// All bytes were read.
+    AllRead,
+    /// The next sixel's ink exceeds what is left of the allowance: give the unread bytes again.
+    StoppedForInk,
+    /// This byte ends the payload and stays unread; further feeds say the same.
+    Ended(u8),
+}
+
+/// How a feed of a DCS sequence ended.
+#[derive(Clone, Copy, Debug, PartialEq, Eq)]
+pub enum DcsStatus {
+    /// All bytes were read.
+    AllRead,
+    /// The next sixel's ink exceeds what is left of the allowance: give the unread bytes again.
+    StoppedForInk,
+    /// By 9C, or 1B and `\`, consumed.
+    Complete,
+    /// By 18 or 1A, consumed.
+    Cancelled(u8),
+    /// By 1B, consumed, with another byte after it that is not; or by a C1 byte, which is not.
+    Interrupted(u8),
+}
+
+/// Which number says how tall a pixel is.
+#[derive(Clone, Copy, Debug, PartialEq, Eq)]
+pub enum Ratio {
+    /// P1's, where there is one.
+    LeftToP1(Option<u16>),
+    /// The raster's: so many to 1, vertical to horizontal.
+    Raster(u8),
+}
+
+/// What a finished picture is like. It stands in the canvas's upper left corner.
+#[derive(Clone, Copy, Debug, PartialEq, Eq)]
+pub struct Picture {
+    /// Width in pixels.
+    pub width: usize,
+    /// Height in pixels.
+    pub height: usize,
+    /// The rightmost column that a sixel reached, plus 1.
+    pub right: usize,
+    /// The lowest row of a band with ink, plus 1.
+    pub bottom: usize,
+    /// Where the ratio comes from.
+    pub ratio: Ratio,
+    /// What P2 said.
+    pub background_mode: BackgroundMode,
+}
+
+impl Picture {
+    fn of_report(report: [u64; 7]) -> Self {
+        let [width, height, right, bottom, kind, number, transparent] = report;
+        let ratio = match kind {
+            0 => Ratio::LeftToP1(None),
+            1 => Ratio::LeftToP1(Some(number as u16)),
+            _ => Ratio::Raster(number as u8),
+        };
+        let background_mode = if transparent == 1 { BackgroundMode::Transparent } else { BackgroundMode::Opaque };
+        let [width, height, right, bottom] = [width, height, right, bottom].map(|number| number as usize);
+        Self { width, height, right, bottom, ratio, background_mode }
+    }
+
+    /// The ratio: the raster's, else what P1 means, else square.
+    pub fn aspect_ratio(&self) -> PixelAspectRatio {
+        match self.ratio {
+            Ratio::Raster(5) => PixelAspectRatio::Ratio5To1,
+            Ratio::Raster(3) => PixelAspectRatio::Ratio3To1,
+            Ratio::Raster(2) => PixelAspectRatio::Ratio2To1,
+            Ratio::Raster(_) | Ratio::LeftToP1(None) => PixelAspectRatio::Square,
+            Ratio::LeftToP1(Some(p1)) => PixelAspectRatio::from_p1(p1),
+        }
+    }
+}
+
+/// A session for a payload, without its DCS header. Every call is lent the same canvas.
+#[derive(Clone)]
+#[must_use]
+pub struct PayloadSession(ffi::Memory);
+
+impl PayloadSession {
+    /// Opens a session and gives pixel (0, 0) the background.
+    pub fn open(
+        limits: Limits,
+        stride: usize,
+        settings: DcsSettings,
+        canvas: &mut [u8],
+        palette: &Palette,
+    ) -> Result<Self, Refusal> {
+        let (answer, memory) = ffi::payload_open(limits, stride, settings.numbers(), canvas, &palette.0);
+        Refusal::judge(answer).map(|()| Self(memory))
+    }
+
+    /// Reads bytes until all are read, the payload ends, a sixel's ink exceeds the allowance, or a refusal.
+    ///
+    /// Refusals 4 to 7 fail the session; 9, 12 and 13 leave it as it was. The allowance is at least
+    /// [`Limits::least_allowance`].
+    pub fn feed(&mut self, canvas: &mut [u8], bytes: &[u8], allowance: usize) -> Result<Fed<PayloadStatus>, Refusal> {
+        let (answer, [how, consumed, ink, byte]) = ffi::payload_feed(&mut self.0, canvas, bytes, allowance);
+        let status = match how {
+            0 => PayloadStatus::AllRead,
+            1 => PayloadStatus::StoppedForInk,
+            _ => PayloadStatus::Ended(byte as u8),
+        };
+        Refusal::judge(answer).map(|()| Fed { status, consumed: consumed as usize, ink })
+    }
+
+    /// Carries a pending command out. The palette becomes the picture's; after a refusal it is as it was.
+    pub fn finish(mut self, canvas: &mut [u8], palette: &mut Palette) -> Result<Picture, Refusal> {
+        let (answer, report) = ffi::payload_finish(&mut self.0, canvas, &mut palette.0);
+        Refusal::judge(answer).map(|()| Picture::of_report(report))
+    }
+
+    /// Drops the session and what it did to the palette.
+    pub fn abort(self) {}
+}
+
+/// A session for a whole DCS sequence: introducer, header, payload and end. Every call is lent the same canvas.
+#[derive(Clone)]
+#[must_use]
+pub struct DcsSession(ffi::Memory);
+
+impl DcsSession {
+    /// Opens a session for a canvas of a length, to which nothing is written before `q`.
+    pub fn open(limits: Limits, stride: usize, length: usize, palette: &Palette) -> Result<Self, Refusal> {
+        let (answer, memory) = ffi::dcs_open(limits, stride, length, &palette.0);
+        Refusal::judge(answer).map(|()| Self(memory))
+    }
+
+    /// As [`PayloadSession::feed`], with introducer, header and ends.
+    pub fn feed(&mut self, canvas: &mut [u8], bytes: &[u8], allowance: usize) -> Result<Fed<DcsStatus>, Refusal> {
+        let (answer, [how, consumed, ink, byte]) = ffi::dcs_feed(&mut self.0, canvas, bytes, allowance);
+        let status = match how {
+            0 => DcsStatus::AllRead,
+            1 => DcsStatus::StoppedForInk,
+            2 => DcsStatus::Complete,
+            3 => DcsStatus::Cancelled(byte as u8),
+            _ => DcsStatus::Interrupted(byte as u8),
+        };
+        Refusal::judge(answer).map(|()| Fed { status, consumed: consumed as usize, ink })
+    }
+
+    /// As [`PayloadSession::finish`], at an end; before it the answer is refusal 8.
+    pub fn finish(mut self, canvas: &mut [u8], palette: &mut Palette) -> Result<Picture, Refusal> {
+        let (answer, report) = ffi::dcs_finish(&mut self.0, canvas, &mut palette.0);
+        Refusal::judge(answer).map(|()| Picture::of_report(report))
+    }
+
+    /// Drops the session and what it did to the palette.
+    pub fn abort(self) {}
+}
+
+/// What reading all at once came to.
+#[derive(Clone, Debug, PartialEq, Eq)]
+pub struct Reading {
+    /// The picture, or why there is none.
+    pub picture: Result<Picture, Refusal>,
+    /// Where the payload stands among the bytes; empty on refusals 2, 3, 8 and 11.
+    pub payload: Range<usize>,
+}
+
+/// Reads all at once: the payload after the first DCS header, or all bytes where there is no introducer. The palette
+/// becomes the picture's; after a refusal it is as it was.
+pub fn read(limits: Limits, stride: usize, canvas: &mut [u8], bytes: &[u8], palette: &mut Palette) -> Reading {
+    let (answer, report) = ffi::read(limits, stride, canvas, bytes, &mut palette.0);
+    let [numbers @ .., place, length] = report;
+    let payload = place as usize..(place + length) as usize;
+    Reading { picture: Refusal::judge(answer).map(|()| Picture::of_report(numbers)), payload }
+}
+
+/// Copies a picture's rows, without gaps, to the front of `out`, whose later bytes stay.
+pub fn copy(canvas: &[u8], stride: usize, width: usize, height: usize, out: &mut [u8]) -> Result<(), Refusal> {
+    Refusal::judge(ffi::copy(canvas, stride, width, height, out))
+}
