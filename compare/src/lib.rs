@@ -1,0 +1,15 @@
+//! The oracle and the proved reader side by side. `README.md` beside this crate says how it is run.
+pub mod boundary;
+pub mod judge;
+pub mod model;
+pub mod run;
+pub mod servant;
+pub mod show;
+pub mod shrink;
+pub mod streams;
+pub mod trial;
+
+#[cfg(test)]
+mod stand_in;
+#[cfg(test)]
+mod tests;

@@ -1,0 +1,187 @@
+//! That the comparison can fail, at each thing it compares, and that shrinking finds the smallest stream.
+use crate::boundary::{Boundary, Memory, Opening, GUARD};
+use crate::run::{difference, smallest};
+use crate::shrink::shrink;
+use crate::stand_in::StandIn;
+use crate::trial::Trial;
+use oracle::run::Entry;
+
+const SEED: u64 = 7;
+
+/// One thing that a reader gets wrong.
+#[derive(Clone, Copy, PartialEq, Debug)]
+enum Damage {
+    Nothing,
+    Opening,
+    Feed(usize),
+    FeedNumber,
+    Finish(usize),
+    FinishNumber,
+    Read(usize),
+    ReadNumber,
+    Palette,
+    Session,
+    Pixel,
+    Outside,
+    Before,
+    After,
+    StopsEarly,
+    NoStop,
+    Thirteen,
+    Twelve,
+}
+
+struct Damaged {
+    inner: StandIn,
+    damage: Damage,
+    memory: Memory,
+}
+
+impl Damaged {
+    fn new(damage: Damage) -> Self {
+        let memory = Memory { buffer: Vec::new(), palette: [0; 256], session: [0; 40], registers: [0; 256] };
+        Self { inner: StandIn::new(), damage, memory }
+    }
+
+    fn is(&self, damage: Damage) -> bool {
+        self.damage == damage
+    }
+}
+
+impl Boundary for Damaged {
+    fn open(&mut self, opening: &Opening) -> u64 {
+        self.inner.open(opening) + if self.is(Damage::Opening) { 11 } else { 0 }
+    }
+
+    fn feed(&mut self, bytes: &[u8], allowance: usize, short: usize) -> (u64, [u64; 4]) {
+        let short = if self.is(Damage::Twelve) { 0 } else { short };
+        let allowance = if self.is(Damage::Thirteen) { usize::MAX } else { allowance };
+        if self.is(Damage::StopsEarly) && bytes.len() > 1 {
+            let (number, [how, consumed, ink, byte]) = self.inner.feed(&bytes[..1], allowance, short);
+            return (number, if number == 0 && how == 0 { [1, consumed, ink, 0] } else { [how, consumed, ink, byte] });
+        }
+        let (number, mut report) = self.inner.feed(bytes, allowance, short);
+        if self.is(Damage::NoStop) && report[0] == 1 {
+            report[0] = 0;
+        }
+        if let Damage::Feed(place) = self.damage {
+            report[place] += 1;
+        }
+        (if self.is(Damage::FeedNumber) && number != 0 { number + 1 } else { number }, report)
+    }
+
+    fn finish(&mut self) -> (u64, [u64; 7]) {
+        let (number, mut report) = self.inner.finish();
+        if let Damage::Finish(place) = self.damage {
+            report[place] += 1;
+        }
+        (if self.is(Damage::FinishNumber) && number != 0 { number + 1 } else { number }, report)
+    }
+
+    fn read(&mut self, opening: &Opening, bytes: &[u8]) -> (u64, [u64; 9]) {
+        let (number, mut report) = self.inner.read(opening, bytes);
+        if let Damage::Read(place) = self.damage {
+            report[place] += 1;
+        }
+        (if self.is(Damage::ReadNumber) && number != 0 { number + 1 } else { number }, report)
+    }
+
+    fn memory(&mut self) -> &Memory {
+        self.memory = self.inner.memory().clone();
+        let end = self.memory.buffer.len();
+        match self.damage {
+            Damage::Palette => self.memory.palette[255] ^= 1,
+            Damage::Session => self.memory.session[39] ^= 1,
+            Damage::Pixel => self.memory.buffer[GUARD] ^= 1,
+            Damage::Outside => self.memory.buffer[end - GUARD - 1] ^= 1,
+            Damage::Before => self.memory.buffer[GUARD - 1] ^= 1,
+            Damage::After => self.memory.buffer[end - GUARD] ^= 1,
+            _ => {}
+        }
+        &self.memory
+    }
+}
+
+/// What the first of many trials to differ says, if one does.
+fn found(damage: Damage) -> Option<String> {
+    let mut reader = Damaged::new(damage);
+    (0..3_000).find_map(|number| difference(&Trial::new(SEED, number), &mut reader)).map(|found| found.what)
+}
+
+#[test]
+fn a_sound_reader_has_no_difference() {
+    assert_eq!(found(Damage::Nothing), None);
+}
+
+#[test]
+fn every_damage_is_noticed() {
+    use Damage::*;
+    let each = [
+        Opening, Feed(0), Feed(1), Feed(2), Feed(3), FeedNumber, Finish(0), Finish(1), Finish(2), Finish(3), Finish(4),
+        Finish(5), Finish(6), FinishNumber, Read(0), Read(1), Read(2), Read(3), Read(4), Read(5), Read(6), Read(7),
+        Read(8), ReadNumber, Palette, Session, Pixel, Outside, Before, After, StopsEarly, Thirteen, Twelve,
+    ];
+    for damage in each {
+        assert!(found(damage).is_some(), "{damage:?} goes unnoticed");
+    }
+}
+
+/// Under the crate's own limits stops are too rare for a few trials.
+#[test]
+fn a_missing_stop_is_noticed_under_small_limits() {
+    if oracle::LIMITS[0] < 100 {
+        assert!(found(Damage::NoStop).is_some());
+    }
+}
+
+#[test]
+fn each_field_is_named() {
+    let names = [
+        (Damage::Opening, "opening"),
+        (Damage::Feed(0), "status of call 1"),
+        (Damage::Feed(1), "bytes consumed of call 1"),
+        (Damage::Feed(2), "ink of call 1"),
+        (Damage::Feed(3), "ending byte of call 1"),
+    ];
+    for (damage, name) in names {
+        assert_eq!(found(damage).as_deref(), Some(name));
+    }
+    assert!(found(Damage::Palette).is_some_and(|what| what.starts_with("palette")));
+    assert!(found(Damage::Before).is_some_and(|what| what.contains("outside the picture")));
+}
+
+#[test]
+fn a_trial_is_a_function_of_seed_and_number() {
+    for number in 0..200 {
+        assert!(Trial::new(3, number) == Trial::new(3, number));
+    }
+    assert!((0..50).any(|number| Trial::new(3, number) != Trial::new(4, number)));
+}
+
+#[test]
+fn shrinking_leaves_the_one_byte_that_matters() {
+    let mut reader = Damaged::new(Damage::Nothing);
+    assert!(difference(&Trial::new(SEED, 1), &mut reader).is_none());
+    let big = Trial {
+        entry: Entry::Payload([Some(2), Some(1), None]),
+        before: b"#1;2;9;9;9".to_vec(),
+        abort: false,
+        pieces: vec![b"!1~$#2;1;9".to_vec(), Vec::new(), b"9;9;9-#3~??Z".to_vec(), b"\"1;1;1;1~".to_vec()],
+        allowances: vec![usize::MAX, usize::MAX - 1],
+        room: [1, 1, 1],
+        fill: 99,
+        poked: true,
+    };
+    let small = shrink(&big, &mut |trial| trial.stream().contains(&b'Z'));
+    assert_eq!(small.stream(), b"Z");
+    assert_eq!(small.pieces.len(), 1);
+    assert!(small.before.is_empty() && !small.poked && small.room == [0; 3]);
+}
+
+#[test]
+fn a_shrunk_difference_is_printed() {
+    let mut reader = Damaged::new(Damage::Pixel);
+    let trial = (0..).map(|number| Trial::new(SEED, number)).find(|trial| trial.entry == Entry::Payload([None; 3]));
+    let words = smallest(&trial.expect("there is one"), &mut reader);
+    assert!(words.contains("pixel at column 0, row 0"), "{words}");
+}
