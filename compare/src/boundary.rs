@@ -67,32 +67,78 @@ mod linked {
 
     extern "C" {
         fn sixel_read(
-            width: usize, height: usize, repeats: usize, pixels: usize, stride: usize, canvas: *mut u8, canvas_len: usize,
-            bytes: *const u8, bytes_len: usize, palette: *mut Registers, report: *mut [u64; 9],
+            width: usize,
+            height: usize,
+            repeats: usize,
+            pixels: usize,
+            stride: usize,
+            canvas: *mut u8,
+            canvas_len: usize,
+            bytes: *const u8,
+            bytes_len: usize,
+            palette: *mut Registers,
+            report: *mut [u64; 9],
         ) -> u64;
         fn sixel_payload_open(
-            width: usize, height: usize, repeats: usize, pixels: usize, stride: usize, p1: u32, p2: u32, canvas: *mut u8,
-            canvas_len: usize, palette: *const Registers, session: *mut Numbers, registers: *mut Registers,
+            width: usize,
+            height: usize,
+            repeats: usize,
+            pixels: usize,
+            stride: usize,
+            p1: u32,
+            p2: u32,
+            canvas: *mut u8,
+            canvas_len: usize,
+            palette: *const Registers,
+            session: *mut Numbers,
+            registers: *mut Registers,
         ) -> u64;
         fn sixel_payload_feed(
-            session: *mut Numbers, registers: *mut Registers, canvas: *mut u8, canvas_len: usize, bytes: *const u8,
-            bytes_len: usize, allowance: usize, report: *mut [u64; 4],
+            session: *mut Numbers,
+            registers: *mut Registers,
+            canvas: *mut u8,
+            canvas_len: usize,
+            bytes: *const u8,
+            bytes_len: usize,
+            allowance: usize,
+            report: *mut [u64; 4],
         ) -> u64;
         fn sixel_payload_finish(
-            session: *mut Numbers, registers: *const Registers, canvas: *mut u8, canvas_len: usize,
-            palette: *mut Registers, report: *mut [u64; 7],
+            session: *mut Numbers,
+            registers: *const Registers,
+            canvas: *mut u8,
+            canvas_len: usize,
+            palette: *mut Registers,
+            report: *mut [u64; 7],
         ) -> u64;
         fn sixel_dcs_open(
-            width: usize, height: usize, repeats: usize, pixels: usize, stride: usize, length: usize,
-            palette: *const Registers, session: *mut Numbers, registers: *mut Registers,
+            width: usize,
+            height: usize,
+            repeats: usize,
+            pixels: usize,
+            stride: usize,
+            length: usize,
+            palette: *const Registers,
+            session: *mut Numbers,
+            registers: *mut Registers,
         ) -> u64;
         fn sixel_dcs_feed(
-            session: *mut Numbers, registers: *mut Registers, canvas: *mut u8, canvas_len: usize, bytes: *const u8,
-            bytes_len: usize, allowance: usize, report: *mut [u64; 4],
+            session: *mut Numbers,
+            registers: *mut Registers,
+            canvas: *mut u8,
+            canvas_len: usize,
+            bytes: *const u8,
+            bytes_len: usize,
+            allowance: usize,
+            report: *mut [u64; 4],
         ) -> u64;
         fn sixel_dcs_finish(
-            session: *mut Numbers, registers: *const Registers, canvas: *mut u8, canvas_len: usize,
-            palette: *mut Registers, report: *mut [u64; 7],
+            session: *mut Numbers,
+            registers: *const Registers,
+            canvas: *mut u8,
+            canvas_len: usize,
+            palette: *mut Registers,
+            report: *mut [u64; 7],
         ) -> u64;
     }
 
@@ -149,8 +195,7 @@ mod linked {
             let mut report = [UNWRITTEN; 7];
             let call = if self.framed { sixel_dcs_finish } else { sixel_payload_finish };
             let (canvas, len, own) = self.parts();
-            let number =
-                unsafe { call(&mut own.session, &own.registers, canvas, len, &mut own.palette, &mut report) };
+            let number = unsafe { call(&mut own.session, &own.registers, canvas, len, &mut own.palette, &mut report) };
             (number, report)
         }
 

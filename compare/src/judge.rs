@@ -1,10 +1,11 @@
 //! One trial put to the oracle and to a reader, and every answer compared.
 use crate::boundary::{Boundary, Opening, Registers, GUARD};
-use crate::model::{self, Bounds, Model, Settings, STOPPED};
+use crate::model::{self, Bounds, Model, Settings, ALL_READ, STOPPED};
 use crate::trial::{Trial, LEAST};
+use oracle::decoder::peek_header;
 use oracle::random::Random;
 use oracle::run::{run, Answer, Case, Entry, Status};
-use oracle::{PixelAspectRatio, SixelDecoder, LIMITS};
+use oracle::{DcsSettings, PixelAspectRatio, SixelDecoder, LIMITS};
 use std::fmt::Debug;
 
 pub struct Difference {
@@ -15,38 +16,49 @@ pub struct Difference {
 
 type Same = Result<(), Difference>;
 
-/// What one comparison came to, or many.
+/// What one comparison came to, or many: a count for each of these names.
+pub const COUNTED: [&str; 15] = [
+    "pictures",
+    "refused-1",
+    "refused-2",
+    "refused-3",
+    "refused-4",
+    "refused-5",
+    "refused-6",
+    "refused-7",
+    "refused-8",
+    "dropped",
+    "calls",
+    "stops",
+    "ink",
+    "pixels",
+    "glances",
+];
+
 #[derive(Clone, Copy, Default)]
-pub struct Tally {
-    pub pictures: u64,
-    pub refused: u64,
-    pub aborted: u64,
-    pub calls: u64,
-    pub stops: u64,
-    pub ink: u64,
-    pub pixels: u64,
-}
+pub struct Tally(pub [u64; COUNTED.len()]);
 
 impl Tally {
+    fn new(trial: &Trial, answer: &Answer, calls: &Calls) -> Self {
+        let mut counts = [0; COUNTED.len()];
+        // Pictures stand at 0, refusals at their numbers.
+        counts[if answer.refusal == 0 && trial.abort { 9 } else { usize::from(answer.refusal) }] = 1;
+        let pixels = (answer.size[0] * answer.size[1]) as u64;
+        counts[10..].copy_from_slice(&[calls.made, calls.stops, calls.ink as u64, pixels, calls.glances]);
+        Self(counts)
+    }
+
     pub fn add(&mut self, other: &Self) {
-        for (mine, theirs) in self.numbers_mut().into_iter().zip(other.numbers()) {
+        for (mine, theirs) in self.0.iter_mut().zip(other.0) {
             *mine = mine.saturating_add(theirs);
         }
-    }
-
-    pub fn numbers(&self) -> [u64; 7] {
-        [self.pictures, self.refused, self.aborted, self.calls, self.stops, self.ink, self.pixels]
-    }
-
-    pub fn numbers_mut(&mut self) -> [&mut u64; 7] {
-        let Self { pictures, refused, aborted, calls, stops, ink, pixels } = self;
-        [pictures, refused, aborted, calls, stops, ink, pixels]
     }
 }
 
 /// The oracle's answer to a trial, and the canvas on which a reader is put to it.
 pub struct Expected {
     pub answer: Answer,
+    owner: SixelDecoder,
     before: Registers,
     after: Registers,
     opening: Opening,
@@ -59,10 +71,10 @@ impl Expected {
         if !trial.before.is_empty() {
             run(&mut decoder, &frame(Entry::Payload([None; 3]), false, vec![trial.before.clone()]));
         }
-        let before = packed(&decoder.registers());
+        let (owner, before) = (decoder.clone(), packed(&decoder.registers()));
         let answer = run(&mut decoder, &frame(trial.entry, trial.abort, trial.pieces.clone()));
         let opening = opening(trial, answer.size, before);
-        Self { after: packed(&answer.registers), answer, before, opening }
+        Self { after: packed(&answer.registers), answer, owner, before, opening }
     }
 }
 
@@ -105,21 +117,14 @@ pub fn judge(trial: &Trial, expected: &Expected, reader: &mut dyn Boundary) -> R
         stride: expected.opening.stride as u64,
         rows: ((expected.opening.buffer.len() - 2 * GUARD) / (4 * expected.opening.stride)) as u64,
     };
-    let mut tally = Tally::default();
+    let mut calls = Calls::default();
     if trial.entry == Entry::OneShot {
         whole(trial, expected, reader, bounds)?;
     } else {
-        session(trial, expected, reader, bounds, &mut tally)?;
+        session(trial, expected, reader, bounds, &mut calls)?;
     }
     memory(trial, expected, reader)?;
-    let answer = &expected.answer;
-    tally.pixels = (answer.size[0] * answer.size[1]) as u64;
-    match (answer.refusal, trial.abort) {
-        (0, false) => tally.pictures = 1,
-        (0, true) => tally.aborted = 1,
-        _ => tally.refused = 1,
-    }
-    Ok(tally)
+    Ok(Tally::new(trial, &expected.answer, &calls))
 }
 
 /// Reading all at once.
@@ -151,25 +156,23 @@ struct Calls {
     by_pieces: u64,
     last: [u64; 4],
     refused: u64,
+    /// How often the canvas was looked at between two calls.
+    glances: u64,
 }
 
-fn session(
-    trial: &Trial, expected: &Expected, reader: &mut dyn Boundary, bounds: Bounds, tally: &mut Tally,
-) -> Same {
+fn session(trial: &Trial, expected: &Expected, reader: &mut dyn Boundary, bounds: Bounds, calls: &mut Calls) -> Same {
     same("opening", reader.open(&expected.opening), 0)?;
     let nothing = &mut |_| ();
     let mut model = match trial.entry {
         Entry::Dcs => Model::dcs(bounds),
         _ => Model::payload(bounds, settings(trial.entry), nothing),
     };
-    let mut calls = Calls::default();
     for piece in &trial.pieces {
         if calls.refused == 0 {
-            feed_piece(trial, reader, &mut model, &mut calls, piece)?;
+            feed_piece(trial, expected, reader, &mut model, calls, piece)?;
         }
     }
-    *tally = Tally { calls: calls.made, stops: calls.stops, ink: model.ink as u64, ..*tally };
-    counts(trial, &calls, &model)?;
+    counts(trial, calls, &model)?;
     let answer = &expected.answer;
     same("status in the end", status(trial.entry, calls.last), answer.status)?;
     same("bytes consumed in all", calls.by_pieces, answer.consumed as u64)?;
@@ -188,7 +191,14 @@ fn session(
 }
 
 /// A piece, and again what a stop left unread of it.
-fn feed_piece(trial: &Trial, reader: &mut dyn Boundary, model: &mut Model, calls: &mut Calls, piece: &[u8]) -> Same {
+fn feed_piece(
+    trial: &Trial,
+    expected: &Expected,
+    reader: &mut dyn Boundary,
+    model: &mut Model,
+    calls: &mut Calls,
+    piece: &[u8],
+) -> Same {
     let mut rest = piece;
     loop {
         if trial.poked {
@@ -212,6 +222,10 @@ fn feed_piece(trial: &Trial, reader: &mut dyn Boundary, model: &mut Model, calls
         let [how, consumed, ink, _] = report;
         calls.consumed += consumed;
         calls.ink += u128::from(ink);
+        if trial.watched {
+            calls.glances += 1;
+            glance(trial, expected, reader, calls.consumed as usize, how)?;
+        }
         if how != STOPPED {
             calls.by_pieces = calls.consumed;
             calls.last = report;
@@ -220,6 +234,20 @@ fn feed_piece(trial: &Trial, reader: &mut dyn Boundary, model: &mut Model, calls
         calls.stops += 1;
         rest = &rest[consumed as usize..];
     }
+}
+
+/// The canvas after a call: the oracle's picture of the bytes consumed so far, a pending command carried out where the next byte
+/// has ended it.
+fn glance(trial: &Trial, expected: &Expected, reader: &mut dyn Boundary, consumed: usize, how: u64) -> Same {
+    let bytes = &trial.stream()[..consumed];
+    let begun = match trial.entry {
+        Entry::Payload([p1, p2, p3]) => Some((DcsSettings::new(p1, p2, p3), bytes)),
+        _ => peek_header(bytes).map(|(settings, place)| (settings, &bytes[place..])),
+    };
+    let shown = begun.map(|(settings, payload)| expected.owner.follow(settings, payload, how != ALL_READ));
+    let (size, theirs) = shown.map_or(([0, 0], Vec::new()), |shown| (shown.size, shown.pixels));
+    let opening = &expected.opening;
+    pixels(size, &theirs, opening.stride, &reader.memory().buffer, &opening.buffer)
 }
 
 /// Calls with too small an allowance and too short a canvas change nothing.
@@ -281,24 +309,27 @@ fn memory(trial: &Trial, expected: &Expected, reader: &mut dyn Boundary) -> Same
     same("oracle's registers", expected.after == *theirs, true)?;
     for (register, (ours, theirs)) in memory.palette.iter().zip(theirs).enumerate() {
         if ours != theirs {
-            return Err(differs(&format!("palette, register {register}"), format!("{ours:06X}"), format!("{theirs:06X}")));
+            return Err(differs(
+                &format!("palette, register {register}"),
+                format!("{ours:06X}"),
+                format!("{theirs:06X}"),
+            ));
         }
     }
     if trial.entry != Entry::OneShot && !trial.abort {
         same("session after its finish", memory.session, [0; 40])?;
     }
-    pixels(answer, opening.stride, &memory.buffer, &opening.buffer)
+    pixels(answer.size, &answer.pixels, opening.stride, &memory.buffer, &opening.buffer)
 }
 
 /// The picture's rows are the oracle's, all other bytes those of the opening.
-fn pixels(answer: &Answer, stride: usize, ours: &[u8], opening: &[u8]) -> Same {
-    let [width, height] = answer.size;
+fn pixels([width, height]: [usize; 2], theirs: &[u8], stride: usize, ours: &[u8], opening: &[u8]) -> Same {
     let mut at = 0;
     for row in 0..height {
         let start = GUARD + 4 * row * stride;
         untouched(at, &ours[at..start], &opening[at..start])?;
         at = start + 4 * width;
-        let theirs = &answer.pixels[4 * row * width..][..4 * width];
+        let theirs = &theirs[4 * row * width..][..4 * width];
         if ours[start..at] != *theirs {
             let place = (0..width).find(|x| ours[start + 4 * x..][..4] != theirs[4 * x..][..4]).unwrap_or(0);
             let colour = |pixel: &[u8]| pixel.iter().map(|byte| format!("{byte:02X}")).collect();

@@ -67,7 +67,9 @@ fn one(seed: u64, number: u64) {
         failed |= found.is_some();
         match found {
             None => println!("{name}: no difference"),
-            Some(difference) => print!("{name}:\n{}{}", show::difference(&difference), smallest(&trial, reader.as_mut())),
+            Some(difference) => {
+                print!("{name}:\n{}{}", show::difference(&difference), smallest(&trial, reader.as_mut()))
+            }
         }
     }
     exit(i32::from(failed));

@@ -1,6 +1,6 @@
 //! Many trials in order, by one reader or two, with a progress line and a state from which a run goes on.
 use crate::boundary::Boundary;
-use crate::judge::{judge, Difference, Expected, Tally};
+use crate::judge::{judge, Difference, Expected, Tally, COUNTED};
 use crate::show;
 use crate::shrink::shrink;
 use crate::trial::Trial;
@@ -45,15 +45,12 @@ pub struct State {
     pub tally: Tally,
 }
 
-const NAMES: [&str; 12] = [
-    "next", "streams", "through-archive", "differences", "milliseconds", "pictures", "refused", "dropped", "calls",
-    "stops", "ink", "pixels",
-];
+const NAMES: [&str; 5] = ["next", "streams", "through-archive", "differences", "milliseconds"];
 
 impl State {
     fn numbers(&mut self) -> Vec<&mut u64> {
         let Self { next, done, through_archive, differences, milliseconds, tally } = self;
-        [next, done, through_archive, differences, milliseconds].into_iter().chain(tally.numbers_mut()).collect()
+        [next, done, through_archive, differences, milliseconds].into_iter().chain(&mut tally.0).collect()
     }
 
     pub fn add(&mut self, other: &Self) {
@@ -64,13 +61,13 @@ impl State {
     }
 
     pub fn text(mut self) -> String {
-        NAMES.iter().zip(self.numbers()).map(|(name, number)| format!("{name} {number}\n")).collect()
+        NAMES.iter().chain(&COUNTED).zip(self.numbers()).map(|(name, number)| format!("{name} {number}\n")).collect()
     }
 
     pub fn parse(text: &str) -> Option<Self> {
         let mut state = Self::default();
         let mut lines = text.lines().skip(1);
-        for (name, number) in NAMES.iter().zip(state.numbers()) {
+        for (name, number) in NAMES.iter().chain(&COUNTED).zip(state.numbers()) {
             *number = lines.next()?.strip_prefix(name)?.trim().parse().ok()?;
         }
         Some(state)
@@ -136,9 +133,15 @@ pub fn run(plan: &Plan, workers: &mut [Readers]) -> State {
 fn progress(plan: &Plan, state: &State) {
     let share = plan.streams * plan.classes.len() as u64 / CLASSES;
     let pace = state.done * 1_000 / state.milliseconds.max(1);
+    let of = |name| COUNTED.iter().position(|other| *other == name).map_or(0, |at| state.tally.0[at]);
     eprintln!(
         "{}: {} of {share} streams, {} through the archive too, {pace} a second, {} calls, {} stops, {} differences",
-        plan.name, state.done, state.through_archive, state.tally.calls, state.tally.stops, state.differences
+        plan.name,
+        state.done,
+        state.through_archive,
+        of("calls"),
+        of("stops"),
+        state.differences
     );
 }
 

@@ -22,7 +22,7 @@ pub fn trial(trial: &Trial) -> String {
     }
     let [columns, rows, bytes] = trial.room;
     out += &format!("  allowances {:?}; {columns} columns, {rows} rows, {bytes} bytes of room", trial.allowances);
-    out + if trial.poked { "; poked\n" } else { "\n" }
+    out + if trial.poked { "; poked" } else { "" } + if trial.watched { "; watched\n" } else { "\n" }
 }
 
 pub fn difference(difference: &Difference) -> String {

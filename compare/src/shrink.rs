@@ -57,13 +57,15 @@ fn candidate(trial: &Trial, at: usize) -> Option<Trial> {
         2 => Trial { poked: false, ..plain },
         3 => Trial { room: [0; 3], ..plain },
         4 => Trial { allowances: vec![usize::MAX], ..plain },
-        5 => Trial { allowances: vec![LEAST], ..plain },
+        5 if trial.allowances.len() > 1 => Trial { allowances: vec![LEAST], ..plain },
+        5 => plain,
         6 => Trial { fill: 0, ..plain },
         7 => Trial { entry, ..plain },
         8 => Trial { pieces: Vec::new(), ..plain },
-        _ if at - 9 < trial.before.len() => {
+        9 => Trial { watched: false, ..plain },
+        _ if at - 10 < trial.before.len() => {
             let mut before = plain.before.clone();
-            before.remove(at - 9);
+            before.remove(at - 10);
             Trial { before, ..plain }
         }
         _ => return None,

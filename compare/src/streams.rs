@@ -9,8 +9,18 @@ const ENDS: [u8; 12] = [0x18, 0x1a, 0x1b, 0x80, 0x84, 0x85, 0x8f, 0x90, 0x9b, 0x
 /// Bytes that do nothing but end a command.
 const IDLE: [u8; 12] = [b' ', b'%', b'&', b'\'', b'(', b'*', b'/', b':', b'<', b'>', 0xa0, 0xff];
 const WILD: [&str; 12] = [
-    "255", "256", "65535", "65536", "2147483647", "2147483648", "4294967295", "4294967297", "9223372036854775808",
-    "18446744073709551615", "18446744073709551617", "1000000000011",
+    "255",
+    "256",
+    "65535",
+    "65536",
+    "2147483647",
+    "2147483648",
+    "4294967295",
+    "4294967297",
+    "9223372036854775808",
+    "18446744073709551615",
+    "18446744073709551617",
+    "1000000000011",
 ];
 
 pub fn any(random: &mut Random) -> (Entry, Vec<u8>) {
@@ -34,9 +44,15 @@ fn p2(random: &mut Random) -> Option<u16> {
 
 fn payload(random: &mut Random) -> Vec<u8> {
     let most = random.pick(&[1, 3, 6, 10, 16, 40]);
+    let passes = random.below(3) == 0;
     let mut out = Vec::new();
     for _ in 0..random.below(most + 1) {
-        part(random, &mut out);
+        // A pass stays in the picture, so that there is ink to stop for; a part may do anything.
+        if passes && random.below(12) > 0 {
+            pass(random, &mut out);
+        } else {
+            part(random, &mut out);
+        }
     }
     if random.below(4) == 0 {
         out.push(random.pick(&ENDS));
@@ -55,7 +71,18 @@ fn dcs(random: &mut Random) -> Vec<u8> {
     }
     out.push(b'q');
     out.extend(payload(random));
-    out.extend(random.pick(&[&b"\x1b\\"[..], b"\x1b\\", b"\x9c", b"\x18", b"\x1a", b"\x1b[", b"\x1b\x1b", b"\x85", b"\x1b", b""]));
+    out.extend(random.pick(&[
+        &b"\x1b\\"[..],
+        b"\x1b\\",
+        b"\x9c",
+        b"\x18",
+        b"\x1a",
+        b"\x1b[",
+        b"\x1b\x1b",
+        b"\x85",
+        b"\x1b",
+        b"",
+    ]));
     if random.below(4) == 0 {
         out.extend(random.pick(&[&b"~rest"[..], b"\\", b"\x1b\\", b"\x90q~"]));
     }
@@ -72,7 +99,8 @@ fn setting(random: &mut Random) -> Vec<u8> {
 
 /// A sequence in other text, a bare payload, or an introducer with nothing behind it.
 fn one_shot(random: &mut Random) -> Vec<u8> {
-    let mut out = random.pick(&[&b""[..], b"", b"", b"text\x1b[1m", b"\x1b", b"!3~\x18", b"\x1bp", b"\x1b\x1b"]).to_vec();
+    let mut out =
+        random.pick(&[&b""[..], b"", b"", b"text\x1b[1m", b"\x1b", b"!3~\x18", b"\x1bp", b"\x1b\x1b"]).to_vec();
     match random.below(8) {
         0..=2 => out.extend(payload(random)),
         3 => out.extend(random.pick(&[&b"\x1bP"[..], b"\x90", b"\x901;2", b"\x1bP;", b"\x90\x1b", b"\x90P"])),
@@ -93,6 +121,25 @@ fn with_skipped(random: &mut Random, stream: &[u8]) -> Vec<u8> {
     out
 }
 
+/// A run of columns from the left within all limits, mostly full, over what is there already or in the next band.
+fn pass(random: &mut Random, out: &mut Vec<u8>) {
+    let columns = (LIMITS[0].min(LIMITS[2]).min(LIMITS[3] / 6)).clamp(1, 100) as u64;
+    out.push(if random.below(12) == 0 { b'-' } else { b'$' });
+    match random.below(6) {
+        0 => colour(random, out),
+        1 => out.extend(format!("#{}", random.below(16)).into_bytes()),
+        _ => {}
+    }
+    let full = random.below(3) > 0;
+    let count = if full { columns } else { 1 + random.below(columns) };
+    let bits = if random.below(3) > 0 { 63 } else { sixel(random) };
+    out.extend(if count < 4 {
+        vec![b'?' + bits; count as usize]
+    } else {
+        format!("!{count}{}", (b'?' + bits) as char).into_bytes()
+    });
+}
+
 fn part(random: &mut Random, out: &mut Vec<u8>) {
     match random.below(20) {
         0..=4 => out.extend((0..=random.below(6)).map(|_| b'?' + sixel(random))),
@@ -109,7 +156,9 @@ fn part(random: &mut Random, out: &mut Vec<u8>) {
         14..=15 => raster(random, out),
         16 => out.push(b'$'),
         17 => out.push(b'-'),
-        18 => out.extend(random.pick(&[&b"$"[..], b"-", b"$-", b"--", b"!!", b"##", b"\"\"", b"!#", b"#\"", b";", b"5"])),
+        18 => {
+            out.extend(random.pick(&[&b"$"[..], b"-", b"$-", b"--", b"!!", b"##", b"\"\"", b"!#", b"#\"", b";", b"5"]))
+        }
         _ => {
             let idle = random.below(2) == 0;
             out.push(random.pick(if idle { &IDLE[..] } else { &SKIPPED }));
@@ -215,7 +264,13 @@ pub fn heavy(random: &mut Random) -> Vec<u8> {
         1 => format!("{}!{}?-@", "!65535?".repeat(15), 16_973 + near).into_bytes(),
         2 => format!("{}~", "-".repeat(166_663 + near as usize)).into_bytes(),
         _ => random
-            .pick(&["\"1;1;2896;2896@", "\"1;1;1000000;8@", "\"1;1;8;1000000-~", "\"1;1;8193;8192@", "\"1;1;67;1000000@"])
+            .pick(&[
+                "\"1;1;2896;2896@",
+                "\"1;1;1000000;8@",
+                "\"1;1;8;1000000-~",
+                "\"1;1;8193;8192@",
+                "\"1;1;67;1000000@",
+            ])
             .into(),
     }
 }

@@ -1,5 +1,6 @@
 //! That the comparison can fail, at each thing it compares, and that shrinking finds the smallest stream.
 use crate::boundary::{Boundary, Memory, Opening, GUARD};
+use crate::judge::{judge, Expected, Tally, COUNTED};
 use crate::run::{difference, smallest};
 use crate::shrink::shrink;
 use crate::stand_in::StandIn;
@@ -27,6 +28,8 @@ enum Damage {
     After,
     StopsEarly,
     NoStop,
+    /// A picture that is right in the end alone.
+    Between,
     Thirteen,
     Twelve,
 }
@@ -35,12 +38,13 @@ struct Damaged {
     inner: StandIn,
     damage: Damage,
     memory: Memory,
+    ended: bool,
 }
 
 impl Damaged {
     fn new(damage: Damage) -> Self {
         let memory = Memory { buffer: Vec::new(), palette: [0; 256], session: [0; 40], registers: [0; 256] };
-        Self { inner: StandIn::new(), damage, memory }
+        Self { inner: StandIn::new(), damage, memory, ended: false }
     }
 
     fn is(&self, damage: Damage) -> bool {
@@ -50,6 +54,7 @@ impl Damaged {
 
 impl Boundary for Damaged {
     fn open(&mut self, opening: &Opening) -> u64 {
+        self.ended = false;
         self.inner.open(opening) + if self.is(Damage::Opening) { 11 } else { 0 }
     }
 
@@ -71,6 +76,7 @@ impl Boundary for Damaged {
     }
 
     fn finish(&mut self) -> (u64, [u64; 7]) {
+        self.ended = true;
         let (number, mut report) = self.inner.finish();
         if let Damage::Finish(place) = self.damage {
             report[place] += 1;
@@ -92,6 +98,7 @@ impl Boundary for Damaged {
         match self.damage {
             Damage::Palette => self.memory.palette[255] ^= 1,
             Damage::Session => self.memory.session[39] ^= 1,
+            Damage::Between if !self.ended => self.memory.buffer[GUARD] ^= 1,
             Damage::Pixel => self.memory.buffer[GUARD] ^= 1,
             Damage::Outside => self.memory.buffer[end - GUARD - 1] ^= 1,
             Damage::Before => self.memory.buffer[GUARD - 1] ^= 1,
@@ -117,9 +124,39 @@ fn a_sound_reader_has_no_difference() {
 fn every_damage_is_noticed() {
     use Damage::*;
     let each = [
-        Opening, Feed(0), Feed(1), Feed(2), Feed(3), FeedNumber, Finish(0), Finish(1), Finish(2), Finish(3), Finish(4),
-        Finish(5), Finish(6), FinishNumber, Read(0), Read(1), Read(2), Read(3), Read(4), Read(5), Read(6), Read(7),
-        Read(8), ReadNumber, Palette, Session, Pixel, Outside, Before, After, StopsEarly, Thirteen, Twelve,
+        Opening,
+        Feed(0),
+        Feed(1),
+        Feed(2),
+        Feed(3),
+        FeedNumber,
+        Finish(0),
+        Finish(1),
+        Finish(2),
+        Finish(3),
+        Finish(4),
+        Finish(5),
+        Finish(6),
+        FinishNumber,
+        Read(0),
+        Read(1),
+        Read(2),
+        Read(3),
+        Read(4),
+        Read(5),
+        Read(6),
+        Read(7),
+        Read(8),
+        ReadNumber,
+        Palette,
+        Session,
+        Pixel,
+        Outside,
+        Before,
+        After,
+        StopsEarly,
+        Thirteen,
+        Twelve,
     ];
     for damage in each {
         assert!(found(damage).is_some(), "{damage:?} goes unnoticed");
@@ -135,6 +172,37 @@ fn a_missing_stop_is_noticed_under_small_limits() {
 }
 
 #[test]
+fn a_wrong_canvas_between_two_calls_is_noticed() {
+    let mut reader = Damaged::new(Damage::Between);
+    let finished = |trial: &Trial| !trial.abort && trial.entry != Entry::OneShot;
+    let mut trials = (0..3_000).map(|number| Trial::new(SEED, number)).filter(finished);
+    assert!(trials.any(|trial| difference(&trial, &mut reader).is_some()));
+}
+
+/// Refusal 7 is not among them: each canvas has room for its picture.
+#[test]
+fn every_kind_of_outcome_comes_up() {
+    let mut reader = StandIn::new();
+    let mut tally = Tally::default();
+    for number in 0..20_000 {
+        let trial = Trial::new(SEED, number);
+        tally.add(&judge(&trial, &Expected::of(&trial), &mut reader).unwrap_or_else(|found| panic!("{}", found.what)));
+    }
+    let [w, h, _, m] = oracle::LIMITS;
+    for (name, count) in COUNTED.iter().zip(tally.0) {
+        println!("{name} {count}");
+        let can_be = match *name {
+            "refused-6" => w * h > m,
+            "refused-7" => false,
+            "stops" => w < 100,
+            _ => true,
+        };
+        assert!(count > 0 || !can_be, "{name} does not come up");
+        assert!(count == 0 || can_be || *name == "stops", "{name} comes up");
+    }
+}
+
+#[test]
 fn each_field_is_named() {
     let names = [
         (Damage::Opening, "opening"),
@@ -143,8 +211,10 @@ fn each_field_is_named() {
         (Damage::Feed(2), "ink of call 1"),
         (Damage::Feed(3), "ending byte of call 1"),
     ];
+    let plain = (0..).map(|number| Trial::new(SEED, number)).find(|trial| !trial.poked && trial.entry == Entry::Dcs);
+    let plain = plain.expect("there is one");
     for (damage, name) in names {
-        assert_eq!(found(damage).as_deref(), Some(name));
+        assert_eq!(difference(&plain, &mut Damaged::new(damage)).map(|found| found.what).as_deref(), Some(name));
     }
     assert!(found(Damage::Palette).is_some_and(|what| what.starts_with("palette")));
     assert!(found(Damage::Before).is_some_and(|what| what.contains("outside the picture")));
@@ -171,6 +241,7 @@ fn shrinking_leaves_the_one_byte_that_matters() {
         room: [1, 1, 1],
         fill: 99,
         poked: true,
+        watched: true,
     };
     let small = shrink(&big, &mut |trial| trial.stream().contains(&b'Z'));
     assert_eq!(small.stream(), b"Z");

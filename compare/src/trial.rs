@@ -20,6 +20,8 @@ pub struct Trial {
     pub fill: u64,
     /// Calls that must be refused by 12 and 13 and change nothing are put between the others.
     pub poked: bool,
+    /// The canvas is looked at after each call, not only in the end.
+    pub watched: bool,
 }
 
 /// The smallest allowance.
@@ -45,6 +47,7 @@ impl Trial {
             room: [random.pick(&[0, 0, 1, 3]), random.pick(&[0, 0, 1, 2]), random.pick(&[0, 0, 1, 3])],
             fill: random.any(),
             poked: random.below(8) == 0,
+            watched: !heavy && random.below(8) == 0,
         }
     }
 
