@@ -1,114 +1,14 @@
-//! One trial put to the oracle and to a reader, and every answer compared.
-use crate::boundary::{Boundary, Opening, Registers, GUARD};
-use crate::model::{self, Bounds, Model, Settings, ALL_READ, STOPPED};
+//! One trial put to a reader, and every answer compared with the oracle's and with the count.
+use crate::boundary::{Boundary, GUARD};
+use crate::expected::{settings, Expected};
+use crate::model::{Bounds, Model, ALL_READ, STOPPED};
+use crate::same::{differs, pixels, same, same_call, Difference, Same};
+use crate::tally::{Calls, Tally};
 use crate::trial::{Trial, LEAST};
+use crate::values;
 use oracle::decoder::peek_header;
-use oracle::random::Random;
-use oracle::run::{run, Answer, Case, Entry, Status};
-use oracle::{DcsSettings, PixelAspectRatio, SixelDecoder, LIMITS};
-use std::fmt::Debug;
-
-pub struct Difference {
-    pub what: String,
-    pub ours: String,
-    pub theirs: String,
-}
-
-type Same = Result<(), Difference>;
-
-/// What one comparison came to, or many: a count for each of these names.
-pub const COUNTED: [&str; 15] = [
-    "pictures",
-    "refused-1",
-    "refused-2",
-    "refused-3",
-    "refused-4",
-    "refused-5",
-    "refused-6",
-    "refused-7",
-    "refused-8",
-    "dropped",
-    "calls",
-    "stops",
-    "ink",
-    "pixels",
-    "glances",
-];
-
-#[derive(Clone, Copy, Default)]
-pub struct Tally(pub [u64; COUNTED.len()]);
-
-impl Tally {
-    fn new(trial: &Trial, answer: &Answer, calls: &Calls) -> Self {
-        let mut counts = [0; COUNTED.len()];
-        // Pictures stand at 0, refusals at their numbers.
-        counts[if answer.refusal == 0 && trial.abort { 9 } else { usize::from(answer.refusal) }] = 1;
-        let pixels = (answer.size[0] * answer.size[1]) as u64;
-        counts[10..].copy_from_slice(&[calls.made, calls.stops, calls.ink as u64, pixels, calls.glances]);
-        Self(counts)
-    }
-
-    pub fn add(&mut self, other: &Self) {
-        for (mine, theirs) in self.0.iter_mut().zip(other.0) {
-            *mine = mine.saturating_add(theirs);
-        }
-    }
-}
-
-/// The oracle's answer to a trial, and the canvas on which a reader is put to it.
-pub struct Expected {
-    pub answer: Answer,
-    owner: SixelDecoder,
-    before: Registers,
-    after: Registers,
-    opening: Opening,
-}
-
-impl Expected {
-    pub fn of(trial: &Trial) -> Self {
-        let mut decoder = SixelDecoder::new();
-        let frame = |entry, abort, pieces| Case { reset: false, entry, abort, pieces };
-        if !trial.before.is_empty() {
-            run(&mut decoder, &frame(Entry::Payload([None; 3]), false, vec![trial.before.clone()]));
-        }
-        let (owner, before) = (decoder.clone(), packed(&decoder.registers()));
-        let answer = run(&mut decoder, &frame(trial.entry, trial.abort, trial.pieces.clone()));
-        let opening = opening(trial, answer.size, before);
-        Self { after: packed(&answer.registers), answer, owner, before, opening }
-    }
-}
-
-fn packed(registers: &[u8]) -> Registers {
-    std::array::from_fn(|at| u32::from_be_bytes([0, registers[4 * at], registers[4 * at + 1], registers[4 * at + 2]]))
-}
-
-fn opening(trial: &Trial, size: [usize; 2], palette: Registers) -> Opening {
-    let [columns, rows, bytes] = trial.room;
-    let stride = (size[0].max(1) + columns).min(1_000_000);
-    let canvas = 4 * stride * (size[1].max(1) + rows) + bytes;
-    // Any number above 65,535 says that there is none.
-    let none = 65_536 + (trial.fill % 3) as u32 * 2_147_450_879;
-    let [p1, p2] = settings(trial.entry).map(|setting| setting.map_or(none, u32::from));
-    let buffer = filled(trial.fill, canvas + 2 * GUARD);
-    Opening { framed: trial.entry == Entry::Dcs, limits: LIMITS, stride, p1, p2, buffer, palette }
-}
-
-fn settings(entry: Entry) -> Settings {
-    match entry {
-        Entry::Payload([p1, p2, _]) => [p1, p2],
-        _ => [None; 2],
-    }
-}
-
-fn filled(seed: u64, size: usize) -> Vec<u8> {
-    let mut random = Random::new(seed);
-    let mut bytes = Vec::with_capacity(size + 8);
-    while bytes.len() < size {
-        bytes.extend(random.any().to_le_bytes());
-    }
-    bytes.truncate(size);
-    bytes
-}
+use oracle::run::{Entry, Status};
+use oracle::{DcsSettings, PixelAspectRatio, LIMITS};
 
 /// Puts the trial to the reader.
 pub fn judge(trial: &Trial, expected: &Expected, reader: &mut dyn Boundary) -> Result<Tally, Difference> {
@@ -136,28 +36,12 @@ fn whole(trial: &Trial, expected: &Expected, reader: &mut dyn Boundary, bounds: 
     same("payload's length", size, expected.answer.part as u64)?;
     same("payload's place", place, (bytes.len() - expected.answer.part) as u64)?;
     let nothing = &mut |_| ();
-    let counted = model::part(&bytes).and_then(|(settings, place)| {
+    let counted = values::part(&bytes).and_then(|(settings, place)| {
         let mut model = Model::payload(bounds, settings, nothing);
         model.feed(&bytes[place..], u64::MAX, nothing)?;
         model.finish(nothing)
     });
     finished(expected, (number, finish), counted)
-}
-
-/// How the calls of a session stand.
-#[derive(Default)]
-struct Calls {
-    made: u64,
-    smallest: Option<usize>,
-    consumed: u64,
-    ink: u128,
-    stops: u64,
-    /// After the last piece that was taken whole: all bytes consumed, and the last report.
-    by_pieces: u64,
-    last: [u64; 4],
-    refused: u64,
-    /// How often the canvas was looked at between two calls.
-    glances: u64,
 }
 
 fn session(trial: &Trial, expected: &Expected, reader: &mut dyn Boundary, bounds: Bounds, calls: &mut Calls) -> Same {
@@ -320,49 +204,4 @@ fn memory(trial: &Trial, expected: &Expected, reader: &mut dyn Boundary) -> Same
         same("session after its finish", memory.session, [0; 40])?;
     }
     pixels(answer.size, &answer.pixels, opening.stride, &memory.buffer, &opening.buffer)
-}
-
-/// The picture's rows are the oracle's, all other bytes those of the opening.
-fn pixels([width, height]: [usize; 2], theirs: &[u8], stride: usize, ours: &[u8], opening: &[u8]) -> Same {
-    let mut at = 0;
-    for row in 0..height {
-        let start = GUARD + 4 * row * stride;
-        untouched(at, &ours[at..start], &opening[at..start])?;
-        at = start + 4 * width;
-        let theirs = &theirs[4 * row * width..][..4 * width];
-        if ours[start..at] != *theirs {
-            let place = (0..width).find(|x| ours[start + 4 * x..][..4] != theirs[4 * x..][..4]).unwrap_or(0);
-            let colour = |pixel: &[u8]| pixel.iter().map(|byte| format!("{byte:02X}")).collect();
-            let what = format!("pixel at column {place}, row {row}");
-            return Err(differs(&what, colour(&ours[start + 4 * place..][..4]), colour(&theirs[4 * place..][..4])));
-        }
-    }
-    untouched(at, &ours[at..], &opening[at..])
-}
-
-fn untouched(from: usize, ours: &[u8], opening: &[u8]) -> Same {
-    if ours == opening {
-        return Ok(());
-    }
-    let place = ours.iter().zip(opening).position(|(mine, before)| mine != before).unwrap_or(0);
-    let what = format!("byte {} of the canvas, outside the picture", (from + place) as i64 - GUARD as i64);
-    Err(differs(&what, format!("{:02X}", ours[place]), format!("{:02X}", opening[place])))
-}
-
-fn same<T: PartialEq + Debug>(what: &str, ours: T, theirs: T) -> Same {
-    if ours == theirs {
-        return Ok(());
-    }
-    Err(differs(what, format!("{ours:?}"), format!("{theirs:?}")))
-}
-
-fn same_call(call: u64, what: &str, ours: u64, counted: u64) -> Same {
-    if ours == counted {
-        return Ok(());
-    }
-    Err(differs(&format!("{what} of call {call}"), ours.to_string(), counted.to_string()))
-}
-
-fn differs(what: &str, ours: String, theirs: String) -> Difference {
-    Difference { what: what.into(), ours, theirs }
 }

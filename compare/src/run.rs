@@ -1,8 +1,11 @@
 //! Many trials in order, by one reader or two, with a progress line and a state from which a run goes on.
 use crate::boundary::Boundary;
-use crate::judge::{judge, Difference, Expected, Tally, COUNTED};
+use crate::expected::Expected;
+use crate::judge::judge;
+use crate::same::Difference;
 use crate::show;
 use crate::shrink::shrink;
+use crate::tally::{Tally, COUNTED};
 use crate::trial::Trial;
 use std::panic::{catch_unwind, AssertUnwindSafe};
 use std::time::{Duration, Instant};

@@ -1,5 +1,5 @@
 //! A trial and a difference in words.
-use crate::judge::Difference;
+use crate::same::Difference;
 use crate::trial::Trial;
 use oracle::run::Entry;
 use oracle::LIMITS;

@@ -1,6 +1,7 @@
 //! A plain reader in the proved one's place, for the tests: the model with a canvas and colours.
 use crate::boundary::{Boundary, Memory, Opening, Registers};
-use crate::model::{self, Bounds, Effect, Model, Settings};
+use crate::model::{Bounds, Effect, Model};
+use crate::values::{self, Settings};
 use oracle::decoder::{peek_hls, peek_percent};
 
 pub struct StandIn {
@@ -132,7 +133,7 @@ impl Boundary for StandIn {
     fn read(&mut self, opening: &Opening, bytes: &[u8]) -> (u64, [u64; 9]) {
         let bounds = self.start(opening);
         let end = bytes.len() as u64;
-        let (settings, place) = match model::part(bytes) {
+        let (settings, place) = match values::part(bytes) {
             Ok(found) => found,
             Err(number) => return (number, [0, 0, 0, 0, 0, 0, 0, end, 0]),
         };

@@ -1,9 +1,11 @@
 //! That the comparison can fail, at each thing it compares, and that shrinking finds the smallest stream.
 use crate::boundary::{Boundary, Memory, Opening, GUARD};
-use crate::judge::{judge, Expected, Tally, COUNTED};
+use crate::expected::Expected;
+use crate::judge::judge;
 use crate::run::{difference, smallest};
 use crate::shrink::shrink;
 use crate::stand_in::StandIn;
+use crate::tally::{Tally, COUNTED};
 use crate::trial::Trial;
 use oracle::run::Entry;
 

@@ -1,6 +1,7 @@
 //! One comparison's whole setting, as a function of a seed and a number.
-use crate::model::{self, Bounds, Model};
+use crate::model::{Bounds, Model};
 use crate::streams;
+use crate::values;
 use oracle::random::Random;
 use oracle::run::Entry;
 use oracle::LIMITS;
@@ -84,7 +85,7 @@ pub fn area(entry: Entry, stream: &[u8]) -> [u64; 2] {
     let (mut model, payload) = match entry {
         Entry::Dcs => (Model::dcs(bounds), stream),
         Entry::Payload(_) => (Model::payload(bounds, [None; 2], nothing), stream),
-        Entry::OneShot => match model::part(stream) {
+        Entry::OneShot => match values::part(stream) {
             Ok((settings, place)) => (Model::payload(bounds, settings, nothing), &stream[place..]),
             Err(_) => return [0, 0],
         },
