@@ -9,16 +9,16 @@
 uint64_t sixel_read(size_t w, size_t h, size_t r, size_t m, size_t stride, uint8_t *canvas, size_t canvas_len,
                     const uint8_t *bytes, size_t bytes_len, uint32_t palette[256], uint64_t report[9]);
 uint64_t sixel_payload_open(size_t w, size_t h, size_t r, size_t m, size_t stride, uint32_t p1, uint32_t p2, uint8_t *canvas,
-                            size_t canvas_len, const uint32_t palette[256], uint64_t session[40], uint32_t registers[256]);
-uint64_t sixel_payload_feed(uint64_t session[40], uint32_t registers[256], uint8_t *canvas, size_t canvas_len,
+                            size_t canvas_len, const uint32_t palette[256], uint64_t session[48], uint32_t registers[256]);
+uint64_t sixel_payload_feed(uint64_t session[48], uint32_t registers[256], uint8_t *canvas, size_t canvas_len,
                             const uint8_t *bytes, size_t bytes_len, size_t allowance, uint64_t report[4]);
-uint64_t sixel_payload_finish(uint64_t session[40], const uint32_t registers[256], uint8_t *canvas, size_t canvas_len,
+uint64_t sixel_payload_finish(uint64_t session[48], const uint32_t registers[256], uint8_t *canvas, size_t canvas_len,
                               uint32_t palette[256], uint64_t report[7]);
 uint64_t sixel_dcs_open(size_t w, size_t h, size_t r, size_t m, size_t stride, size_t length, const uint32_t palette[256],
-                        uint64_t session[40], uint32_t registers[256]);
-uint64_t sixel_dcs_feed(uint64_t session[40], uint32_t registers[256], uint8_t *canvas, size_t canvas_len,
+                        uint64_t session[48], uint32_t registers[256]);
+uint64_t sixel_dcs_feed(uint64_t session[48], uint32_t registers[256], uint8_t *canvas, size_t canvas_len,
                         const uint8_t *bytes, size_t bytes_len, size_t allowance, uint64_t report[4]);
-uint64_t sixel_dcs_finish(uint64_t session[40], const uint32_t registers[256], uint8_t *canvas, size_t canvas_len,
+uint64_t sixel_dcs_finish(uint64_t session[48], const uint32_t registers[256], uint8_t *canvas, size_t canvas_len,
                           uint32_t palette[256], uint64_t report[7]);
 
 /* As in the program that asks: bytes before and after the canvas, and what a call has to write over. */
@@ -28,7 +28,7 @@ static struct {
     uint64_t framed, w, h, r, m, stride, p1, p2, size;
 } opening;
 static uint32_t palette[256], registers[256];
-static uint64_t session[40], answer[10];
+static uint64_t session[48 + 16], answer[10]; /* nobody is lent the last 16 */
 static uint8_t *buffer, *bytes;
 static size_t room_of_bytes;
 

@@ -2,14 +2,15 @@
 
 pub type Registers = [u32; 256];
 
-/// What a session lies in.
-pub type Numbers = [u64; 40];
+/// A session's numbers, and some behind them that nobody was lent.
+pub const SESSION: usize = 48;
+pub type Numbers = [u64; SESSION + 16];
 
 /// Bytes before and after the canvas that nobody was lent.
 pub const GUARD: usize = 64;
 
 /// What every memory that a call has to write holds before it.
-const UNWRITTEN: u64 = 0xa5a5_a5a5_a5a5_a5a5;
+pub const UNWRITTEN: u64 = 0xa5a5_a5a5_a5a5_a5a5;
 
 /// How a session is opened, or a whole input read. The canvas is the buffer without a guard on either side.
 #[derive(Clone)]
@@ -33,11 +34,15 @@ pub struct Memory {
 }
 
 impl Memory {
+    pub fn empty() -> Self {
+        Self { buffer: vec![0; 2 * GUARD], palette: [0; 256], session: [UNWRITTEN; SESSION + 16], registers: [0; 256] }
+    }
+
     pub fn of(opening: &Opening) -> Self {
         Self {
             buffer: opening.buffer.clone(),
             palette: opening.palette,
-            session: [UNWRITTEN; 40],
+            session: [UNWRITTEN; SESSION + 16],
             registers: [UNWRITTEN as u32; 256],
         }
     }
@@ -150,8 +155,7 @@ mod linked {
 
     impl Linked {
         pub fn new() -> Self {
-            let buffer = vec![0; 2 * GUARD];
-            Self { framed: false, memory: Memory { buffer, palette: [0; 256], session: [0; 40], registers: [0; 256] } }
+            Self { framed: false, memory: Memory::empty() }
         }
 
         /// The canvas's pointer and length, and the rest of the memory beside it.

@@ -1,5 +1,5 @@
 //! One trial put to a reader, and every answer compared with the oracle's and with the count.
-use crate::boundary::{Boundary, GUARD};
+use crate::boundary::{Boundary, GUARD, SESSION, UNWRITTEN};
 use crate::expected::{settings, Expected};
 use crate::model::{Bounds, Model, ALL_READ, STOPPED};
 use crate::same::{differs, pixels, same, same_call, Difference, Same};
@@ -200,8 +200,10 @@ fn memory(trial: &Trial, expected: &Expected, reader: &mut dyn Boundary) -> Same
             ));
         }
     }
+    let (session, behind) = memory.session.split_at(SESSION);
+    same("what lies behind the session", behind.iter().all(|&number| number == UNWRITTEN), true)?;
     if trial.entry != Entry::OneShot && !trial.abort {
-        same("session after its finish", memory.session, [0; 40])?;
+        same("session after its finish", session, &[0; SESSION])?;
     }
     pixels(answer.size, &answer.pixels, opening.stride, &memory.buffer, &opening.buffer)
 }

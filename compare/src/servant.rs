@@ -23,8 +23,7 @@ impl Servant {
             .unwrap_or_else(|error| panic!("{command}: {error}"));
         let to = BufWriter::with_capacity(1 << 16, child.stdin.take().expect("its input is a pipe"));
         let from = BufReader::with_capacity(1 << 16, child.stdout.take().expect("its output is a pipe"));
-        let memory = Memory { buffer: Vec::new(), palette: [0; 256], session: [0; 40], registers: [0; 256] };
-        Self { child, to, from, size: 0, memory }
+        Self { child, to, from, size: 0, memory: Memory::empty() }
     }
 
     fn give(&mut self, bytes: &[u8]) {

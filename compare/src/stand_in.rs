@@ -1,5 +1,5 @@
 //! A plain reader in the proved one's place, for the tests: the model with a canvas and colours.
-use crate::boundary::{Boundary, Memory, Opening, Registers};
+use crate::boundary::{Boundary, Memory, Opening, Registers, SESSION};
 use crate::model::{Bounds, Effect, Model};
 use crate::values::{self, Settings};
 use oracle::decoder::{peek_hls, peek_percent};
@@ -21,14 +21,13 @@ struct Canvas {
 
 impl StandIn {
     pub fn new() -> Self {
-        let memory = Memory { buffer: vec![0; 128], palette: [0; 256], session: [0; 40], registers: [0; 256] };
-        Self { memory, model: None, canvas: Canvas::default() }
+        Self { memory: Memory::empty(), model: None, canvas: Canvas::default() }
     }
 
     fn start(&mut self, opening: &Opening) -> Bounds {
         self.memory = Memory::of(opening);
         self.memory.registers = opening.palette;
-        self.memory.session = [1; 40];
+        self.memory.session[..SESSION].fill(1);
         self.canvas = Canvas { stride: opening.stride, ..Canvas::default() };
         let rows = self.memory.canvas().len() / (4 * opening.stride);
         Bounds { limits: opening.limits.map(|limit| limit as u64), stride: opening.stride as u64, rows: rows as u64 }
@@ -123,7 +122,7 @@ impl Boundary for StandIn {
         let lent = memory.canvas();
         let effects = &mut |effect| canvas.take(effect, lent, &mut registers);
         let finished = model.as_mut().expect("a session is open").finish(effects);
-        memory.session = [0; 40];
+        memory.session[..SESSION].fill(0);
         if finished.is_ok() {
             memory.palette = registers;
         }

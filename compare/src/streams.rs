@@ -260,7 +260,7 @@ fn raster(random: &mut Random, out: &mut Vec<u8>) {
 pub fn heavy(random: &mut Random) -> Vec<u8> {
     let near = random.below(5);
     match random.below(4) {
-        0 => (0..16 + random.below(9)).flat_map(|pass| format!("#{pass}!65535~$").into_bytes()).collect(),
+        0 => (0..20 + random.below(30)).flat_map(|pass| format!("#{pass}!65535~$").into_bytes()).collect(),
         1 => format!("{}!{}?-@", "!65535?".repeat(15), 16_973 + near).into_bytes(),
         2 => format!("{}~", "-".repeat(166_663 + near as usize)).into_bytes(),
         _ => random

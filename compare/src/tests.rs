@@ -1,5 +1,5 @@
 //! That the comparison can fail, at each thing it compares, and that shrinking finds the smallest stream.
-use crate::boundary::{Boundary, Memory, Opening, GUARD};
+use crate::boundary::{Boundary, Memory, Opening, GUARD, SESSION};
 use crate::expected::Expected;
 use crate::judge::judge;
 use crate::run::{difference, smallest};
@@ -24,6 +24,7 @@ enum Damage {
     ReadNumber,
     Palette,
     Session,
+    Behind,
     Pixel,
     Outside,
     Before,
@@ -45,8 +46,7 @@ struct Damaged {
 
 impl Damaged {
     fn new(damage: Damage) -> Self {
-        let memory = Memory { buffer: Vec::new(), palette: [0; 256], session: [0; 40], registers: [0; 256] };
-        Self { inner: StandIn::new(), damage, memory, ended: false }
+        Self { inner: StandIn::new(), damage, memory: Memory::empty(), ended: false }
     }
 
     fn is(&self, damage: Damage) -> bool {
@@ -99,7 +99,8 @@ impl Boundary for Damaged {
         let end = self.memory.buffer.len();
         match self.damage {
             Damage::Palette => self.memory.palette[255] ^= 1,
-            Damage::Session => self.memory.session[39] ^= 1,
+            Damage::Session => self.memory.session[SESSION - 1] ^= 1,
+            Damage::Behind => self.memory.session[SESSION] ^= 1,
             Damage::Between if !self.ended => self.memory.buffer[GUARD] ^= 1,
             Damage::Pixel => self.memory.buffer[GUARD] ^= 1,
             Damage::Outside => self.memory.buffer[end - GUARD - 1] ^= 1,
@@ -152,6 +153,7 @@ fn every_damage_is_noticed() {
         ReadNumber,
         Palette,
         Session,
+        Behind,
         Pixel,
         Outside,
         Before,

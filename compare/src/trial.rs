@@ -43,7 +43,7 @@ impl Trial {
             entry,
             before: if random.below(4) == 0 { streams::colours(random) } else { Vec::new() },
             abort: !whole && random.below(12) == 0,
-            pieces: pieces(random, &stream),
+            pieces: pieces(random, &stream, if heavy { 3 } else { 12 }),
             allowances: (0..=random.below(4)).map(|_| allowance(random)).collect(),
             room: [random.pick(&[0, 0, 1, 3]), random.pick(&[0, 0, 1, 2]), random.pick(&[0, 0, 1, 3])],
             fill: random.any(),
@@ -94,14 +94,15 @@ pub fn area(entry: Entry, stream: &[u8]) -> [u64; 2] {
     model.area
 }
 
-/// Up to twelve pieces, some of them empty; now and then none at all, or one for each byte.
-fn pieces(random: &mut Random, stream: &[u8]) -> Vec<Vec<u8>> {
+/// Up to `most` pieces, some of them empty; now and then none at all, or one for each byte.
+fn pieces(random: &mut Random, stream: &[u8], most: u64) -> Vec<Vec<u8>> {
     match random.below(64) {
         0 => return Vec::new(),
         1 if stream.len() <= 100 => return stream.iter().map(|&byte| vec![byte]).collect(),
         _ => {}
     }
-    let mut cuts: Vec<usize> = (0..random.below(12)).map(|_| random.below(stream.len() as u64 + 1) as usize).collect();
+    let mut cuts: Vec<usize> =
+        (0..random.below(most)).map(|_| random.below(stream.len() as u64 + 1) as usize).collect();
     if random.below(3) == 0 {
         cuts.truncate(1);
     }
