@@ -8,6 +8,9 @@
 
 uint64_t sixel_read(size_t w, size_t h, size_t r, size_t m, size_t stride, uint8_t *canvas, size_t canvas_len,
                     const uint8_t *bytes, size_t bytes_len, uint32_t palette[256], uint64_t report[9]);
+uint64_t sixel_copy(const uint8_t *canvas, size_t canvas_len, size_t stride, size_t width, size_t height, uint8_t *out,
+                    size_t out_len);
+void sixel_standard_palette(uint32_t out[256]);
 uint64_t sixel_payload_open(size_t w, size_t h, size_t r, size_t m, size_t stride, uint32_t p1, uint32_t p2, uint8_t *canvas,
                             size_t canvas_len, const uint32_t palette[256], uint64_t session[48], uint32_t registers[256]);
 uint64_t sixel_payload_feed(uint64_t session[48], uint32_t registers[256], uint8_t *canvas, size_t canvas_len,
@@ -93,6 +96,24 @@ static uint64_t read_all(void) {
                       bytes, size, palette, answer + 1);
 }
 
+/* The buffer that was copied to goes out behind the number. */
+static void copy(void) {
+    uint64_t width, height;
+    take(&width, sizeof width);
+    take(&height, sizeof height);
+    size_t size = take_bytes();
+    answer[0] = sixel_copy(buffer + GUARD, opening.size - 2 * GUARD, opening.stride, width, height, bytes, size);
+    give(answer, sizeof *answer);
+    give(bytes, size);
+}
+
+static void standard_palette(void) {
+    uint32_t out[256];
+    memset(out, UNWRITTEN, sizeof out);
+    sixel_standard_palette(out);
+    give(out, sizeof out);
+}
+
 static void give_memory(void) {
     give(palette, sizeof palette);
     give(session, sizeof session);
@@ -110,6 +131,8 @@ int main(void) {
         case 'f': answer[0] = feed(); numbers = 5; break;
         case 'x': answer[0] = finish(); numbers = 8; break;
         case 'r': answer[0] = read_all(); numbers = 10; break;
+        case 'c': copy(); numbers = 0; break;
+        case 'p': standard_palette(); numbers = 0; break;
         case 'm': give_memory(); numbers = 0; break;
         default: return 0;
         }

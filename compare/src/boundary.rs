@@ -60,6 +60,9 @@ pub trait Boundary {
     fn feed(&mut self, bytes: &[u8], allowance: usize, short: usize) -> (u64, [u64; 4]);
     fn finish(&mut self) -> (u64, [u64; 7]);
     fn read(&mut self, opening: &Opening, bytes: &[u8]) -> (u64, [u64; 9]);
+    /// Copies a picture from the canvas to a buffer that holds `out`, and hands that buffer back.
+    fn copy(&mut self, size: [usize; 2], out: Vec<u8>) -> (u64, Vec<u8>);
+    fn standard_palette(&mut self) -> Registers;
     fn memory(&mut self) -> &Memory;
 }
 
@@ -84,6 +87,16 @@ mod linked {
             palette: *mut Registers,
             report: *mut [u64; 9],
         ) -> u64;
+        fn sixel_copy(
+            canvas: *const u8,
+            canvas_len: usize,
+            stride: usize,
+            width: usize,
+            height: usize,
+            out: *mut u8,
+            out_len: usize,
+        ) -> u64;
+        fn sixel_standard_palette(out: *mut Registers);
         fn sixel_payload_open(
             width: usize,
             height: usize,
@@ -150,12 +163,13 @@ mod linked {
     /// The reader that this program is linked with.
     pub struct Linked {
         framed: bool,
+        stride: usize,
         memory: Memory,
     }
 
     impl Linked {
         pub fn new() -> Self {
-            Self { framed: false, memory: Memory::empty() }
+            Self { framed: false, stride: 0, memory: Memory::empty() }
         }
 
         /// The canvas's pointer and length, and the rest of the memory beside it.
@@ -171,7 +185,7 @@ mod linked {
     impl Boundary for Linked {
         fn open(&mut self, opening: &Opening) -> u64 {
             self.memory = Memory::of(opening);
-            self.framed = opening.framed;
+            (self.framed, self.stride) = (opening.framed, opening.stride);
             let ([w, h, r, m], stride) = (opening.limits, opening.stride);
             let (canvas, len, own) = self.parts();
             let (session, registers) = (&mut own.session, &mut own.registers);
@@ -205,6 +219,7 @@ mod linked {
 
         fn read(&mut self, opening: &Opening, bytes: &[u8]) -> (u64, [u64; 9]) {
             self.memory = Memory::of(opening);
+            self.stride = opening.stride;
             let mut report = [UNWRITTEN; 9];
             let [w, h, r, m] = opening.limits;
             let (canvas, len, own) = self.parts();
@@ -213,6 +228,19 @@ mod linked {
                 sixel_read(w, h, r, m, opening.stride, canvas, len, start, size, &mut own.palette, &mut report)
             };
             (number, report)
+        }
+
+        fn copy(&mut self, [width, height]: [usize; 2], mut out: Vec<u8>) -> (u64, Vec<u8>) {
+            let stride = self.stride;
+            let (canvas, len, _) = self.parts();
+            let number = unsafe { sixel_copy(canvas, len, stride, width, height, out.as_mut_ptr(), out.len()) };
+            (number, out)
+        }
+
+        fn standard_palette(&mut self) -> Registers {
+            let mut out = [UNWRITTEN as u32; 256];
+            unsafe { sixel_standard_palette(&mut out) };
+            out
         }
 
         fn memory(&mut self) -> &Memory {

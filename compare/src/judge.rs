@@ -24,6 +24,12 @@ pub fn judge(trial: &Trial, expected: &Expected, reader: &mut dyn Boundary) -> R
         session(trial, expected, reader, bounds, &mut calls)?;
     }
     memory(trial, expected, reader)?;
+    if expected.answer.refusal == 0 && !trial.abort {
+        copied(trial, expected, reader)?;
+    }
+    if trial.before.is_empty() && trial.fill % 64 == 0 {
+        same("standard palette", reader.standard_palette(), expected.before)?;
+    }
     Ok(Tally::new(trial, &expected.answer, &calls))
 }
 
@@ -206,4 +212,19 @@ fn memory(trial: &Trial, expected: &Expected, reader: &mut dyn Boundary) -> Same
         same("session after its finish", session, &[0; SESSION])?;
     }
     pixels(answer.size, &answer.pixels, opening.stride, &memory.buffer, &opening.buffer)
+}
+
+/// The picture's rows without gaps at the front of a buffer, whose later bytes stay; and 14 where it is too short.
+fn copied(trial: &Trial, expected: &Expected, reader: &mut dyn Boundary) -> Same {
+    let answer = &expected.answer;
+    let mut theirs = answer.pixels.clone();
+    let size = theirs.len();
+    theirs.resize(size + trial.room[2], trial.fill as u8);
+    let (number, ours) = reader.copy(answer.size, vec![trial.fill as u8; theirs.len()]);
+    same("refusal of the copy", number, 0)?;
+    same("bytes of the copy", ours == theirs, true)?;
+    let short = vec![trial.fill as u8; size - 1];
+    let (number, ours) = reader.copy(answer.size, short.clone());
+    same("refusal of a copy without room", number, 14)?;
+    same("bytes of a copy without room", ours == short, true)
 }

@@ -100,6 +100,22 @@ impl Boundary for Servant {
         (number, report)
     }
 
+    fn copy(&mut self, [width, height]: [usize; 2], mut out: Vec<u8>) -> (u64, Vec<u8>) {
+        self.give(b"c");
+        self.give_number(width as u64);
+        self.give_number(height as u64);
+        self.give_bytes(&out);
+        let [number] = self.take_numbers();
+        self.from.read_exact(&mut out).expect("the servant answers");
+        (number, out)
+    }
+
+    fn standard_palette(&mut self) -> Registers {
+        self.give(b"p");
+        let [] = self.take_numbers();
+        self.take_registers()
+    }
+
     fn memory(&mut self) -> &Memory {
         self.give(b"m");
         let [] = self.take_numbers();

@@ -3,6 +3,7 @@ use crate::boundary::{Boundary, Memory, Opening, Registers, SESSION};
 use crate::model::{Bounds, Effect, Model};
 use crate::values::{self, Settings};
 use oracle::decoder::{peek_hls, peek_percent};
+use oracle::SixelDecoder;
 
 pub struct StandIn {
     memory: Memory,
@@ -148,6 +149,25 @@ impl Boundary for StandIn {
         }
         let (number, [w, h, right, bottom, kind, ratio, transparent]) = numbered(finished);
         (number, [w, h, right, bottom, kind, ratio, transparent, place as u64, end - place as u64])
+    }
+
+    fn copy(&mut self, [width, height]: [usize; 2], mut out: Vec<u8>) -> (u64, Vec<u8>) {
+        if out.len() < 4 * width * height {
+            return (14, out);
+        }
+        let stride = self.canvas.stride;
+        let canvas = self.memory.canvas();
+        for (row, to) in out.chunks_mut(4 * width).take(height).enumerate() {
+            to.copy_from_slice(&canvas[4 * row * stride..][..4 * width]);
+        }
+        (0, out)
+    }
+
+    fn standard_palette(&mut self) -> Registers {
+        let registers = SixelDecoder::new().registers();
+        std::array::from_fn(|at| {
+            u32::from_be_bytes([0, registers[4 * at], registers[4 * at + 1], registers[4 * at + 2]])
+        })
     }
 
     fn memory(&mut self) -> &Memory {

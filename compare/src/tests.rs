@@ -1,5 +1,5 @@
 //! That the comparison can fail, at each thing it compares, and that shrinking finds the smallest stream.
-use crate::boundary::{Boundary, Memory, Opening, GUARD, SESSION};
+use crate::boundary::{Boundary, Memory, Opening, Registers, GUARD, SESSION};
 use crate::expected::Expected;
 use crate::judge::judge;
 use crate::run::{difference, smallest};
@@ -23,6 +23,10 @@ enum Damage {
     Read(usize),
     ReadNumber,
     Palette,
+    Copy,
+    CopyNumber,
+    ShortCopy,
+    Standard,
     Session,
     Behind,
     Pixel,
@@ -94,6 +98,23 @@ impl Boundary for Damaged {
         (if self.is(Damage::ReadNumber) && number != 0 { number + 1 } else { number }, report)
     }
 
+    fn copy(&mut self, size: [usize; 2], out: Vec<u8>) -> (u64, Vec<u8>) {
+        let (number, mut out) = self.inner.copy(size, out);
+        match (self.damage, number) {
+            (Damage::CopyNumber, _) => return (0, out),
+            (Damage::Copy, 0) => *out.last_mut().expect("a picture has a pixel") ^= 1,
+            (Damage::ShortCopy, 14) => out[0] ^= 1,
+            _ => {}
+        }
+        (number, out)
+    }
+
+    fn standard_palette(&mut self) -> Registers {
+        let mut out = self.inner.standard_palette();
+        out[7] ^= u32::from(self.is(Damage::Standard));
+        out
+    }
+
     fn memory(&mut self) -> &Memory {
         self.memory = self.inner.memory().clone();
         let end = self.memory.buffer.len();
@@ -152,6 +173,10 @@ fn every_damage_is_noticed() {
         Read(8),
         ReadNumber,
         Palette,
+        Copy,
+        CopyNumber,
+        ShortCopy,
+        Standard,
         Session,
         Behind,
         Pixel,
