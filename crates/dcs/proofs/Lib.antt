@@ -11,3 +11,4 @@ pub mod Callers
 pub mod History
 pub mod SoFar
 pub mod Progress
+pub mod MemoryLaws

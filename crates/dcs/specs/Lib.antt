@@ -1,3 +1,4 @@
 pub mod Lead
 pub mod Session
 pub mod History
+pub mod Memory

@@ -1,6 +1,7 @@
 // A DCS session: introducer, header, payload and end of one sequence, over a payload session. The Rust's
 // SixelDcsStreamDecoder, by value.
 pub mod lead;
+pub mod memory;
 
 ghost use mathlib.Core.Path.{_≡_};
 ghost use Prim.Native.Nat.{_≤_};

@@ -3,3 +3,4 @@ pub mod Values
 pub mod Examples
 pub mod Step
 pub mod Read
+pub mod Memory

@@ -1,4 +1,6 @@
 // The kinds of bytes, and the numbers that stand in commands (document 01, "Reading the payload").
+pub mod memory;
+
 ghost use mathlib.Core.Path.{_≡_};
 ghost use Prim.Native.Nat.{_-_};
 ghost use Rattle.numbers.specs.Bytes.{skipped, digit, sixel, ends};

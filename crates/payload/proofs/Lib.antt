@@ -7,3 +7,5 @@ pub mod Feedings
 pub mod Finishings
 pub mod Callers
 pub mod History
+pub mod CodeLaws
+pub mod MemoryLaws

@@ -2,7 +2,9 @@
 // canvas. A palette has an owner, who hands a copy to each session and gets one back at finish: the session's where the finish
 // succeeds, else the owner's own.
 pub mod begin;
+pub mod codes;
 pub mod judge;
+pub mod memory;
 
 ghost use mathlib.Core.Path.{_≡_};
 ghost use lib.ListN.{length};

@@ -1,0 +1,102 @@
+-- A session in numbers and registers: what the functions come to, and that a session read back is the same.
+use Prim.Native.Nat.{ℕ, _+_, _%_, _<_}
+use native.Mathlib.Omega.{arith}
+use mathlib.Core.List.{List, [], _∷_, _++_}
+use mathlib.Core.Path.{_≡_, refl, sym, ap, ap₂, _∙_}
+use borrow.Author.Tests.{lt-ltb, le-ltb, ne-eqb}
+use lib.ListN.{getD, set}
+use Rattle.numbers.specs.declared.Parameters.{Parameters}
+use Rattle.numbers.specs.Memory as parameters
+use Rattle.numbers.proofs.Laws.{cond-yes, cond-no}
+use Rattle.numbers.proofs.MemoryLaws.{from-numbers}
+use Rattle.payload.specs.declared.Session as payloadSession
+use Rattle.payload.specs.Memory as payload
+use Rattle.payload.proofs.MemoryLaws.{session-back}
+use Rattle.dcs.specs.declared.Ending.{Ending}
+use Rattle.dcs.specs.declared.Ending.the-variants as endings
+use Rattle.dcs.specs.declared.Phase.{Phase}
+use Rattle.dcs.specs.declared.Phase.the-variants as phases
+use Rattle.dcs.specs.declared.Session.{Session}
+use Rattle.dcs.specs.declared.lead.Place.{Place}
+use Rattle.dcs.specs.declared.lead.Place.the-variants as places
+use Rattle.dcs.specs.Memory.{placeNumber, endingNumber, phaseNumber, phaseFrom, numbersOf, tableOf, sessionFrom, EndingRanged, PhaseRanged, Ranged}
+
+-- ---- what the functions come to
+
+pub place-as : {r : ℕ} {x other : Place} → x ≡ other → r ≡ placeNumber other → r ≡ placeNumber x
+place-as e k = k ∙ ap placeNumber (sym e)
+
+pub ending-as : {r : ℕ} {x other : Ending} → x ≡ other → r ≡ endingNumber other → r ≡ endingNumber x
+ending-as e k = k ∙ ap endingNumber (sym e)
+
+pub phase-as : {r : ℕ} {x other : Phase} → x ≡ other → r ≡ phaseNumber other → r ≡ phaseNumber x
+phase-as e k = k ∙ ap phaseNumber (sym e)
+
+pub ruleset codes-as = (place-as, ending-as, phase-as)
+
+pub numbers-told : (s : Session) {a vs : List ℕ} {k : ℕ} → vs ≡ parameters.numbersOf (s .header) → a ≡ payload.numbersOf (s .payload) → k ≡ phaseNumber (s .phase)
+    → payload.nineWritten (set a 34 k) 35 vs ≡ numbersOf s
+unfolding numbersOf payload.nineWritten payload.numbersOf payload.ownNumbers payload.groundNumbers payload.frameNumbers payload.penNumbers payload.sheetNumbers payload.rasterNumbers payload.commandNumbers parameters.numbersOf
+numbers-told s ev ea ek = rw (ev, ea, ek) refl
+
+pub session-of : (ns table : List ℕ) {s : payloadSession.Session} {h : Parameters} {t : Phase}
+    → h ≡ parameters.parametersFrom (payload.nineFrom ns 35) → t ≡ phaseFrom (getD ns 34 0) → s ≡ payload.sessionFrom ns table
+    → _≡_ {A = Session} (record { payload = s; header = h; phase = t }) (sessionFrom ns table)
+unfolding sessionFrom
+session-of ns table eh et es = rw (eh, et, es) refl
+
+-- ---- there and back
+
+cancelled-back : (b : ℕ) → b < 256 → phaseFrom (b + 256) ≡ phases.Over (endings.Cancelled b)
+unfolding phaseFrom
+cancelled-back b h =
+    let back : (b + 256) % 256 ≡ b = omega arith in
+    cond-no _ _ (ne-eqb (b + 256) 0 (λ e. omega arith))
+    ∙ cond-no _ _ (ne-eqb (b + 256) 1 (λ e. omega arith))
+    ∙ cond-no _ _ (ne-eqb (b + 256) 2 (λ e. omega arith))
+    ∙ cond-no _ _ (ne-eqb (b + 256) 3 (λ e. omega arith))
+    ∙ cond-no _ _ (ne-eqb (b + 256) 4 (λ e. omega arith))
+    ∙ cond-no _ _ (le-ltb (b + 256) 256 (omega arith))
+    ∙ cond-yes _ _ (lt-ltb (b + 256) 512 (omega arith))
+    ∙ ap (λ (n : ℕ). phases.Over (endings.Cancelled n)) back
+
+interrupted-back : (b : ℕ) → b < 256 → phaseFrom (b + 512) ≡ phases.Over (endings.Interrupted b)
+unfolding phaseFrom
+interrupted-back b h =
+    let back : (b + 512) % 256 ≡ b = omega arith in
+    cond-no _ _ (ne-eqb (b + 512) 0 (λ e. omega arith))
+    ∙ cond-no _ _ (ne-eqb (b + 512) 1 (λ e. omega arith))
+    ∙ cond-no _ _ (ne-eqb (b + 512) 2 (λ e. omega arith))
+    ∙ cond-no _ _ (ne-eqb (b + 512) 3 (λ e. omega arith))
+    ∙ cond-no _ _ (ne-eqb (b + 512) 4 (λ e. omega arith))
+    ∙ cond-no _ _ (le-ltb (b + 512) 256 (omega arith))
+    ∙ cond-no _ _ (le-ltb (b + 512) 512 (omega arith))
+    ∙ ap (λ (n : ℕ). phases.Over (endings.Interrupted n)) back
+
+before-back : (t : Place) → phaseFrom (placeNumber t) ≡ phases.Before t
+unfolding phaseFrom placeNumber
+before-back places.Start = refl
+before-back places.Introduced = refl
+before-back places.Header = refl
+
+complete-back : phaseFrom 5 ≡ phases.Over endings.Complete
+unfolding phaseFrom
+complete-back = refl
+
+over-back : (e : Ending) → EndingRanged e → phaseFrom (endingNumber e) ≡ phases.Over e
+unfolding endingNumber
+over-back endings.Complete h = complete-back
+over-back (endings.Cancelled b) h = cancelled-back b h
+over-back (endings.Interrupted b) h = interrupted-back b h
+
+phase-back : (t : Phase) → PhaseRanged t → phaseFrom (phaseNumber t) ≡ t
+unfolding phaseNumber phaseFrom
+phase-back (phases.Before t) h = before-back t
+phase-back phases.Within h = refl
+phase-back phases.Escaped h = refl
+phase-back (phases.Over e) h = over-back e h
+
+-- the law: a session in memory is the session
+pub from-memory : (s : Session) → Ranged s → sessionFrom (numbersOf s) (tableOf s) ≡ s
+unfolding sessionFrom numbersOf payload.nineFrom payload.ownNumbers payload.groundNumbers payload.frameNumbers payload.penNumbers payload.sheetNumbers payload.rasterNumbers payload.commandNumbers parameters.numbersOf
+from-memory s h = rw (session-back (s .payload) _ (h .payload), from-numbers (s .header) (h .header), phase-back (s .phase) (h .phase)) refl

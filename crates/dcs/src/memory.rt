@@ -1,0 +1,121 @@
+// A session as 48 numbers and 256 registers, for a caller that keeps it in its own memory: the payload session's 34 numbers, the phase,
+// and the nine of the header. Any numbers are a session, and 48 zeros are a failed one.
+ghost use mathlib.Core.Path.{_≡_};
+ghost use Rattle.dcs.specs.Memory.{placeNumber, endingNumber, phaseNumber, phaseFrom, numbersOf, sessionFrom, tableOf};
+use crate::Ending;
+use crate::Phase;
+use crate::Session;
+use crate::lead::Place;
+use numbers::memory::numbers_of as header_numbers;
+use numbers::memory::parameters_from;
+use payload::memory::numbers_of as payload_numbers;
+use payload::memory::session_from as payload_from;
+use payload::memory::table_of as payload_table;
+
+fn place_number(place: Place) -> u64
+    ensures { λ r. ⌜ r ≡ placeNumber place ⌝ }
+{
+    match place {
+        Place::Start => 0,
+        Place::Introduced => 1,
+        Place::Header => 2,
+    }
+}
+
+fn ending_number(ending: Ending) -> u64
+    ensures { λ r. ⌜ r ≡ endingNumber ending ⌝ }
+{
+    match ending {
+        Ending::Complete => 5,
+        Ending::Cancelled(byte) => byte as u64 + 256,
+        Ending::Interrupted(byte) => byte as u64 + 512,
+    }
+}
+
+fn phase_number(phase: Phase) -> u64
+    ensures { λ r. ⌜ r ≡ phaseNumber phase ⌝ }
+{
+    match phase {
+        Phase::Before(place) => place_number(place),
+        Phase::Within => 3,
+        Phase::Escaped => 4,
+        Phase::Over(ending) => ending_number(ending),
+    }
+}
+
+fn phase_from(number: u64) -> Phase
+    ensures { λ r. ⌜ r ≡ phaseFrom number ⌝ }
+{
+    if number == 0 {
+        return Phase::Before(Place::Start);
+    }
+    if number == 1 {
+        return Phase::Before(Place::Introduced);
+    }
+    if number == 2 {
+        return Phase::Before(Place::Header);
+    }
+    if number == 3 {
+        return Phase::Within;
+    }
+    if number == 4 {
+        return Phase::Escaped;
+    }
+    if number < 256 {
+        return Phase::Over(Ending::Complete);
+    }
+    if number < 512 {
+        return Phase::Over(Ending::Cancelled((number % 256) as u8));
+    }
+    Phase::Over(Ending::Interrupted((number % 256) as u8))
+}
+
+pub fn numbers_of(session: Session) -> [u64; 48]
+    ensures { λ r. ⌜ r ≡ numbersOf session ⌝ }
+{
+    let phase = session.phase;
+    let values = header_numbers(session.header);
+    let mut numbers = payload_numbers(session.payload);
+    numbers[34] = phase_number(phase);
+    numbers[35] = values[0];
+    numbers[36] = values[1];
+    numbers[37] = values[2];
+    numbers[38] = values[3];
+    numbers[39] = values[4];
+    numbers[40] = values[5];
+    numbers[41] = values[6];
+    numbers[42] = values[7];
+    numbers[43] = values[8];
+    numbers
+}
+
+pub fn session_from(numbers: &[u64; 48], registers: &[u32; 256]) -> Session
+    ensures { λ r. ⌜ r ≡ sessionFrom (now (numbers .entry)) (now (registers .entry)) ⌝ }
+{
+    let values = [
+        numbers[35],
+        numbers[36],
+        numbers[37],
+        numbers[38],
+        numbers[39],
+        numbers[40],
+        numbers[41],
+        numbers[42],
+        numbers[43],
+    ];
+    let header = parameters_from(values);
+    let phase = phase_from(numbers[34]);
+    let inner = payload_from(numbers, registers);
+    Session {
+        payload: inner,
+        header,
+        phase,
+    }
+}
+
+// The session's registers.
+pub fn table_of(session: Session) -> [u32; 256]
+    ensures { λ r. ⌜ r ≡ tableOf session ⌝ }
+{
+    payload_table(session.payload)
+}

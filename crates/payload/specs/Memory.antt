@@ -1,0 +1,162 @@
+-- A session as 48 numbers and 256 registers, and back. Of the numbers the first 34 are a payload session's; those after them are 0, and a
+-- DCS session has its own there. All that `sessionFrom` is given makes a session.
+use Prim.Native.Nat.{ℕ, _+_, _%_}
+use mathlib.Core.List.{List, [], _∷_, _++_}
+use lib.ListN.{getD, set}
+use Rattle.numbers.specs.Memory as parameters
+use Rattle.colours.specs.Palette.{ofTable}
+use Rattle.frame.specs.declared.Command.{Command}
+use Rattle.frame.specs.declared.Frame.{Frame}
+use Rattle.frame.specs.declared.Ground.{Ground}
+use Rattle.frame.specs.declared.Pen.{Pen}
+use Rattle.frame.specs.declared.Raster.{Raster}
+use Rattle.frame.specs.declared.Sheet.{Sheet}
+use Rattle.payload.specs.declared.Session.{Session}
+use Rattle.payload.specs.declared.Settings.{Settings}
+use Rattle.payload.specs.Codes.{givenNumber, givenFrom, lifeNumber, lifeFrom, kindNumber, kindFrom, colorNumber, colorFrom}
+
+-- ---- a session as numbers
+
+unfoldable pub groundNumbers : Ground → List ℕ
+unfolding colorNumber
+groundNumbers g =
+    g .limits .width
+    ∷ g .limits .height
+    ∷ g .limits .repeats
+    ∷ g .limits .pixels
+    ∷ g .stride
+    ∷ g .rows
+    ∷ colorNumber (g .background)
+    ∷ []
+
+unfoldable pub penNumbers : Pen → List ℕ
+unfolding colorNumber
+penNumbers p = p .column ∷ p .row ∷ p .repeat ∷ p .register ∷ colorNumber (p .color) ∷ []
+
+unfoldable pub sheetNumbers : Sheet → List ℕ
+sheetNumbers a = a .width ∷ a .height ∷ a .right ∷ a .bottom ∷ []
+
+unfoldable pub rasterNumbers : Raster → List ℕ
+rasterNumbers r = r .ratio ∷ r .width ∷ r .height ∷ []
+
+unfoldable pub commandNumbers : Command → List ℕ
+unfolding kindNumber
+commandNumbers c = kindNumber (c .kind) ∷ c .number ∷ parameters.numbersOf (c .parameters)
+
+unfoldable pub frameNumbers : Frame → List ℕ
+unfolding penNumbers sheetNumbers rasterNumbers commandNumbers
+frameNumbers f = penNumbers (f .pen) ++ (sheetNumbers (f .sheet) ++ (rasterNumbers (f .raster) ++ commandNumbers (f .command)))
+
+-- the 34 of a payload session
+unfoldable pub ownNumbers : Session → List ℕ
+unfolding groundNumbers givenNumber lifeNumber frameNumbers
+ownNumbers s =
+    groundNumbers (s .ground)
+    ++ s .length ∷ givenNumber (s .settings .p1) ∷ givenNumber (s .settings .p2) ∷ lifeNumber (s .life) ∷ frameNumbers (s .frame)
+
+-- and 14 zeros
+unfoldable pub numbersOf : Session → List ℕ
+unfolding ownNumbers
+numbersOf s = ownNumbers s ++ 0 ∷ 0 ∷ 0 ∷ 0 ∷ 0 ∷ 0 ∷ 0 ∷ 0 ∷ 0 ∷ 0 ∷ 0 ∷ 0 ∷ 0 ∷ 0 ∷ []
+
+abbrev pub tableOf : Session → List ℕ
+tableOf s = s .palette .colors
+
+-- ---- numbers as a session
+
+unfoldable pub groundFrom : List ℕ → Ground
+unfolding colorFrom
+groundFrom ns =
+    record {
+      limits = record { width = getD ns 0 0; height = getD ns 1 0; repeats = getD ns 2 0; pixels = getD ns 3 0 };
+      stride = getD ns 4 0;
+      rows = getD ns 5 0;
+      background = colorFrom (getD ns 6 0);
+    }
+
+unfoldable pub settingsFrom : List ℕ → Settings
+unfolding givenFrom
+settingsFrom ns = record { p1 = givenFrom (getD ns 8 0); p2 = givenFrom (getD ns 9 0) }
+
+unfoldable pub penFrom : List ℕ → Pen
+unfolding colorFrom
+penFrom ns =
+    record {
+      column = getD ns 11 0;
+      row = getD ns 12 0;
+      repeat = getD ns 13 0;
+      register = getD ns 14 0;
+      color = colorFrom (getD ns 15 0);
+    }
+
+unfoldable pub sheetFrom : List ℕ → Sheet
+sheetFrom ns = record { width = getD ns 16 0; height = getD ns 17 0; right = getD ns 18 0; bottom = getD ns 19 0 }
+
+unfoldable pub rasterFrom : List ℕ → Raster
+rasterFrom ns = record { ratio = getD ns 20 0 % 256; width = getD ns 21 0; height = getD ns 22 0 }
+
+-- nine numbers from a place on
+unfoldable pub nineFrom : List ℕ → ℕ → List ℕ
+nineFrom ns i =
+    getD ns i 0
+    ∷ getD ns (i + 1) 0
+    ∷ getD ns (i + 2) 0
+    ∷ getD ns (i + 3) 0
+    ∷ getD ns (i + 4) 0
+    ∷ getD ns (i + 5) 0
+    ∷ getD ns (i + 6) 0
+    ∷ getD ns (i + 7) 0
+    ∷ getD ns (i + 8) 0
+    ∷ []
+
+unfoldable pub commandFrom : List ℕ → Command
+unfolding kindFrom nineFrom
+commandFrom ns =
+    record { kind = kindFrom (getD ns 23 0); number = getD ns 24 0; parameters = parameters.parametersFrom (nineFrom ns 25) }
+
+unfoldable pub frameFrom : List ℕ → Frame
+unfolding penFrom sheetFrom rasterFrom commandFrom
+frameFrom ns = record { pen = penFrom ns; sheet = sheetFrom ns; raster = rasterFrom ns; command = commandFrom ns }
+
+unfoldable pub sessionFrom : List ℕ → List ℕ → Session
+unfolding groundFrom settingsFrom lifeFrom frameFrom
+sessionFrom ns table =
+    record {
+      ground = groundFrom ns;
+      length = getD ns 7 0;
+      settings = settingsFrom ns;
+      life = lifeFrom (getD ns 10 0);
+      frame = frameFrom ns;
+      palette = ofTable table;
+    }
+
+-- ---- numbers written one by one
+
+unfoldable pub groundWritten : List ℕ → Ground → List ℕ
+unfolding colorNumber
+groundWritten ns g =
+    set (set (set (set (set (set (set ns 0 (g .limits .width)) 1 (g .limits .height)) 2 (g .limits .repeats)) 3 (g .limits .pixels)) 4 (g .stride)) 5 (g .rows)) 6 (colorNumber (g .background))
+
+unfoldable pub settingsWritten : List ℕ → Settings → List ℕ
+unfolding givenNumber
+settingsWritten ns o = set (set ns 8 (givenNumber (o .p1))) 9 (givenNumber (o .p2))
+
+unfoldable pub penWritten : List ℕ → Pen → List ℕ
+unfolding colorNumber
+penWritten ns p =
+    set (set (set (set (set ns 11 (p .column)) 12 (p .row)) 13 (p .repeat)) 14 (p .register)) 15 (colorNumber (p .color))
+
+unfoldable pub sheetWritten : List ℕ → Sheet → List ℕ
+sheetWritten ns a = set (set (set (set ns 16 (a .width)) 17 (a .height)) 18 (a .right)) 19 (a .bottom)
+
+unfoldable pub rasterWritten : List ℕ → Raster → List ℕ
+rasterWritten ns r = set (set (set ns 20 (r .ratio)) 21 (r .width)) 22 (r .height)
+
+-- nine numbers, from a place on
+unfoldable pub nineWritten : List ℕ → ℕ → List ℕ → List ℕ
+nineWritten ns i vs =
+    set (set (set (set (set (set (set (set (set ns i (getD vs 0 0)) (i + 1) (getD vs 1 0)) (i + 2) (getD vs 2 0)) (i + 3) (getD vs 3 0)) (i + 4) (getD vs 4 0)) (i + 5) (getD vs 5 0)) (i + 6) (getD vs 6 0)) (i + 7) (getD vs 7 0)) (i + 8) (getD vs 8 0)
+
+unfoldable pub commandWritten : List ℕ → Command → List ℕ
+unfolding kindNumber nineWritten
+commandWritten ns c = nineWritten (set (set ns 23 (kindNumber (c .kind))) 24 (c .number)) 25 (parameters.numbersOf (c .parameters))
