@@ -1,2 +1,3 @@
 pub mod BenchLaws
 pub mod ReportLaws
+pub mod SessionCalls
