@@ -3,6 +3,7 @@ pub mod boundary;
 pub mod expected;
 pub mod judge;
 pub mod model;
+pub mod recorded;
 pub mod run;
 pub mod same;
 pub mod servant;

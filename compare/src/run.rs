@@ -2,6 +2,7 @@
 use crate::boundary::Boundary;
 use crate::expected::Expected;
 use crate::judge::judge;
+use crate::recorded::Recorded;
 use crate::same::Difference;
 use crate::show;
 use crate::shrink::shrink;
@@ -209,9 +210,11 @@ pub fn difference(trial: &Trial, reader: &mut dyn Boundary) -> Option<Difference
     judged.unwrap_or_else(|_| Err(oracle_failed())).err()
 }
 
-/// The smallest trial that differs, and how.
+/// The smallest trial that differs, how it does, and both answers.
 pub fn smallest(trial: &Trial, reader: &mut dyn Boundary) -> String {
     let found = shrink(trial, &mut |candidate| difference(candidate, reader).is_some());
-    let how = difference(&found, reader).map_or("  not seen again\n".into(), |how| show::difference(&how));
-    format!("smallest:\n{}{how}", show::trial(&found))
+    let mut recorded = Recorded { inner: reader, lines: String::new() };
+    let how = difference(&found, &mut recorded).map_or("  not seen again\n".into(), |how| show::difference(&how));
+    let theirs = catch_unwind(|| show::answer(&Expected::of(&found).answer)).unwrap_or("a panic".into());
+    format!("smallest:\n{}{how}  ours:\n{}  the Rust:\n    {theirs}\n", show::trial(&found), recorded.lines)
 }

@@ -1,7 +1,7 @@
 //! A trial and a difference in words.
 use crate::same::Difference;
 use crate::trial::Trial;
-use oracle::run::Entry;
+use oracle::run::{Answer, Entry};
 use oracle::LIMITS;
 
 pub fn trial(trial: &Trial) -> String {
@@ -27,6 +27,16 @@ pub fn trial(trial: &Trial) -> String {
 
 pub fn difference(difference: &Difference) -> String {
     format!("  {}: ours {}, expected {}\n", difference.what, difference.ours, difference.theirs)
+}
+
+/// As `oracle/run answer` prints it, with checksums for the registers and for a large picture.
+pub fn answer(answer: &Answer) -> String {
+    let line = oracle::text::show(answer, false);
+    if answer.pixels.is_empty() || answer.pixels.len() > 1_024 {
+        return line;
+    }
+    let rows = answer.pixels.chunks(4 * answer.size[0]).map(|row| row.chunks(4).map(hex).collect::<Vec<_>>().join(" "));
+    format!("{line}\n    {}", rows.collect::<Vec<_>>().join("\n    "))
 }
 
 fn hex(bytes: &[u8]) -> String {
