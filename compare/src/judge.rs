@@ -1,0 +1,230 @@
+//! One trial put to a reader, and every answer compared with the oracle's and with the count.
+use crate::boundary::{Boundary, GUARD, SESSION, UNWRITTEN};
+use crate::expected::{settings, Expected};
+use crate::model::{Bounds, Model, ALL_READ, STOPPED};
+use crate::same::{differs, pixels, same, same_call, Difference, Same};
+use crate::tally::{Calls, Tally};
+use crate::trial::{Trial, LEAST};
+use crate::values;
+use oracle::decoder::peek_header;
+use oracle::run::{Entry, Status};
+use oracle::{DcsSettings, PixelAspectRatio, LIMITS};
+
+/// Puts the trial to the reader.
+pub fn judge(trial: &Trial, expected: &Expected, reader: &mut dyn Boundary) -> Result<Tally, Difference> {
+    let bounds = Bounds {
+        limits: LIMITS.map(|limit| limit as u64),
+        stride: expected.opening.stride as u64,
+        rows: ((expected.opening.buffer.len() - 2 * GUARD) / (4 * expected.opening.stride)) as u64,
+    };
+    let mut calls = Calls::default();
+    if trial.entry == Entry::OneShot {
+        whole(trial, expected, reader, bounds)?;
+    } else {
+        session(trial, expected, reader, bounds, &mut calls)?;
+    }
+    memory(trial, expected, reader)?;
+    if expected.answer.refusal == 0 && !trial.abort {
+        copied(trial, expected, reader)?;
+    }
+    if trial.before.is_empty() && trial.fill % 64 == 0 {
+        same("standard palette", reader.standard_palette(), expected.before)?;
+    }
+    Ok(Tally::new(trial, &expected.answer, &calls))
+}
+
+/// Reading all at once.
+fn whole(trial: &Trial, expected: &Expected, reader: &mut dyn Boundary, bounds: Bounds) -> Same {
+    let bytes = trial.stream();
+    let (number, report) = reader.read(&expected.opening, &bytes);
+    same("refusal", number, u64::from(expected.answer.refusal))?;
+    let [finish @ .., place, size] = report;
+    same("payload's length", size, expected.answer.part as u64)?;
+    same("payload's place", place, (bytes.len() - expected.answer.part) as u64)?;
+    let nothing = &mut |_| ();
+    let counted = values::part(&bytes).and_then(|(settings, place)| {
+        let mut model = Model::payload(bounds, settings, nothing);
+        model.feed(&bytes[place..], u64::MAX, nothing)?;
+        model.finish(nothing)
+    });
+    finished(expected, (number, finish), counted)
+}
+
+fn session(trial: &Trial, expected: &Expected, reader: &mut dyn Boundary, bounds: Bounds, calls: &mut Calls) -> Same {
+    same("opening", reader.open(&expected.opening), 0)?;
+    let nothing = &mut |_| ();
+    let mut model = match trial.entry {
+        Entry::Dcs => Model::dcs(bounds),
+        _ => Model::payload(bounds, settings(trial.entry), nothing),
+    };
+    for piece in &trial.pieces {
+        if calls.refused == 0 {
+            feed_piece(trial, expected, reader, &mut model, calls, piece)?;
+        }
+    }
+    counts(trial, calls, &model)?;
+    let answer = &expected.answer;
+    same("status in the end", status(trial.entry, calls.last), answer.status)?;
+    same("bytes consumed in all", calls.by_pieces, answer.consumed as u64)?;
+    if calls.refused != 0 {
+        same("refusal", (calls.refused, false), (u64::from(answer.refusal), answer.at_finish))?;
+        same("feed after a refusal", reader.feed(b"~", LEAST, 0), (9, [0; 4]))?;
+        return same("finish after a refusal", reader.finish(), (9, [0; 7]));
+    }
+    same("refusal in a feed", false, answer.refusal != 0 && !answer.at_finish)?;
+    if trial.abort {
+        return Ok(());
+    }
+    let (number, report) = reader.finish();
+    same("refusal", number, u64::from(answer.refusal))?;
+    finished(expected, (number, report), model.finish(nothing))
+}
+
+/// A piece, and again what a stop left unread of it.
+fn feed_piece(
+    trial: &Trial,
+    expected: &Expected,
+    reader: &mut dyn Boundary,
+    model: &mut Model,
+    calls: &mut Calls,
+    piece: &[u8],
+) -> Same {
+    let mut rest = piece;
+    loop {
+        if trial.poked {
+            poke(reader, rest)?;
+        }
+        let allowance = trial.allowances[calls.made as usize % trial.allowances.len()];
+        calls.made += 1;
+        calls.smallest = Some(calls.smallest.map_or(allowance, |smallest| smallest.min(allowance)));
+        let counted = model.feed(rest, allowance as u64, &mut |_| ());
+        let (number, report) = reader.feed(rest, allowance, 0);
+        let at = calls.made;
+        let (refused, counted) = counted.map_or_else(|number| (number, [0; 4]), |report| (0, report));
+        same_call(at, "refusal", number, refused)?;
+        for (place, name) in ["status", "bytes consumed", "ink", "ending byte"].into_iter().enumerate() {
+            same_call(at, name, report[place], counted[place])?;
+        }
+        if number != 0 {
+            calls.refused = number;
+            return Ok(());
+        }
+        let [how, consumed, ink, _] = report;
+        calls.consumed += consumed;
+        calls.ink += u128::from(ink);
+        if trial.watched {
+            calls.glances += 1;
+            glance(trial, expected, reader, calls.consumed as usize, how)?;
+        }
+        if how != STOPPED {
+            calls.by_pieces = calls.consumed;
+            calls.last = report;
+            return Ok(());
+        }
+        calls.stops += 1;
+        rest = &rest[consumed as usize..];
+    }
+}
+
+/// The canvas after a call: the oracle's picture of the bytes consumed so far, a pending command carried out where the next byte
+/// has ended it.
+fn glance(trial: &Trial, expected: &Expected, reader: &mut dyn Boundary, consumed: usize, how: u64) -> Same {
+    let bytes = &trial.stream()[..consumed];
+    let begun = match trial.entry {
+        Entry::Payload([p1, p2, p3]) => Some((DcsSettings::new(p1, p2, p3), bytes)),
+        _ => peek_header(bytes).map(|(settings, place)| (settings, &bytes[place..])),
+    };
+    let shown = begun.map(|(settings, payload)| expected.owner.follow(settings, payload, how != ALL_READ));
+    let (size, theirs) = shown.map_or(([0, 0], Vec::new()), |shown| (shown.size, shown.pixels));
+    let opening = &expected.opening;
+    pixels(size, &theirs, opening.stride, &reader.memory().buffer, &opening.buffer)
+}
+
+/// Calls with too small an allowance and too short a canvas change nothing.
+fn poke(reader: &mut dyn Boundary, bytes: &[u8]) -> Same {
+    let before = reader.memory().clone();
+    same("allowance below 6W", reader.feed(bytes, LEAST - 1, 0), (13, [0; 4]))?;
+    same("canvas one byte short", reader.feed(bytes, LEAST - 1, 1), (12, [0; 4]))?;
+    let after = reader.memory();
+    let kept = before.buffer == after.buffer && before.session == after.session && before.registers == after.registers;
+    same("all kept by 12 and 13", kept, true)
+}
+
+/// Demand 3's bound on the calls, and the ink.
+fn counts(trial: &Trial, calls: &Calls, model: &Model) -> Same {
+    let spare = calls.smallest.map_or(1, |smallest| (smallest - LEAST) as u128 + 1);
+    let bound = trial.pieces.len() as u128 + model.ink / spare;
+    same("calls within the bound", u128::from(calls.made) <= bound, true)?;
+    if calls.refused == 0 {
+        same("ink in all", calls.ink, model.ink)?;
+    }
+    Ok(())
+}
+
+fn status(entry: Entry, [how, _, _, byte]: [u64; 4]) -> Status {
+    let byte = byte as u8;
+    match (how, entry) {
+        (2, Entry::Dcs) => Status::Complete,
+        (2, _) => Status::Ended(byte),
+        (3, _) => Status::Cancelled(byte),
+        (4, _) => Status::Interrupted(byte),
+        _ => Status::More,
+    }
+}
+
+/// A finish's numbers against the oracle's picture, and against the count.
+fn finished(expected: &Expected, ours: (u64, [u64; 7]), counted: Result<[u64; 7], u64>) -> Same {
+    let (number, report) = ours;
+    if number == 0 {
+        let [width, height, right, bottom, kind, ratio, transparent] = report;
+        let answer = &expected.answer;
+        same("size", [width, height], answer.size.map(|side| side as u64))?;
+        same("extent", [right, bottom], answer.reach.map(|side| side as u64))?;
+        let vertical = match kind {
+            0 => PixelAspectRatio::default().pad(),
+            1 => PixelAspectRatio::from_p1(ratio.min(65_535) as u16).pad(),
+            _ => ratio as u16,
+        };
+        same("ratio", vertical, u16::from(answer.ratio))?;
+        same("background", transparent, u64::from(!answer.opaque))?;
+    }
+    same("finish's numbers", (number, report), counted.map_or_else(|number| (number, [0; 7]), |report| (0, report)))
+}
+
+/// Every byte that was lent.
+fn memory(trial: &Trial, expected: &Expected, reader: &mut dyn Boundary) -> Same {
+    let (answer, opening) = (&expected.answer, &expected.opening);
+    let memory = reader.memory();
+    let theirs = if answer.refusal == 0 && !trial.abort { &expected.after } else { &expected.before };
+    same("oracle's registers", expected.after == *theirs, true)?;
+    for (register, (ours, theirs)) in memory.palette.iter().zip(theirs).enumerate() {
+        if ours != theirs {
+            return Err(differs(
+                &format!("palette, register {register}"),
+                format!("{ours:06X}"),
+                format!("{theirs:06X}"),
+            ));
+        }
+    }
+    let (session, behind) = memory.session.split_at(SESSION);
+    same("what lies behind the session", behind.iter().all(|&number| number == UNWRITTEN), true)?;
+    if trial.entry != Entry::OneShot && !trial.abort {
+        same("session after its finish", session, &[0; SESSION])?;
+    }
+    pixels(answer.size, &answer.pixels, opening.stride, &memory.buffer, &opening.buffer)
+}
+
+/// The picture's rows without gaps at the front of a buffer, whose later bytes stay; and 14 where it is too short.
+fn copied(trial: &Trial, expected: &Expected, reader: &mut dyn Boundary) -> Same {
+    let answer = &expected.answer;
+    let mut theirs = answer.pixels.clone();
+    let size = theirs.len();
+    theirs.resize(size + trial.room[2], trial.fill as u8);
+    let (number, ours) = reader.copy(answer.size, vec![trial.fill as u8; theirs.len()]);
+    same("refusal of the copy", number, 0)?;
+    same("bytes of the copy", ours == theirs, true)?;
+    let short = vec![trial.fill as u8; size - 1];
+    let (number, ours) = reader.copy(answer.size, short.clone());
+    same("refusal of a copy without room", number, 14)?;
+    same("bytes of a copy without room", ours == short, true)
+}

@@ -1,0 +1,289 @@
+//! That the comparison can fail, at each thing it compares, and that shrinking finds the smallest stream.
+use crate::boundary::{Boundary, Memory, Opening, Registers, GUARD, SESSION};
+use crate::expected::Expected;
+use crate::judge::judge;
+use crate::run::{difference, smallest};
+use crate::shrink::shrink;
+use crate::stand_in::StandIn;
+use crate::tally::{Tally, COUNTED};
+use crate::trial::Trial;
+use oracle::run::Entry;
+
+const SEED: u64 = 7;
+
+/// One thing that a reader gets wrong.
+#[derive(Clone, Copy, PartialEq, Debug)]
+enum Damage {
+    Nothing,
+    Opening,
+    Feed(usize),
+    FeedNumber,
+    Finish(usize),
+    FinishNumber,
+    Read(usize),
+    ReadNumber,
+    Palette,
+    Copy,
+    CopyNumber,
+    ShortCopy,
+    Standard,
+    Session,
+    Behind,
+    Pixel,
+    Outside,
+    Before,
+    After,
+    StopsEarly,
+    NoStop,
+    /// A picture that is right in the end alone.
+    Between,
+    Thirteen,
+    Twelve,
+}
+
+struct Damaged {
+    inner: StandIn,
+    damage: Damage,
+    memory: Memory,
+    ended: bool,
+}
+
+impl Damaged {
+    fn new(damage: Damage) -> Self {
+        Self { inner: StandIn::new(), damage, memory: Memory::empty(), ended: false }
+    }
+
+    fn is(&self, damage: Damage) -> bool {
+        self.damage == damage
+    }
+}
+
+impl Boundary for Damaged {
+    fn open(&mut self, opening: &Opening) -> u64 {
+        self.ended = false;
+        self.inner.open(opening) + if self.is(Damage::Opening) { 11 } else { 0 }
+    }
+
+    fn feed(&mut self, bytes: &[u8], allowance: usize, short: usize) -> (u64, [u64; 4]) {
+        let short = if self.is(Damage::Twelve) { 0 } else { short };
+        let allowance = if self.is(Damage::Thirteen) { usize::MAX } else { allowance };
+        if self.is(Damage::StopsEarly) && bytes.len() > 1 {
+            let (number, [how, consumed, ink, byte]) = self.inner.feed(&bytes[..1], allowance, short);
+            return (number, if number == 0 && how == 0 { [1, consumed, ink, 0] } else { [how, consumed, ink, byte] });
+        }
+        let (number, mut report) = self.inner.feed(bytes, allowance, short);
+        if self.is(Damage::NoStop) && report[0] == 1 {
+            report[0] = 0;
+        }
+        if let Damage::Feed(place) = self.damage {
+            report[place] += 1;
+        }
+        (if self.is(Damage::FeedNumber) && number != 0 { number + 1 } else { number }, report)
+    }
+
+    fn finish(&mut self) -> (u64, [u64; 7]) {
+        self.ended = true;
+        let (number, mut report) = self.inner.finish();
+        if let Damage::Finish(place) = self.damage {
+            report[place] += 1;
+        }
+        (if self.is(Damage::FinishNumber) && number != 0 { number + 1 } else { number }, report)
+    }
+
+    fn read(&mut self, opening: &Opening, bytes: &[u8]) -> (u64, [u64; 9]) {
+        let (number, mut report) = self.inner.read(opening, bytes);
+        if let Damage::Read(place) = self.damage {
+            report[place] += 1;
+        }
+        (if self.is(Damage::ReadNumber) && number != 0 { number + 1 } else { number }, report)
+    }
+
+    fn copy(&mut self, size: [usize; 2], out: Vec<u8>) -> (u64, Vec<u8>) {
+        let (number, mut out) = self.inner.copy(size, out);
+        match (self.damage, number) {
+            (Damage::CopyNumber, _) => return (0, out),
+            (Damage::Copy, 0) => *out.last_mut().expect("a picture has a pixel") ^= 1,
+            (Damage::ShortCopy, 14) => out[0] ^= 1,
+            _ => {}
+        }
+        (number, out)
+    }
+
+    fn standard_palette(&mut self) -> Registers {
+        let mut out = self.inner.standard_palette();
+        out[7] ^= u32::from(self.is(Damage::Standard));
+        out
+    }
+
+    fn memory(&mut self) -> &Memory {
+        self.memory = self.inner.memory().clone();
+        let end = self.memory.buffer.len();
+        match self.damage {
+            Damage::Palette => self.memory.palette[255] ^= 1,
+            Damage::Session => self.memory.session[SESSION - 1] ^= 1,
+            Damage::Behind => self.memory.session[SESSION] ^= 1,
+            Damage::Between if !self.ended => self.memory.buffer[GUARD] ^= 1,
+            Damage::Pixel => self.memory.buffer[GUARD] ^= 1,
+            Damage::Outside => self.memory.buffer[end - GUARD - 1] ^= 1,
+            Damage::Before => self.memory.buffer[GUARD - 1] ^= 1,
+            Damage::After => self.memory.buffer[end - GUARD] ^= 1,
+            _ => {}
+        }
+        &self.memory
+    }
+}
+
+/// What the first of many trials to differ says, if one does.
+fn found(damage: Damage) -> Option<String> {
+    let mut reader = Damaged::new(damage);
+    (0..3_000).find_map(|number| difference(&Trial::new(SEED, number), &mut reader)).map(|found| found.what)
+}
+
+#[test]
+fn a_sound_reader_has_no_difference() {
+    assert_eq!(found(Damage::Nothing), None);
+}
+
+#[test]
+fn every_damage_is_noticed() {
+    use Damage::*;
+    let each = [
+        Opening,
+        Feed(0),
+        Feed(1),
+        Feed(2),
+        Feed(3),
+        FeedNumber,
+        Finish(0),
+        Finish(1),
+        Finish(2),
+        Finish(3),
+        Finish(4),
+        Finish(5),
+        Finish(6),
+        FinishNumber,
+        Read(0),
+        Read(1),
+        Read(2),
+        Read(3),
+        Read(4),
+        Read(5),
+        Read(6),
+        Read(7),
+        Read(8),
+        ReadNumber,
+        Palette,
+        Copy,
+        CopyNumber,
+        ShortCopy,
+        Standard,
+        Session,
+        Behind,
+        Pixel,
+        Outside,
+        Before,
+        After,
+        StopsEarly,
+        Thirteen,
+        Twelve,
+    ];
+    for damage in each {
+        assert!(found(damage).is_some(), "{damage:?} goes unnoticed");
+    }
+}
+
+/// Under the crate's own limits stops are too rare for a few trials.
+#[test]
+fn a_missing_stop_is_noticed_under_small_limits() {
+    if oracle::LIMITS[0] < 100 {
+        assert!(found(Damage::NoStop).is_some());
+    }
+}
+
+#[test]
+fn a_wrong_canvas_between_two_calls_is_noticed() {
+    let mut reader = Damaged::new(Damage::Between);
+    let finished = |trial: &Trial| !trial.abort && trial.entry != Entry::OneShot;
+    let mut trials = (0..3_000).map(|number| Trial::new(SEED, number)).filter(finished);
+    assert!(trials.any(|trial| difference(&trial, &mut reader).is_some()));
+}
+
+/// Refusal 7 is not among them: each canvas has room for its picture.
+#[test]
+fn every_kind_of_outcome_comes_up() {
+    let mut reader = StandIn::new();
+    let mut tally = Tally::default();
+    for number in 0..20_000 {
+        let trial = Trial::new(SEED, number);
+        tally.add(&judge(&trial, &Expected::of(&trial), &mut reader).unwrap_or_else(|found| panic!("{}", found.what)));
+    }
+    let [w, h, _, m] = oracle::LIMITS;
+    for (name, count) in COUNTED.iter().zip(tally.0) {
+        println!("{name} {count}");
+        let can_be = match *name {
+            "refused-6" => w * h > m,
+            "refused-7" => false,
+            "stops" => w < 100,
+            _ => true,
+        };
+        assert!(count > 0 || !can_be, "{name} does not come up");
+        assert!(count == 0 || can_be || *name == "stops", "{name} comes up");
+    }
+}
+
+#[test]
+fn each_field_is_named() {
+    let names = [
+        (Damage::Opening, "opening"),
+        (Damage::Feed(0), "status of call 1"),
+        (Damage::Feed(1), "bytes consumed of call 1"),
+        (Damage::Feed(2), "ink of call 1"),
+        (Damage::Feed(3), "ending byte of call 1"),
+    ];
+    let plain = (0..).map(|number| Trial::new(SEED, number)).find(|trial| !trial.poked && trial.entry == Entry::Dcs);
+    let plain = plain.expect("there is one");
+    for (damage, name) in names {
+        assert_eq!(difference(&plain, &mut Damaged::new(damage)).map(|found| found.what).as_deref(), Some(name));
+    }
+    assert!(found(Damage::Palette).is_some_and(|what| what.starts_with("palette")));
+    assert!(found(Damage::Before).is_some_and(|what| what.contains("outside the picture")));
+}
+
+#[test]
+fn a_trial_is_a_function_of_seed_and_number() {
+    for number in 0..200 {
+        assert!(Trial::new(3, number) == Trial::new(3, number));
+    }
+    assert!((0..50).any(|number| Trial::new(3, number) != Trial::new(4, number)));
+}
+
+#[test]
+fn shrinking_leaves_the_one_byte_that_matters() {
+    let mut reader = Damaged::new(Damage::Nothing);
+    assert!(difference(&Trial::new(SEED, 1), &mut reader).is_none());
+    let big = Trial {
+        entry: Entry::Payload([Some(2), Some(1), None]),
+        before: b"#1;2;9;9;9".to_vec(),
+        abort: false,
+        pieces: vec![b"!1~$#2;1;9".to_vec(), Vec::new(), b"9;9;9-#3~??Z".to_vec(), b"\"1;1;1;1~".to_vec()],
+        allowances: vec![usize::MAX, usize::MAX - 1],
+        room: [1, 1, 1],
+        fill: 99,
+        poked: true,
+        watched: true,
+    };
+    let small = shrink(&big, &mut |trial| trial.stream().contains(&b'Z'));
+    assert_eq!(small.stream(), b"Z");
+    assert_eq!(small.pieces.len(), 1);
+    assert!(small.before.is_empty() && !small.poked && small.room == [0; 3]);
+}
+
+#[test]
+fn a_shrunk_difference_is_printed() {
+    let mut reader = Damaged::new(Damage::Pixel);
+    let trial = (0..).map(|number| Trial::new(SEED, number)).find(|trial| trial.entry == Entry::Payload([None; 3]));
+    let words = smallest(&trial.expect("there is one"), &mut reader);
+    for part in ["pixel at column 0, row 0", "    open: 0\n", "    finish: (0, [1, 1, 1, 1, ", "picture status more"] {
+        assert!(words.contains(part), "{part} is not in\n{words}");
+    }
+}
