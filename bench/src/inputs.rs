@@ -24,6 +24,18 @@ pub fn all() -> Vec<Input> {
     ]
 }
 
+/// The same kind of picture at 1, 2, 4 and 8 times the size.
+pub fn growing() -> Vec<(&'static str, [Vec<u8>; 4])> {
+    const TIMES: [usize; 4] = [1, 2, 4, 8];
+    vec![
+        ("photo, 800 x 90", TIMES.map(|times| photo(800, 90 * times))),
+        ("band map, 512 x 96, column by column", TIMES.map(|times| band_map(512, 96 * times).0)),
+        ("long repeats, 1,000 x 96", TIMES.map(|times| long_repeats(1_000, 96 * times))),
+        ("2,500 colour definitions", TIMES.map(|times| colours(2_500 * times))),
+        ("growth to 128 columns of 768", TIMES.map(|times| growth(128 * times, 768))),
+    ]
+}
+
 /// A row of register numbers for each row of pixels, in SIXEL: each band its registers in order, `$` between, repeats from four on.
 fn encode(rows: &[Vec<u8>], with_repeats: bool) -> String {
     let mut text = String::new();

@@ -27,9 +27,13 @@ pub fn load() -> Option<Decode> {
     }
 }
 
-/// libsixel reads a whole sequence, so that the payload is framed first, outside of what matters.
-pub fn decode(decode: Decode, payload: &[u8]) {
-    let mut sequence = [b"\x1BPq", payload, b"\x1B\\"].concat();
+/// libsixel reads a whole sequence, so that the payload is framed before anything is timed.
+pub fn framed(payload: &[u8]) -> Vec<u8> {
+    [b"\x1BPq", payload, b"\x1B\\"].concat()
+}
+
+/// The answer is registers and not pixels: libsixel leaves it to its caller to look the colours up.
+pub fn decode(decode: Decode, sequence: &mut [u8]) {
     let (mut pixels, mut palette) = (std::ptr::null_mut(), std::ptr::null_mut());
     let (mut width, mut height, mut colours) = (0, 0, 0);
     // SAFETY: the sequence and the five places live through the call; what it hands out was allocated by malloc.

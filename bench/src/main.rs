@@ -50,22 +50,21 @@ fn microseconds(time: f64) -> String {
     if time.is_finite() { format!("{:.0}", time * 1e6) } else { "-".into() }
 }
 
-fn main() {
-    let rounds: usize = std::env::args().nth(1).map_or(30, |word| word.parse().expect("a number of rounds"));
-    let mut canvas = vec![0_u8; 4 * STRIDE * ROWS];
+/// Every candidate on every input.
+fn compare(rounds: usize, canvas: &mut [u8]) {
     let other = libsixel::load();
-    println!("ours: {}; {} rounds, best processor time in microseconds", std::env::var("SIXEL_KIND").unwrap_or_default(), rounds);
     println!("input | bytes | Rust | libsixel | ours | ours over the Rust | target");
     for input in inputs::all() {
-        check(&input, &mut canvas);
+        check(&input, canvas);
+        let mut sequence = libsixel::framed(&input.payload);
         let (mut theirs, mut mine, mut others) = (f64::INFINITY, f64::INFINITY, f64::INFINITY);
         for _ in 0..rounds {
             best(&mut theirs, timed(|| drop(std::hint::black_box(rust(&input.payload, input.chunk)))));
             best(&mut mine, timed(|| {
-                let _ = std::hint::black_box(ours(&mut canvas, &input.payload, input.chunk));
+                let _ = std::hint::black_box(ours(canvas, &input.payload, input.chunk));
             }));
             if let Some(decode) = other {
-                best(&mut others, timed(|| libsixel::decode(decode, &input.payload)));
+                best(&mut others, timed(|| libsixel::decode(decode, &mut sequence)));
             }
         }
         println!(
@@ -73,6 +72,28 @@ fn main() {
             input.name, input.payload.len(), microseconds(theirs), microseconds(others), microseconds(mine), theirs / mine, input.target
         );
     }
+}
+
+/// Ours at 1, 2, 4 and 8 times the size.
+fn grow(rounds: usize, canvas: &mut [u8]) {
+    println!("ours at 1, 2, 4 and 8 times the size | 1 | 2 | 4 | 8 | 8 over 1");
+    for (name, payloads) in inputs::growing() {
+        let times = payloads.map(|payload| {
+            let once = |_| timed(|| {
+                let _ = std::hint::black_box(ours(canvas, &payload, 0)).expect("the payload is read");
+            });
+            (0..rounds).map(once).fold(f64::INFINITY, f64::min)
+        });
+        println!("{name} | {} | {:.2}", times.map(microseconds).join(" | "), times[3] / times[0]);
+    }
+}
+
+fn main() {
+    let rounds: usize = std::env::args().nth(1).map_or(30, |word| word.parse().expect("a number of rounds"));
+    let mut canvas = vec![0_u8; 4 * STRIDE * ROWS];
+    println!("ours: {}; {} rounds, best processor time in microseconds", std::env::var("SIXEL_KIND").unwrap_or_default(), rounds);
+    compare(rounds, &mut canvas);
+    grow(rounds, &mut canvas);
     let memset = (0..rounds).map(|_| timed(|| std::hint::black_box(&mut canvas).fill(7))).fold(f64::INFINITY, f64::min);
     println!("memset of the whole canvas, {} bytes: {}", canvas.len(), microseconds(memset));
 }
