@@ -18,6 +18,7 @@ pub mod DcsParts
 pub mod DcsLaws
 pub mod Demand3
 pub mod EachCall
+pub mod DcsEnds
 pub mod DcsSoFar
 pub mod Trials
 pub mod Examples
