@@ -21,8 +21,8 @@ use Rattle.frame.specs.declared.Ground.{Ground}
 use Rattle.frame.specs.declared.Kind as codeKind
 use Rattle.frame.specs.declared.Kind.the-variants as kinds
 use Rattle.frame.specs.Commands.{withCommand, byDigitIn, byDigit, bySemicolon}
-use Rattle.frame.specs.Step.{Turned, readAs, dataStep, takesSemicolon, argumentStep, stepIn, stepOf}
-use Rattle.frame.specs.Feed.{thenData, byteStep}
+use Rattle.bytewise.specs.Step.{Turned, readAs, dataStep, takesSemicolon, argumentStep, stepIn, stepOf}
+use Rattle.bytewise.specs.Feed.{thenData, byteStep}
 use Rattle.meaning.specs.Commands.{Kind, repeat, colour, raster, Begun, ofValues, lengthens, taken, longer, closed}
 use Rattle.meaning.specs.Drawing.{Setting, Drawing, drawAll, inkOfAll}
 use Rattle.meaning.specs.Reader.{Step, next}

@@ -21,7 +21,7 @@ use Rattle.frame.specs.declared.Refusal.{Refusal}
 use Rattle.frame.specs.declared.sizes.Needed.{Needed}
 use Rattle.frame.specs.Numbers.{numberOf}
 use Rattle.frame.specs.Commands.{begun}
-use Rattle.frame.specs.Step.{Turned, readAs, inked, canvasAfter, paintedOn, drawnIn, drawnBy, movedTo, dataStep, rowCeiling}
+use Rattle.bytewise.specs.Step.{Turned, readAs, inked, canvasAfter, paintedOn, drawnIn, drawnBy, movedTo, dataStep, rowCeiling}
 use Rattle.meaning.specs.Commands.{does, scanByte, closed}
 use Rattle.meaning.specs.Drawing.{Setting, Drawing, withPen, moved, unless, strokeOf, stroked, sixelled, drawCommand, drawAll, andThen, inkOf, inkOfAll}
 use Rattle.meaning.specs.Payload.{Parameters}

@@ -15,8 +15,8 @@ use Rattle.frame.specs.declared.Outcome.{Outcome}
 use Rattle.frame.specs.declared.Outcome.the-variants as outcomes
 use Rattle.frame.specs.declared.Refusal.{Refusal}
 use Rattle.frame.specs.Numbers.{numberOf}
-use Rattle.frame.specs.Step.{Turned}
-use Rattle.frame.specs.Feed.{Reached, goOn, feedFrom}
+use Rattle.bytewise.specs.Step.{Turned}
+use Rattle.bytewise.specs.Feed.{Reached, goOn, feedFrom}
 use Rattle.meaning.specs.Drawing.{Setting}
 use Rattle.meaning.specs.Reader.{Step, next, How, readAll, stopped, halted, refusedBy, Run, still, after, follow, call}
 use Rattle.meaning.specs.Sessions.{Reading, rested, payloadStep}

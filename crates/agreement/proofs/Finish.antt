@@ -17,7 +17,7 @@ use Rattle.frame.specs.declared.Kind.the-variants as kinds
 use Rattle.frame.specs.declared.Outcome.the-variants as outcomes
 use Rattle.frame.specs.declared.Refusal.{Refusal}
 use Rattle.frame.specs.Numbers.{numberOf}
-use Rattle.frame.specs.Step.{Turned, settledStep}
+use Rattle.bytewise.specs.Step.{Turned, settledStep}
 use Rattle.meaning.specs.Drawing.{Limits, Setting, Drawing, backgroundOf, blank, extentOf}
 use Rattle.meaning.specs.Payload.{Parameters, Ratio, ratioOf, Report, reportOf, Finished, finished, turnedDown, finish}
 use Rattle.meaning.specs.Sessions.{Reading, opened, settled, rested, finishReading}

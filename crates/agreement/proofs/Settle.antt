@@ -14,7 +14,7 @@ use Rattle.frame.specs.declared.Outcome.the-variants as outcomes
 use Rattle.frame.specs.declared.Refusal.{Refusal}
 use Rattle.frame.specs.Numbers.{numberOf}
 use Rattle.frame.specs.Commands.{noCommand, refusedAs, Ended, endedIn, ended}
-use Rattle.frame.specs.Step.{Turned, settledStep}
+use Rattle.bytewise.specs.Step.{Turned, settledStep}
 use Rattle.meaning.specs.Commands as meaningCommands
 use Rattle.meaning.specs.Commands.{Begun, argued, closed}
 use Rattle.meaning.specs.Drawing.{Setting, Drawing, Drawn, drawCommand, Outcome, andThen, drawAll}

@@ -15,7 +15,7 @@ use Rattle.canvas.proofs.Shows.{sixel-stroked}
 use Rattle.frame.specs.declared.Command.{Command}
 use Rattle.frame.specs.declared.Frame.{Frame}
 use Rattle.frame.specs.declared.Sheet as codeSheet
-use Rattle.frame.specs.Step.{penAfter, inked, sheetAfter, canvasAfter, rowCeiling}
+use Rattle.bytewise.specs.Step.{penAfter, inked, sheetAfter, canvasAfter, rowCeiling}
 use Rattle.meaning.specs.Commands.{draw}
 use Rattle.meaning.specs.Drawing.{Setting, Drawing, unless, strokeOf, stroked, drawCommand, columnsReached, rowsReached, extentOf}
 use Rattle.meaning.proofs.AreaLaws.{Allowed, Sound, Follows, command-drawn}

@@ -14,7 +14,7 @@ use Rattle.frame.specs.declared.sizes.Needed.{Needed}
 use Rattle.frame.specs.declared.sizes.Needed.the-variants as needed
 use Rattle.frame.specs.Numbers.{numberOf}
 use Rattle.frame.specs.Sizes.{roomFor, grownArea, rasterArea, sixelArea}
-use Rattle.frame.specs.Step.{rowCeiling}
+use Rattle.bytewise.specs.Step.{rowCeiling}
 use Rattle.meaning.specs.Drawing.{Setting, Pen, Drawing, pixelsOf, sizeRefusal}
 use Rattle.meaning.proofs.AreaLaws.{both, cond-case, Allowed, Fits, Sound}
 use Rattle.agreement.specs.Same.{groundOf, penOf, sheetOf, Bounded}

@@ -16,7 +16,7 @@ use Rattle.frame.specs.declared.Kind.the-variants as kinds
 use Rattle.frame.specs.declared.Pen as codePen
 use Rattle.frame.specs.declared.Raster as codeRaster
 use Rattle.frame.specs.declared.Sheet as codeSheet
-use Rattle.frame.specs.Step.{rowCeiling}
+use Rattle.bytewise.specs.Step.{rowCeiling}
 use Rattle.meaning.specs.Commands.{repeat, colour, raster, Begun}
 use Rattle.meaning.specs.Drawing.{Setting, Pen, Raster, Drawing, transparent, extentOf}
 use Rattle.meaning.specs.Payload.{Parameters, Ratio, byRaster, leftToP1, Report}

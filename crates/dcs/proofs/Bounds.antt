@@ -10,8 +10,8 @@ use Rattle.frame.specs.declared.Ground.{Ground}
 use Rattle.frame.specs.declared.Outcome.{Outcome}
 use Rattle.frame.specs.declared.Outcome.the-variants as outcomes
 use Rattle.frame.specs.declared.Progress.{Progress}
-use Rattle.frame.specs.Step.{Turned}
-use Rattle.frame.specs.Feed.{byteStep, Reached, reachedAs, goOn, feedFrom}
+use Rattle.bytewise.specs.Step.{Turned}
+use Rattle.bytewise.specs.Feed.{byteStep, Reached, reachedAs, goOn, feedFrom}
 use Rattle.payload.specs.declared.Answer.{Answer}
 use Rattle.payload.specs.declared.Answer.the-variants as answers
 use Rattle.payload.specs.declared.Life.{Life}

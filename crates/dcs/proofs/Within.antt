@@ -13,7 +13,7 @@ use Rattle.colours.specs.declared.Palette.{Palette}
 use Rattle.frame.specs.declared.Ground.{Ground}
 use Rattle.frame.specs.declared.Limits.{Limits}
 use Rattle.frame.specs.declared.Refusal.{Refusal}
-use Rattle.frame.specs.Feed.{Reached}
+use Rattle.bytewise.specs.Feed.{Reached}
 use Rattle.frame.specs.Numbers.{numberOf}
 use Rattle.meaning.specs.Calls as calls
 use Rattle.meaning.specs.Drawing.{Setting}

@@ -1,10 +1,3 @@
 pub mod NumberLaws
 pub mod SizeLaws
 pub mod CommandLaws
-pub mod StepLaws
-pub mod FeedLaws
-pub mod RunSteps
-pub mod RunLaws
-pub mod ArgumentLaws
-pub mod LeapLaws
-pub mod RideLaws

@@ -1,15 +1,8 @@
 // A frame while its payload is read: the Rust's FrameDecoder, palette and canvas apart. The session above owns both and lends
 // them. Inner: of this crate a caller of the reader has use for its limits, its refusals and their numbers alone.
-mod argument;
 pub mod commands;
-mod leap;
-pub mod process;
 mod rasters;
-mod renew;
-mod ride;
-mod run;
 pub mod sizes;
-pub mod step;
 
 ghost use mathlib.Core.Path.{_≡_};
 ghost use Rattle.frame.specs.Numbers.{numberOf};

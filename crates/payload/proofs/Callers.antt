@@ -7,7 +7,7 @@ use mathlib.Core.List.{List, _++_}
 use mathlib.Core.Path.{_≡_, refl, sym, ap, _∙_, subst}
 use lib.ListN.{length}
 use Rattle.frame.specs.declared.Ground.{Ground}
-use Rattle.frame.specs.Feed.{Reached}
+use Rattle.bytewise.specs.Feed.{Reached}
 use Rattle.meaning.specs.Calls as calls
 use Rattle.meaning.specs.Callers as callers
 use Rattle.meaning.specs.Callers.{afterFeed}

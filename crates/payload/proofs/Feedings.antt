@@ -13,7 +13,7 @@ use Rattle.frame.specs.declared.Outcome.{Outcome}
 use Rattle.frame.specs.declared.Outcome.the-variants as outcomes
 use Rattle.frame.specs.declared.Refusal.the-variants as refusals
 use Rattle.frame.specs.Commands.{Ended, ended}
-use Rattle.frame.specs.Feed.{Reached, feedFrom}
+use Rattle.bytewise.specs.Feed.{Reached, feedFrom}
 use Rattle.meaning.specs.Calls as calls
 use Rattle.meaning.specs.Drawing as drawing
 use Rattle.meaning.specs.Reader.{Step, next, halt, refuse, How, readAll, stopped, halted, refusedBy, Run, still, after, follow, readFrom, call}

@@ -15,7 +15,7 @@ use Rattle.frame.specs.declared.Outcome.the-variants as outcomes
 use Rattle.frame.specs.declared.Raster.{Raster}
 use Rattle.frame.specs.declared.Refusal.the-variants as refusals
 use Rattle.frame.specs.Commands.{Ended, ended}
-use Rattle.frame.specs.Step.{settledStep}
+use Rattle.bytewise.specs.Step.{settledStep}
 use Rattle.meaning.specs.Calls as calls
 use Rattle.meaning.specs.Drawing as drawing
 use Rattle.meaning.specs.Payload as meant

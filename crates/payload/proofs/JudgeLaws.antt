@@ -13,7 +13,7 @@ use Rattle.frame.specs.declared.Ground.{Ground}
 use Rattle.frame.specs.declared.Refusal.{Refusal}
 use Rattle.frame.specs.declared.Refusal.the-variants as refusals
 use Rattle.frame.specs.declared.Sheet.{Sheet}
-use Rattle.frame.specs.Step.{Fits}
+use Rattle.bytewise.specs.Step.{Fits}
 use Rattle.payload.specs.declared.Life.{Life}
 use Rattle.payload.specs.declared.Session.{Session}
 use Rattle.payload.specs.declared.judge.Judged.{Judged}

@@ -28,9 +28,9 @@ use Rattle.frame.specs.declared.Stepped.{Stepped}
 use Rattle.frame.specs.declared.sizes.Needed.{Needed}
 use Rattle.frame.specs.declared.sizes.Needed.the-variants as needs
 use Rattle.frame.specs.Sizes.{rasterArea, sixelArea}
-use Rattle.frame.specs.Commands.{withCommand, begun, valuesLonger, numberLonger, byDigitIn, byDigit, bySemicolon, settledAs, refusedAs, withRepeat, repeatEnded, withColor, colorEndedBy, quotientOf, ratioBy, rasterBy, rasterGrown, rasterEndedBy, finishedOf, endedIn, ended}
-use Rattle.frame.specs.Step.{Turned, readAs, penAfter, inked, paintedOn, drawnIn, drawnBy, movedTo, ownOf, dataStep, takesSemicolon, settledStep, argumentStep, stepIn, stepOf}
-use Rattle.frame.specs.Feed.{thenData, byteStep, Reached, reachedAs, goOn, feedFrom}
+use Rattle.frame.specs.Commands.{noCommand, withCommand, begun, valuesLonger, numberLonger, byDigitIn, byDigit, bySemicolon, settledAs, refusedAs, withRepeat, repeatEnded, withColor, colorEndedBy, quotientOf, ratioBy, rasterBy, rasterGrown, rasterEndedBy, finishedOf, endedIn, ended}
+use Rattle.bytewise.specs.Step.{Turned, readAs, penAfter, inked, paintedOn, drawnIn, drawnBy, movedTo, ownOf, dataStep, takesSemicolon, settledStep, argumentStep, stepIn, stepOf}
+use Rattle.bytewise.specs.Feed.{thenData, byteStep, Reached, reachedAs, goOn, feedFrom}
 use Rattle.payload.specs.Ranges.{ColorRanged, FrameRanged}
 
 -- ---- colours, and the bytes that end a payload
@@ -134,23 +134,23 @@ module _ (f : Frame) (h : FrameRanged f) where
 
   -- a command's end
   rastered : (r : Raster) → r .ratio < 256 → (n : Needed) → SteppedRanged (rasterGrown f r n)
-  unfolding rasterGrown settledAs refusedAs
-  rastered r k (needs.Area w x) = record { frame = record { color = h .color; ratio = k; parameters = h .parameters }; outcome = tt }
+  unfolding rasterGrown settledAs noCommand refusedAs
+  rastered r k (needs.Area w x) = record { frame = record { color = h .color; ratio = k; parameters = opened-ranged 0 }; outcome = tt }
   rastered r k (needs.Refused n) = record { frame = h; outcome = tt }
 
   raster-ended : (g : Ground) (r : Raster) → r .ratio < 256 → SteppedRanged (rasterEndedBy f g r)
-  unfolding rasterEndedBy settledAs
+  unfolding rasterEndedBy settledAs noCommand
   raster-ended g r k =
       cond-case SteppedRanged (eqb (r .width) 0 && eqb (r .height) 0)
-      (λ _. record { frame = record { color = h .color; ratio = k; parameters = h .parameters }; outcome = tt }) (λ _. rastered r k (rasterArea (f .sheet) g (max 1 (r .width)) (max 1 (r .height))))
+      (λ _. record { frame = record { color = h .color; ratio = k; parameters = opened-ranged 0 }; outcome = tt }) (λ _. rastered r k (rasterArea (f .sheet) g (max 1 (r .width)) (max 1 (r .height))))
 
   ended-in : (k : Kind) (g : Ground) (p : Palette) → SteppedRanged (endedIn k f g p .stepped)
-  unfolding endedIn repeatEnded colorEndedBy settledAs refusedAs withRepeat withColor rasterBy
-  ended-in kinds.Data g p = record { frame = record { color = h .color; ratio = h .ratio; parameters = h .parameters }; outcome = tt }
+  unfolding endedIn repeatEnded colorEndedBy settledAs noCommand refusedAs withRepeat withColor rasterBy
+  ended-in kinds.Data g p = record { frame = record { color = h .color; ratio = h .ratio; parameters = opened-ranged 0 }; outcome = tt }
   ended-in kinds.Repeat g p =
       cond-case SteppedRanged (ltb (g .limits .repeats) (f .command .number)) (λ _. record { frame = h; outcome = tt })
-      (λ _. record { frame = record { color = h .color; ratio = h .ratio; parameters = h .parameters }; outcome = tt })
-  ended-in kinds.Color g p = record { frame = record { color = register-ranged _ _; ratio = h .ratio; parameters = h .parameters }; outcome = tt }
+      (λ _. record { frame = record { color = h .color; ratio = h .ratio; parameters = opened-ranged 0 }; outcome = tt })
+  ended-in kinds.Color g p = record { frame = record { color = register-ranged _ _; ratio = h .ratio; parameters = opened-ranged 0 }; outcome = tt }
   ended-in kinds.Raster g p =
       raster-ended g (rasterBy (f .raster) (finishedOf f)) (ratio-small (f .raster .ratio) (finishedOf f) (h .ratio))
 

@@ -28,7 +28,7 @@ use Rattle.frame.specs.declared.Refusal.{Refusal}
 use Rattle.frame.specs.declared.Refusal.the-variants as refusals
 use Rattle.frame.specs.declared.Stepped.{Stepped}
 use Rattle.frame.specs.Commands.{Ended, ended}
-use Rattle.frame.specs.Feed.{Reached, feedFrom}
+use Rattle.bytewise.specs.Feed.{Reached, feedFrom}
 use Rattle.frame.proofs.Outcome as OutcomeType
 use Rattle.payload.specs.declared.Answer.{Answer}
 use Rattle.payload.specs.declared.Answer.the-variants as answers

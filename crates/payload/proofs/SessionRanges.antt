@@ -13,7 +13,7 @@ use Rattle.frame.specs.declared.Limits.{Limits}
 use Rattle.frame.specs.declared.Outcome.{Outcome}
 use Rattle.frame.specs.declared.Outcome.the-variants as outcomes
 use Rattle.frame.specs.declared.Progress.{Progress}
-use Rattle.frame.specs.Feed.{Reached, feedFrom}
+use Rattle.bytewise.specs.Feed.{Reached, feedFrom}
 use Rattle.payload.specs.declared.Given.{Given}
 use Rattle.payload.specs.declared.Life.{Life}
 use Rattle.payload.specs.declared.Life.the-variants as lives

@@ -20,7 +20,7 @@ use Rattle.frame.specs.declared.Raster.{Raster}
 use Rattle.frame.specs.declared.Refusal.{Refusal}
 use Rattle.frame.specs.declared.Refusal.the-variants as refusals
 use Rattle.frame.specs.Commands.{Ended, ended}
-use Rattle.frame.specs.Feed.{Reached, feedFrom}
+use Rattle.bytewise.specs.Feed.{Reached, feedFrom}
 use Rattle.payload.specs.declared.Answer.the-variants as answers
 use Rattle.payload.specs.declared.Fed.{Fed}
 use Rattle.payload.specs.declared.Finishing.the-variants as finishes

@@ -9,8 +9,8 @@ pub mod memory;
 ghost use mathlib.Core.Path.{_≡_};
 ghost use lib.ListN.{length};
 ghost use Rattle.colours.specs.Palette.{ofTable};
-ghost use Rattle.frame.specs.Step.{Fits};
-ghost use Rattle.frame.specs.Feed.{Reached};
+ghost use Rattle.bytewise.specs.Step.{Fits};
+ghost use Rattle.bytewise.specs.Feed.{Reached};
 ghost use Rattle.payload.specs.Session.{clearFor, backgroundFor, blankFrame, sessionFor, openedBy, sessionWith, answeredBy, fedLive, fedBy, ratioFor, reportedAs, finishedLive, finishedBy};
 use colours::Palette;
 use frame::Command;
@@ -26,13 +26,13 @@ use frame::Refusal;
 use frame::Sheet;
 use frame::Stepped;
 use frame::commands::end_command;
-use frame::process::process;
 use judge::Judged;
 use judge::feed_refusal;
 use judge::final_refusal;
 use judge::finish_refusal;
 use judge::may_open;
 use numbers::Parameters;
+use reading::process;
 
 // A parameter of a DCS header: a 16-bit number, or none.
 pub enum Given {

@@ -2,8 +2,8 @@
 use denote.Ref.{now}
 use Rattle.colours.specs.Palette.{ofTable}
 use Rattle.frame.specs.Commands.{Ended}
-use Rattle.frame.specs.Feed.{Reached}
-use Rattle.frame.specs.Step.{Turned}
+use Rattle.bytewise.specs.Feed.{Reached}
+use Rattle.bytewise.specs.Step.{Turned}
 use Rattle.frame.proofs.commands.begin.Reads as begin
 use Rattle.frame.proofs.commands.begin.Kinds as begin'
 use Rattle.frame.proofs.commands.extend_by_digit.Reads as extend-by-digit
@@ -16,8 +16,8 @@ use Rattle.frame.proofs.commands.end_in_loop.Reads as end-in-loop
 use Rattle.frame.proofs.commands.end_in_loop.Kinds as end-in-loop'
 use Rattle.frame.proofs.number.Reads as number
 use Rattle.frame.proofs.number.Kinds as number'
-use Rattle.frame.proofs.process.process.Reads as process
-use Rattle.frame.proofs.process.process.Kinds as process'
+use Rattle.reading.proofs.process.Reads as process
+use Rattle.reading.proofs.process.Kinds as process'
 use Rattle.frame.proofs.sizes.larger.Reads as larger
 use Rattle.frame.proofs.sizes.larger.Kinds as larger'
 use Rattle.frame.proofs.sizes.exceeds.Reads as exceeds
@@ -28,10 +28,10 @@ use Rattle.frame.proofs.sizes.raster_area.Reads as raster-area
 use Rattle.frame.proofs.sizes.raster_area.Kinds as raster-area'
 use Rattle.frame.proofs.sizes.sixel_area.Reads as sixel-area
 use Rattle.frame.proofs.sizes.sixel_area.Kinds as sixel-area'
-use Rattle.frame.proofs.step.after_sixel.Reads as after-sixel
-use Rattle.frame.proofs.step.after_sixel.Kinds as after-sixel'
-use Rattle.frame.proofs.step.step.Reads as step
-use Rattle.frame.proofs.step.step.Kinds as step'
+use Rattle.bytewise.proofs.after_sixel.Reads as after-sixel
+use Rattle.bytewise.proofs.after_sixel.Kinds as after-sixel'
+use Rattle.bytewise.proofs.step.Reads as step
+use Rattle.bytewise.proofs.step.Kinds as step'
 use Rattle.promises.proofs.One.{only, Seen, One}
 
 pub begin-one : One begin'.ps begin'.r begin.Learnt

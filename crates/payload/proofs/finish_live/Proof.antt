@@ -1,4 +1,4 @@
-use Rattle.frame.proofs.StepLaws.{settle-room}
+use Rattle.bytewise.proofs.StepLaws.{settle-room}
 use Rattle.payload.proofs.SessionLaws.{finishings}
 use borrow.Author.Needs.{needs}
 use Rattle.payload.proofs.finish_live.Statement.{statement}

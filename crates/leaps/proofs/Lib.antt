@@ -1,0 +1,4 @@
+pub mod RunSteps
+pub mod RunLaws
+pub mod ArgumentLaws
+pub mod LeapLaws

@@ -1,0 +1,37 @@
+use Rattle.leaps.proofs.ArgumentLaws.{closings}
+use borrow.Author.Needs.{needs}
+use Rattle.leaps.proofs.argument.ends_argument.Statement.{statement}
+use Rattle.leaps.proofs.argument.ends_argument.Tie as tie
+use Rattle.leaps.proofs.argument.ends_argument.Reads as reads
+use Rattle.leaps.proofs.argument.ends_argument.Lts as lts
+use Rattle.numbers.proofs.is_digit.Reads as is-digit-reads
+use Rattle.numbers.proofs.is_skipped.Reads as is-skipped-reads
+
+-- src/argument.rt:64:8
+is-digit-requires : tie.Need-is-digit-requires
+is-digit-requires c κs = search needs
+
+-- src/argument.rt:65:9
+returns : tie.Need-returns
+returns c = search (needs, closings)
+
+-- src/argument.rt:67:8
+is-skipped-requires : tie.Need-is-skipped-requires
+is-skipped-requires c κs = search needs
+
+-- src/argument.rt:68:9
+returns-2 : tie.Need-returns-2
+returns-2 c = search (needs, closings)
+
+-- src/argument.rt:71:9
+returns-3 : tie.Need-returns-3
+returns-3 c = search (needs, closings)
+
+-- src/argument.rt:61:1
+returns-4 : tie.Need-returns-4
+returns-4 c = search (needs, closings)
+
+pub ends-argument-spec : {M : Type 1} → statement M
+ends-argument-spec =
+    tie.close
+    (tie.spec is-digit-requires returns is-skipped-requires returns-2 returns-3 returns-4)

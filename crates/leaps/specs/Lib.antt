@@ -1,0 +1,3 @@
+pub mod Run
+pub mod Argument
+pub mod Leap
