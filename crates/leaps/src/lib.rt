@@ -249,6 +249,7 @@ fn leap_sixel(
 }
 
 // What stands at a place.
+// Inner: asks that the visible area has room on the canvas, that no command is pending, and that the place is among the bytes.
 pub fn next_leap(
     frame: Frame,
     ground: Ground,

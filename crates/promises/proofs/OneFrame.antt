@@ -1,4 +1,4 @@
--- Only one outcome, of every public function of `frame` (One.antt).
+-- Only one outcome, of every public function of `frame`, `bytewise` and `reading` (One.antt).
 use denote.Ref.{now}
 use Rattle.colours.specs.Palette.{ofTable}
 use Rattle.frame.specs.Commands.{Ended}
@@ -32,7 +32,14 @@ use Rattle.bytewise.proofs.after_sixel.Reads as after-sixel
 use Rattle.bytewise.proofs.after_sixel.Kinds as after-sixel'
 use Rattle.bytewise.proofs.step.Reads as step
 use Rattle.bytewise.proofs.step.Kinds as step'
-use Rattle.promises.proofs.One.{only, Seen, One}
+use Rattle.frame.proofs.commands.without_command.Reads as without-command
+use Rattle.frame.proofs.commands.without_command.Kinds as without-command'
+use Rattle.frame.proofs.commands.define.Reads as define
+use Rattle.frame.proofs.commands.define.Kinds as define'
+use Rattle.bytewise.proofs.row_below.Reads as row-below
+use Rattle.bytewise.proofs.row_below.Kinds as row-below'
+use Rattle.promises.proofs.Meanings.{table-known}
+use Rattle.promises.proofs.One.{only, Seen, One, OneLent}
 
 pub begin-one : One begin'.ps begin'.r begin.Learnt
 begin-one κs a z z' e e' p q = only p q
@@ -75,3 +82,12 @@ after-sixel-one κs a z z' e e' p q = only p q
 
 pub step-one : Seen step'.ps step'.r step.Learnt (λ κs. Turned) (λ κs z e. record { stepped = z; palette = ofTable (now (e .1 .1 .0)); canvas = now (e .1 .1 .1 .0) })
 step-one κs a z z' e e' p q = only p q
+
+pub without-command-one : One without-command'.ps without-command'.r without-command.Learnt
+without-command-one κs a z z' e e' p q = only p q
+
+pub define-one : OneLent define'.ps define'.r define.Learnt (λ κs e. now (e .0))
+define-one κs a z z' e e' p q = table-known (only p q)
+
+pub row-below-one : One row-below'.ps row-below'.r row-below.Learnt
+row-below-one κs a z z' e e' p q = only p q
