@@ -36,6 +36,7 @@ pub mod OneDcs
 pub mod OneOneshot
 pub mod Demands
 pub mod DcsDemands
+pub mod RefusedEndings
 pub mod OneText
 pub mod OneDump
 pub mod OnePieces
