@@ -10,6 +10,12 @@ use Rattle.dcs.proofs.finish.Reads as finish
 use Rattle.dcs.proofs.finish.Kinds as finish'
 use Rattle.dcs.proofs.abort.Reads as abort
 use Rattle.dcs.proofs.abort.Kinds as abort'
+use Rattle.dcs.proofs.memory.numbers_of.Reads as numbers-of
+use Rattle.dcs.proofs.memory.numbers_of.Kinds as numbers-of'
+use Rattle.dcs.proofs.memory.session_from.Reads as session-from
+use Rattle.dcs.proofs.memory.session_from.Kinds as session-from'
+use Rattle.dcs.proofs.memory.table_of.Reads as table-of
+use Rattle.dcs.proofs.memory.table_of.Kinds as table-of'
 use Rattle.promises.proofs.One.{only, One, OneWith}
 
 pub read-lead-one : One read-lead'.ps read-lead'.r read-lead.Learnt
@@ -26,3 +32,12 @@ finish-one κs a z z' e e' p q = only p q
 
 pub abort-one : One abort'.ps abort'.r abort.Learnt
 abort-one κs a z z' e e' p q = only p q
+
+pub numbers-of-one : One numbers-of'.ps numbers-of'.r numbers-of.Learnt
+numbers-of-one κs a z z' e e' p q = only p q
+
+pub session-from-one : One session-from'.ps session-from'.r session-from.Learnt
+session-from-one κs a z z' e e' p q = only p q
+
+pub table-of-one : One table-of'.ps table-of'.r table-of.Learnt
+table-of-one κs a z z' e e' p q = only p q

@@ -29,6 +29,10 @@ use Rattle.numbers.proofs.more_repeat.Reads as more-repeat
 use Rattle.numbers.proofs.more_repeat.Kinds as more-repeat'
 use Rattle.numbers.proofs.hold16.Reads as hold16
 use Rattle.numbers.proofs.hold16.Kinds as hold16'
+use Rattle.numbers.proofs.memory.numbers_of.Reads as numbers-of
+use Rattle.numbers.proofs.memory.numbers_of.Kinds as numbers-of'
+use Rattle.numbers.proofs.memory.parameters_from.Reads as parameters-from
+use Rattle.numbers.proofs.memory.parameters_from.Kinds as parameters-from'
 use Rattle.promises.proofs.One.{only, One}
 
 pub is-skipped-one : One is-skipped'.ps is-skipped'.r is-skipped.Learnt
@@ -75,3 +79,9 @@ more-repeat-one κs a z z' e e' p q = only p q
 
 pub hold16-one : One hold16'.ps hold16'.r hold16.Learnt
 hold16-one κs a z z' e e' p q = only p q
+
+pub numbers-of-one : One numbers-of'.ps numbers-of'.r numbers-of.Learnt
+numbers-of-one κs a z z' e e' p q = only p q
+
+pub parameters-from-one : One parameters-from'.ps parameters-from'.r parameters-from.Learnt
+parameters-from-one κs a z z' e e' p q = only p q

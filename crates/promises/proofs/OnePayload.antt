@@ -26,6 +26,28 @@ use Rattle.payload.proofs.finish.Reads as finish
 use Rattle.payload.proofs.finish.Kinds as finish'
 use Rattle.payload.proofs.abort.Reads as abort
 use Rattle.payload.proofs.abort.Kinds as abort'
+use Rattle.payload.proofs.codes.given_number.Reads as given-number
+use Rattle.payload.proofs.codes.given_number.Kinds as given-number'
+use Rattle.payload.proofs.codes.given_from.Reads as given-from
+use Rattle.payload.proofs.codes.given_from.Kinds as given-from'
+use Rattle.payload.proofs.codes.life_number.Reads as life-number
+use Rattle.payload.proofs.codes.life_number.Kinds as life-number'
+use Rattle.payload.proofs.codes.life_from.Reads as life-from
+use Rattle.payload.proofs.codes.life_from.Kinds as life-from'
+use Rattle.payload.proofs.codes.kind_number.Reads as kind-number
+use Rattle.payload.proofs.codes.kind_number.Kinds as kind-number'
+use Rattle.payload.proofs.codes.kind_from.Reads as kind-from
+use Rattle.payload.proofs.codes.kind_from.Kinds as kind-from'
+use Rattle.payload.proofs.codes.color_number.Reads as color-number
+use Rattle.payload.proofs.codes.color_number.Kinds as color-number'
+use Rattle.payload.proofs.codes.color_from.Reads as color-from
+use Rattle.payload.proofs.codes.color_from.Kinds as color-from'
+use Rattle.payload.proofs.memory.numbers_of.Reads as numbers-of
+use Rattle.payload.proofs.memory.numbers_of.Kinds as numbers-of'
+use Rattle.payload.proofs.memory.session_from.Reads as session-from
+use Rattle.payload.proofs.memory.session_from.Kinds as session-from'
+use Rattle.payload.proofs.memory.table_of.Reads as table-of
+use Rattle.payload.proofs.memory.table_of.Kinds as table-of'
 use Rattle.promises.proofs.One.{only, One, OneWith}
 
 pub reserve-one : One reserve'.ps reserve'.r reserve.Learnt
@@ -66,3 +88,36 @@ finish-one κs a z z' e e' p q = only p q
 
 pub abort-one : One abort'.ps abort'.r abort.Learnt
 abort-one κs a z z' e e' p q = only p q
+
+pub given-number-one : One given-number'.ps given-number'.r given-number.Learnt
+given-number-one κs a z z' e e' p q = only p q
+
+pub given-from-one : One given-from'.ps given-from'.r given-from.Learnt
+given-from-one κs a z z' e e' p q = only p q
+
+pub life-number-one : One life-number'.ps life-number'.r life-number.Learnt
+life-number-one κs a z z' e e' p q = only p q
+
+pub life-from-one : One life-from'.ps life-from'.r life-from.Learnt
+life-from-one κs a z z' e e' p q = only p q
+
+pub kind-number-one : One kind-number'.ps kind-number'.r kind-number.Learnt
+kind-number-one κs a z z' e e' p q = only p q
+
+pub kind-from-one : One kind-from'.ps kind-from'.r kind-from.Learnt
+kind-from-one κs a z z' e e' p q = only p q
+
+pub color-number-one : One color-number'.ps color-number'.r color-number.Learnt
+color-number-one κs a z z' e e' p q = only p q
+
+pub color-from-one : One color-from'.ps color-from'.r color-from.Learnt
+color-from-one κs a z z' e e' p q = only p q
+
+pub numbers-of-one : One numbers-of'.ps numbers-of'.r numbers-of.Learnt
+numbers-of-one κs a z z' e e' p q = only p q
+
+pub session-from-one : One session-from'.ps session-from'.r session-from.Learnt
+session-from-one κs a z z' e e' p q = only p q
+
+pub table-of-one : One table-of'.ps table-of'.r table-of.Learnt
+table-of-one κs a z z' e e' p q = only p q
