@@ -1,8 +1,8 @@
 // The reader for C and Rust: functions under plain names, over numbers, slices and arrays alone. Each slice is passed as a
 // pointer and a length, each array as a pointer.
 mod answers;
-mod dcs_session;
-mod payload_session;
+pub mod dcs_session;
+pub mod payload_session;
 mod report;
 
 ghost use mathlib.Core.Path.{_≡_};
