@@ -29,8 +29,9 @@ extern "C" {
 #define SIXEL_REGISTERS 256
 #define SIXEL_SESSION_NUMBERS 48
 
-/* What every function but the palette's answers. 1 to 7 in a feed fail the session; 9, 12 and 13 leave it as it was.
- * After a refusal the canvas holds what came before the refused byte or command, and the palette is as it was. */
+/* What every function answers but the palette's and the timed one. 1 to 7 in a feed fail the session; 9, 12 and 13 leave
+ * it as it was. After a refusal the canvas holds what came before the refused byte or command, and the palette is as it
+ * was. */
 enum sixel_refusal {
     SIXEL_DONE = 0,          /* no refusal */
     SIXEL_INTRODUCER = 1,    /* DCS: the first byte is not 1B or 90, or the byte after 1B is not `P` */
@@ -69,8 +70,8 @@ enum sixel_ratio_kind {
 /* P1 or P2 of a payload session where there is none: any number above 65,535. */
 #define SIXEL_NO_PARAMETER UINT32_MAX
 
-/* A session lies in the caller's memory. All zeros are a failed session, and any content has a stated answer. Dropping
- * it is an abort. */
+/* A session lies in the caller's memory, in 1,408 bytes. All zeros are a failed session, and any content has a stated
+ * answer. Dropping it is an abort. */
 typedef struct {
     uint64_t numbers[SIXEL_SESSION_NUMBERS];
     uint32_t registers[SIXEL_REGISTERS];
@@ -129,8 +130,8 @@ uint64_t sixel_dcs_finish(uint64_t session[SIXEL_SESSION_NUMBERS], const uint32_
                           uint8_t *canvas, size_t canvas_length, uint32_t palette[SIXEL_REGISTERS],
                           uint64_t report[7]);
 
-/* Reads a payload under the house's limits with the standard palette, in pieces of `chunk` bytes (0: all at once). Answers
- * width x 2^32 + height, or the refusal's number. Made to be timed. */
+/* Reads a payload under the house's limits with the standard palette, in pieces of `chunk` bytes (0: all at once).
+ * Answers width x 2^32 + height, or the refusal's number. Made to be timed. */
 uint64_t sixbench_decode(uint8_t *canvas, size_t canvas_length, size_t stride, const uint8_t *bytes,
                          size_t bytes_length, size_t chunk);
 
@@ -154,8 +155,8 @@ typedef struct {
     uint64_t how, consumed, ink, byte;
 } sixel_fed;
 
-/* Right and bottom are the extent: the rightmost column any sixel reached, and the lowest row of a band with ink, plus 1
- * each. */
+/* Right and bottom are the extent: the rightmost column any sixel reached, and the lowest row of a band with ink, plus
+ * 1 each. */
 typedef struct {
     uint64_t width, height, right, bottom, ratio_kind, ratio, transparent;
 } sixel_picture;

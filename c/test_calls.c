@@ -55,6 +55,7 @@ static void check_nulls(void) {
     sixel_limits house = owl_house_limits();
     sixel_canvas none = owl_canvas(NULL, 0, 1), canvas = fresh_canvas(1, 6);
     sixel_standard_palette(palette);
+    same(name, "the size of a session", sizeof session, 1408);
     same(name, "an opening", open_session(PAYLOAD, &session, house, none, palette), SIXEL_OPENING);
     same(name, "no canvas to read on", owl_read(house, none, "~", 1, palette, &picture, &part), SIXEL_OPENING);
     same(name, "nothing to read", owl_read(house, canvas, NULL, 0, palette, &picture, &part), 0);

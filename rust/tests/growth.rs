@@ -80,3 +80,20 @@ fn refused_by_the_limits_alone() {
         assert_eq!(answer.map(|image| image.width * image.height), Ok(60_000));
     }
 }
+
+/// The canvas is cut to what the limit of pixels leaves possible, and never below what a picture needs.
+#[test]
+fn few_pixels_and_long_sides() {
+    let limits = Limits { repeats: 100, pixels: 70, ..Limits::CRATE };
+    for (payload, size) in
+        [("\"1;1;65;1", (65, 1)), ("\"1;1;1;70", (1, 70)), ("\"1;1;1;7!10?", (10, 7)), ("!11?", (11, 6))]
+    {
+        for answer in every_way(payload.as_bytes(), limits) {
+            assert_eq!(answer.map(|image| image.dimensions()), Ok(size), "{payload}");
+        }
+    }
+    refused("\"1;1;71;1~", limits, Refusal::Pixels);
+    refused("\"1;1;65;1~", limits, Refusal::Pixels);
+    refused("\"1;1;1;7!11?", limits, Refusal::Pixels);
+    refused("\"1;1;1;70??", limits, Refusal::Pixels);
+}
