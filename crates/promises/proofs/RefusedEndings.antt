@@ -2,7 +2,7 @@
 use Prim.Native.Nat.{ℕ}
 use mathlib.Core.Bool.{true}
 use mathlib.Core.List.{List, [], _∷_}
-use mathlib.Core.Path.{_≡_, refl, sym, ap, subst, _∙_}
+use mathlib.Core.Path.{_≡_, subst}
 use native.Mathlib.Omega.{arith}
 use lib.ListN.{length}
 use Rattle.colours.specs.declared.Palette.{Palette}
@@ -12,16 +12,17 @@ use Rattle.frame.specs.declared.Refusal.{Refusal}
 use Rattle.meaning.specs.Calls as calls
 use Rattle.meaning.specs.Callers.{fedAll}
 use Rattle.meaning.specs.Histories.{Ask}
-use Rattle.meaning.specs.Payload.{Finished, finished, turnedDown, reportOf}
-use Rattle.meaning.specs.Sessions.{Reading, finishReading, End, Phase, over}
+use Rattle.meaning.specs.Sessions.{Reading, End, Phase, over}
 use Rattle.meaning.proofs.AreaLaws.{Sound}
 use Rattle.meaning.proofs.DcsEnds.{Settled, feed-settled, end-reports}
 use Rattle.payload.specs.declared.Finishing.the-variants as finishes
 use Rattle.payload.specs.Judge.{openable}
+use Rattle.payload.specs.History.{settingMeant}
 use Rattle.dcs.specs.declared.Session.{Session}
 use Rattle.dcs.specs.Session.{finishedBy}
-use Rattle.dcs.specs.History.{SamePlace, atStart, atIntroduced, inHeader, Stands, before, refused, inside, escaped, ended, feedMeant, fedAllMeant}
+use Rattle.dcs.specs.History.{atStart, atIntroduced, inHeader, Stands, before, refused, inside, escaped, ended, fedAllMeant}
 use Rattle.dcs.proofs.History as history
+use Rattle.dcs.proofs.Openings.{opened-stands}
 use Rattle.promises.proofs.DcsDemands as demands
 use Rattle.promises.proofs.RefusedEnds.{dcs-end-pending}
 
@@ -36,7 +37,7 @@ sound-at l stride p opening (refused (atIntroduced h)) e r q = absurd (let never
 sound-at l stride p opening (refused (inHeader h)) e r q = absurd (let never : _≡_ {A = ℕ} 0 1 = cc in omega arith)
 sound-at l stride p opening (inside k going) e r q = absurd (let never : _≡_ {A = ℕ} 0 1 = cc in omega arith)
 sound-at l stride p opening (escaped k) e r q = absurd (let never : _≡_ {A = ℕ} 0 1 = cc in omega arith)
-sound-at l stride p opening (ended {r = t} k) e r q = let same : t ≡ r = cc q in subst (λ (x : Reading). Sound _ (x .drawing)) same (k .drawing .sound)
+sound-at l stride p opening (ended {r = t} k) e r q = let same : t ≡ r = cc q in subst (λ (x : Reading). Sound (settingMeant l stride (length opening)) (x .drawing)) same (k .drawing .sound)
 
 -- after any calls nothing is pending at an end
 calls-settled : (p : Palette) (size : ℕ) (m : calls.Session Phase) (cs : List Ask) → Settled (m .state)
@@ -51,7 +52,7 @@ pub dcs-end-few : (l : Limits) (stride : ℕ) (p : Palette) (opening : List ℕ)
     (x : Refusal) → ¬ (numberOf x ≡ 8) → ¬ (numberOf x ≡ 9) → ¬ (numberOf x ≡ 12)
     → ¬ (finishedBy (demands.past l stride p opening opens cs .state .0) owner (demands.past l stride p opening opens cs .state .1) .0 .answer ≡ finishes.Refused x)
 dcs-end-few l stride p opening opens cs owner x a b c e =
-    let k = history.history-stands l stride p opening (demands.stands l stride p opening opens cs) cs .session in
+    let k = history.history-stands l stride p opening (opened-stands l stride p opening opens) cs .state in
     let h = dcs-end-pending l stride p opening k owner x a b c .0 e .1 .1 in
     let quiet : Settled (over (h .0) (h .1)) = subst Settled (h .2) (calls-settled p (length opening) (demands.openedMeant l stride p opening) cs tt) in
     let reports = end-reports _ (h .0) (h .1) (sound-at l stride p opening k (h .0) (h .1) (h .2)) quiet in

@@ -5,8 +5,8 @@ ghost use Prim.Native.Nat.{_-_, _≤_};
 
 mod calls;
 mod fields;
+mod one_shot;
 mod reader;
-mod reading;
 mod record;
 mod report;
 mod seen;

@@ -6,7 +6,7 @@ use crate::fields::has_picture;
 use crate::fields::height_of;
 use crate::fields::kind_of;
 use crate::fields::width_of;
-use crate::reading;
+use crate::one_shot;
 use crate::report::Picture;
 use crate::seen::Shown;
 use crate::seen::fill;
@@ -49,7 +49,7 @@ struct Trial {
 
 fn run(record: &[u8], canvas: &mut [u8], plan: Plan, owner: Palette) -> Ran {
     if kind_of(record) == ONE_SHOT {
-        return reading::run(record, canvas, plan.stride, owner);
+        return one_shot::run(record, canvas, plan.stride, owner);
     }
     session::run(record, canvas, plan.stride, plan.allowance, owner)
 }
