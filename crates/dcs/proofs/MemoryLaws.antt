@@ -19,7 +19,7 @@ use Rattle.dcs.specs.declared.Phase.the-variants as phases
 use Rattle.dcs.specs.declared.Session.{Session}
 use Rattle.dcs.specs.declared.lead.Place.{Place}
 use Rattle.dcs.specs.declared.lead.Place.the-variants as places
-use Rattle.dcs.specs.Memory.{placeNumber, endingNumber, phaseNumber, phaseFrom, numbersOf, tableOf, sessionFrom, EndingRanged, PhaseRanged, Ranged}
+use Rattle.dcs.specs.Memory.{placeNumber, endingNumber, phaseNumber, phaseFrom, nineWritten, numbersOf, tableOf, sessionFrom, EndingRanged, PhaseRanged, Ranged}
 
 -- ---- what the functions come to
 
@@ -35,8 +35,8 @@ phase-as e k = k ∙ ap phaseNumber (sym e)
 pub ruleset codes-as = (place-as, ending-as, phase-as)
 
 pub numbers-told : (s : Session) {a vs : List ℕ} {k : ℕ} → vs ≡ parameters.numbersOf (s .header) → a ≡ payload.numbersOf (s .payload) → k ≡ phaseNumber (s .phase)
-    → payload.nineWritten (set a 34 k) 35 vs ≡ numbersOf s
-unfolding numbersOf payload.nineWritten payload.numbersOf payload.ownNumbers payload.groundNumbers payload.frameNumbers payload.penNumbers payload.sheetNumbers payload.rasterNumbers payload.commandNumbers parameters.numbersOf
+    → nineWritten (set a 34 k) 35 vs ≡ numbersOf s
+unfolding numbersOf nineWritten payload.numbersOf payload.ownNumbers payload.groundNumbers payload.frameNumbers payload.penNumbers payload.sheetNumbers payload.rasterNumbers payload.commandNumbers parameters.numbersOf
 numbers-told s ev ea ek = rw (ev, ea, ek) refl
 
 pub session-of : (ns table : List ℕ) {s : payloadSession.Session} {h : Parameters} {t : Phase}

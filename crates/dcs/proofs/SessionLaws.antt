@@ -1,6 +1,6 @@
 -- Laws of a DCS session: one for each way through a function.
 use Prim.Native.Nat.{ℕ, _+_, _-_, _≤_, _<_}
-use mathlib.Core.Bool.{true, false, cond, _||_}
+use mathlib.Core.Bool.{Bool, true, false, cond, _||_}
 use mathlib.Core.List.{List, [], _∷_}
 use mathlib.Core.Path.{_≡_, refl, sym, ap, ap₂, subst, _∙_}
 use native.Mathlib.Numerals.{add-one}
@@ -42,25 +42,26 @@ use Rattle.dcs.specs.declared.Opened.{Opened}
 use Rattle.dcs.specs.declared.Phase.{Phase}
 use Rattle.dcs.specs.declared.Phase.the-variants as phases
 use Rattle.dcs.specs.declared.Session.{Session}
+use Rattle.dcs.specs.declared.Told.{Told}
 use Rattle.dcs.specs.declared.lead.Lead.{Lead}
 use Rattle.dcs.specs.declared.lead.Led.{Led}
 use Rattle.dcs.specs.declared.lead.Led.the-variants as leds
 use Rattle.dcs.specs.declared.lead.Place.{Place}
 use Rattle.dcs.specs.declared.lead.Place.the-variants as places
 use Rattle.dcs.specs.Lead.{leadFrom}
-use Rattle.dcs.specs.Session.{sessionOf, openedBy, givenAt, settingsFrom, movedTo, overAs, escapedBy, closedBy, passedOn, fedPayload, ledTo, fedLead, fedIn, fedAs, fedBy, finishedIn, finishedAs, finishedBy}
+use Rattle.dcs.specs.Session.{sessionOf, openedBy, givenAt, settingsFrom, movedTo, overAs, escapedBy, closedBy, overTold, escapedTold, closedTold, countOf, passedTold, toldOf, passedOn, fedPayload, ledTo, fedLead, fedIn, fedAs, fedBy, endJudged, finishedIn, finishedAs, finishedBy}
 use Rattle.dcs.proofs.Bounds.{AtMost, fed-bound, lead-bound}
 use Rattle.dcs.proofs.Phase as PhaseType
 
 -- ---- opening, and the header's parameters
 
-pub opened-as : {o : payloadOpened.Opened} {h : Parameters} (l : Limits) (stride : ℕ) (p : Palette) (size : ℕ) → o ≡ reservedBy l stride p size → h ≡ numbers.opened 3
-    → _≡_ {A = Opened}
-    (record { answer = o .answer; session = record { payload = o .session; header = h; phase = phases.Before places.Start } })
-    (openedBy l stride p size)
+pub opened-as : {o : payloadOpened.Opened} {h : Parameters} {s : Session} (l : Limits) (stride : ℕ) (p : Palette) (size : ℕ)
+    → o ≡ reservedBy l stride p size → h ≡ numbers.opened 3
+    → s ≡ sessionOf (o .session) h (phases.Before places.Start) → _≡_ {A = Opened} (record { answer = o .answer; session = s }) (openedBy l stride p size)
 unfolding openedBy
-opened-as l stride p size e k =
-    ap₂ (λ (x : payloadOpened.Opened) (h : Parameters). record { answer = x .answer; session = sessionOf (x .session) h (phases.Before places.Start) }) e k
+opened-as {o} l stride p size e k d =
+    ap (λ (x : Session). record { answer = o .answer; session = x }) d
+    ∙ ap₂ (λ (x : payloadOpened.Opened) (h : Parameters). record { answer = x .answer; session = sessionOf (x .session) h (phases.Before places.Start) }) e k
 
 pub given-none : {n : ℕ} (v : Parameters) (i : ℕ) → n ≡ v .count → n ≤ i → givens.Nothing ≡ givenAt v i
 unfolding givenAt
@@ -79,80 +80,139 @@ pub ruleset openings-laws = (opened-as, given-none, given-some, settings-as)
 
 -- ---- the end
 
-pub moved-as : (s : Session) (t : Phase) → _≡_ {A = Session} (record { payload = s .payload; header = s .header; phase = t }) (movedTo s t)
-unfolding movedTo
-moved-as s t = refl
+pub over-as : (n i : ℕ) (e : Ending) → _≡_ {A = Told} (record { answer = answers.Ended n i e; phase = phases.Over e }) (overTold n i e)
+unfolding overTold
+over-as n i e = refl
 
-pub over-as : {k : Session} (s : Session) (n i : ℕ) (e : Ending) → k ≡ movedTo s (phases.Over e)
-    → _≡_ {A = Fed} (record { answer = answers.Ended n i e; session = k }) (overAs s n i e)
-unfolding overAs
-over-as s n i e h = ap (λ (k : Session). record { answer = answers.Ended n i e; session = k }) h
+module _ (bytes : List ℕ) (at ink : ℕ) where
+  pub escaped-waits : length bytes ≤ at → _≡_ {A = Told} (record { answer = answers.More at ink; phase = phases.Escaped }) (escapedTold (drop at bytes) at ink)
+  unfolding escapedTold
+  escaped-waits h = ap (λ (bs : List ℕ). escapedTold bs at ink) (sym (drop-of-length-le bytes h))
 
-module _ (s : Session) (bytes : List ℕ) (at ink : ℕ) where
-  pub escaped-waits : {k : Session} → length bytes ≤ at → k ≡ movedTo s phases.Escaped
-      → _≡_ {A = Fed} (record { answer = answers.More at ink; session = k }) (escapedBy s (drop at bytes) at ink)
-  unfolding escapedBy
-  escaped-waits h e =
-      ap (λ (k : Session). record { answer = answers.More at ink; session = k }) e
-      ∙ ap (λ (bs : List ℕ). escapedBy s bs at ink) (sym (drop-of-length-le bytes h))
-
-  pub closed-nowhere : length bytes ≤ at → _≡_ {A = Fed} (record { answer = answers.More at ink; session = s }) (closedBy s (drop at bytes) at ink)
-  unfolding closedBy
-  closed-nowhere h = ap (λ (bs : List ℕ). closedBy s bs at ink) (sym (drop-of-length-le bytes h))
+  pub closed-nowhere : length bytes ≤ at → _≡_ {A = Told} (record { answer = answers.More at ink; phase = phases.Within }) (closedTold (drop at bytes) at ink)
+  unfolding closedTold
+  closed-nowhere h = ap (λ (bs : List ℕ). closedTold bs at ink) (sym (drop-of-length-le bytes h))
 
   here : at < length bytes → drop at bytes ≡ getD bytes at 0 ∷ drop (at + 1) bytes
   here more = rw add-one (drop-cons bytes at 0 more)
 
-  module _ {r : Fed} (more : at < length bytes) where
-    escaped-here : r ≡ escapedBy s (getD bytes at 0 ∷ drop (at + 1) bytes) at ink → r ≡ escapedBy s (drop at bytes) at ink
-    escaped-here e = e ∙ ap (λ (bs : List ℕ). escapedBy s bs at ink) (sym (here more))
+  module _ {r : Told} (more : at < length bytes) where
+    escaped-here : r ≡ escapedTold (getD bytes at 0 ∷ drop (at + 1) bytes) at ink → r ≡ escapedTold (drop at bytes) at ink
+    escaped-here e = e ∙ ap (λ (bs : List ℕ). escapedTold bs at ink) (sym (here more))
 
-    closed-here : r ≡ closedBy s (getD bytes at 0 ∷ drop (at + 1) bytes) at ink → r ≡ closedBy s (drop at bytes) at ink
-    closed-here e = e ∙ ap (λ (bs : List ℕ). closedBy s bs at ink) (sym (here more))
+    closed-here : r ≡ closedTold (getD bytes at 0 ∷ drop (at + 1) bytes) at ink → r ≡ closedTold (drop at bytes) at ink
+    closed-here e = e ∙ ap (λ (bs : List ℕ). closedTold bs at ink) (sym (here more))
 
-    pub escaped-complete : getD bytes at 0 ≡ 0x5C → r ≡ overAs s (at + 1) ink endings.Complete → r ≡ escapedBy s (drop at bytes) at ink
-    unfolding escapedBy
+    pub escaped-complete : getD bytes at 0 ≡ 0x5C → r ≡ overTold (at + 1) ink endings.Complete → r ≡ escapedTold (drop at bytes) at ink
+    unfolding escapedTold
     escaped-complete b e = escaped-here (e ∙ sym (cond-yes _ _ (eq-eqb _ _ b)))
 
-    pub escaped-other : (getD bytes at 0 ≡ 0x5C → ⊥) → r ≡ overAs s at ink (endings.Interrupted 0x1B) → r ≡ escapedBy s (drop at bytes) at ink
-    unfolding escapedBy
+    pub escaped-other : (getD bytes at 0 ≡ 0x5C → ⊥) → r ≡ overTold at ink (endings.Interrupted 0x1B) → r ≡ escapedTold (drop at bytes) at ink
+    unfolding escapedTold
     escaped-other b e = escaped-here (e ∙ sym (cond-no _ _ (ne-eqb _ _ b)))
 
-    pub closed-escape : getD bytes at 0 ≡ 0x1B → r ≡ escapedBy s (drop (at + 1) bytes) (at + 1) ink → r ≡ closedBy s (drop at bytes) at ink
-    unfolding closedBy
+    pub closed-escape : getD bytes at 0 ≡ 0x1B → r ≡ escapedTold (drop (at + 1) bytes) (at + 1) ink → r ≡ closedTold (drop at bytes) at ink
+    unfolding closedTold
     closed-escape b e = closed-here (e ∙ sym (cond-yes _ _ (eq-eqb _ _ b)))
 
     module _ (n1B : getD bytes at 0 ≡ 0x1B → ⊥) where
-      pub closed-complete : getD bytes at 0 ≡ 0x9C → r ≡ overAs s (at + 1) ink endings.Complete → r ≡ closedBy s (drop at bytes) at ink
-      unfolding closedBy
+      pub closed-complete : getD bytes at 0 ≡ 0x9C → r ≡ overTold (at + 1) ink endings.Complete → r ≡ closedTold (drop at bytes) at ink
+      unfolding closedTold
       closed-complete b e = closed-here (e ∙ sym (cond-no _ _ (ne-eqb _ _ n1B) ∙ cond-yes _ _ (eq-eqb _ _ b)))
 
       module _ (n9C : getD bytes at 0 ≡ 0x9C → ⊥) where
         -- what is left to tell apart
-        tail : r ≡ cond (eqb (getD bytes at 0) 0x18 || eqb (getD bytes at 0) 0x1A) (overAs s (at + 1) ink (endings.Cancelled (getD bytes at 0))) (overAs s at ink (endings.Interrupted (getD bytes at 0)))
-            → r ≡ closedBy s (drop at bytes) at ink
-        unfolding closedBy
+        tail : r ≡ cond (eqb (getD bytes at 0) 0x18 || eqb (getD bytes at 0) 0x1A) (overTold (at + 1) ink (endings.Cancelled (getD bytes at 0))) (overTold at ink (endings.Interrupted (getD bytes at 0)))
+            → r ≡ closedTold (drop at bytes) at ink
+        unfolding closedTold
         tail e = closed-here (e ∙ sym (cond-no _ _ (ne-eqb _ _ n1B) ∙ cond-no _ _ (ne-eqb _ _ n9C)))
 
         -- 18 and 1A
-        cancelled : {k : ℕ} → (eqb (getD bytes at 0) 0x18 || eqb (getD bytes at 0) 0x1A) ≡ true → getD bytes at 0 ≡ k → r ≡ overAs s (at + 1) ink (endings.Cancelled k)
-            → r ≡ closedBy s (drop at bytes) at ink
-        cancelled t b e = tail (e ∙ ap (λ (k : ℕ). overAs s (at + 1) ink (endings.Cancelled k)) (sym b) ∙ sym (cond-yes _ _ t))
+        cancelled : {k : ℕ} → (eqb (getD bytes at 0) 0x18 || eqb (getD bytes at 0) 0x1A) ≡ true → getD bytes at 0 ≡ k
+            → r ≡ overTold (at + 1) ink (endings.Cancelled k)
+            → r ≡ closedTold (drop at bytes) at ink
+        cancelled t b e = tail (e ∙ ap (λ (k : ℕ). overTold (at + 1) ink (endings.Cancelled k)) (sym b) ∙ sym (cond-yes _ _ t))
 
-        pub closed-can : getD bytes at 0 ≡ 0x18 → r ≡ overAs s (at + 1) ink (endings.Cancelled 0x18) → r ≡ closedBy s (drop at bytes) at ink
+        pub closed-can : getD bytes at 0 ≡ 0x18 → r ≡ overTold (at + 1) ink (endings.Cancelled 0x18) → r ≡ closedTold (drop at bytes) at ink
         closed-can b e = cancelled (rw (eq-eqb (getD bytes at 0) 0x18 b) refl) b e
 
-        pub closed-sub : (getD bytes at 0 ≡ 0x18 → ⊥) → getD bytes at 0 ≡ 0x1A → r ≡ overAs s (at + 1) ink (endings.Cancelled 0x1A) → r ≡ closedBy s (drop at bytes) at ink
+        pub closed-sub : (getD bytes at 0 ≡ 0x18 → ⊥) → getD bytes at 0 ≡ 0x1A → r ≡ overTold (at + 1) ink (endings.Cancelled 0x1A)
+            → r ≡ closedTold (drop at bytes) at ink
         closed-sub n b e = cancelled (rw (ne-eqb (getD bytes at 0) 0x18 n, eq-eqb (getD bytes at 0) 0x1A b) refl) b e
 
-        pub closed-other : (getD bytes at 0 ≡ 0x18 → ⊥) → (getD bytes at 0 ≡ 0x1A → ⊥) → r ≡ overAs s at ink (endings.Interrupted (getD bytes at 0)) → r ≡ closedBy s (drop at bytes) at ink
+        pub closed-other : (getD bytes at 0 ≡ 0x18 → ⊥) → (getD bytes at 0 ≡ 0x1A → ⊥) → r ≡ overTold at ink (endings.Interrupted (getD bytes at 0))
+            → r ≡ closedTold (drop at bytes) at ink
         closed-other n m e =
             let t : (eqb (getD bytes at 0) 0x18 || eqb (getD bytes at 0) 0x1A) ≡ false = rw (ne-eqb (getD bytes at 0) 0x18 n, ne-eqb (getD bytes at 0) 0x1A m) refl in
             tail (e ∙ sym (cond-no _ _ t))
 
-pub ruleset endings-laws = (moved-as, over-as, escaped-waits, escaped-complete, escaped-other, closed-nowhere, closed-escape, closed-complete, closed-can, closed-sub, closed-other)
+pub ruleset endings-laws =
+    (over-as, escaped-waits, escaped-complete, escaped-other, closed-nowhere, closed-escape, closed-complete, closed-can, closed-sub, closed-other)
+
+-- ---- what is told, as the whole outcome
+
+pub told-as : {k : Session} (p : payloadSession.Session) (h : Parameters) (t : Told) → k ≡ sessionOf p h (t .phase)
+    → _≡_ {A = Fed} (record { answer = t .answer; session = k }) (toldOf p h t)
+unfolding toldOf
+told-as p h t e = ap (λ (k : Session). record { answer = t .answer; session = k }) e
+
+module _ (p : payloadSession.Session) (h : Parameters) where
+  told-cond : (b : Bool) (x y : Told) → toldOf p h (cond b x y) ≡ cond b (toldOf p h x) (toldOf p h y)
+  told-cond true x y = refl
+  told-cond false x y = refl
+
+  told-escaped : (t : Phase) (bs : List ℕ) (n i : ℕ) → toldOf p h (escapedTold bs n i) ≡ escapedBy (sessionOf p h t) bs n i
+  unfolding toldOf escapedTold escapedBy overTold overAs movedTo
+  told-escaped t [] n i = refl
+  told-escaped t (b ∷ bs) n i = told-cond (eqb b 0x5C) _ _
+
+  told-closed : (bs : List ℕ) (n i : ℕ) → toldOf p h (closedTold bs n i) ≡ closedBy (sessionOf p h phases.Within) bs n i
+  unfolding toldOf closedTold closedBy overTold overAs movedTo
+  told-closed [] n i = refl
+  told-closed (b ∷ bs) n i =
+      told-cond (eqb b 0x1B) _ _
+      ∙ ap₂ (cond (eqb b 0x1B)) (told-escaped phases.Within bs (n + 1) i)
+      (told-cond (eqb b 0x9C) _ _ ∙ ap (cond (eqb b 0x9C) _) (told-cond (eqb b 0x18 || eqb b 0x1A) _ _))
+
+  told-passed : (a : payloadAnswer.Answer) (bs : List ℕ) (n : ℕ) → toldOf p h (passedTold a bs n) ≡ passedOn a (sessionOf p h phases.Within) bs n
+  unfolding toldOf passedTold passedOn
+  told-passed (payloadAnswers.More c i) bs n = refl
+  told-passed (payloadAnswers.Stopped c i) bs n = refl
+  told-passed (payloadAnswers.Ended c i b) bs n = told-closed (drop c bs) (n + c) i
+  told-passed (payloadAnswers.Refused r) bs n = refl
 
 -- ---- in the payload
+
+-- what an answer counts
+module _ {a : payloadAnswer.Answer} {c i : ℕ} where
+  pub count-more : a ≡ payloadAnswers.More c i → countOf a ≡ c
+  unfolding countOf
+  count-more e = ap countOf e
+
+  pub count-stopped : a ≡ payloadAnswers.Stopped c i → countOf a ≡ c
+  unfolding countOf
+  count-stopped e = ap countOf e
+
+  pub count-ended : {b : ℕ} → a ≡ payloadAnswers.Ended c i b → countOf a ≡ c
+  unfolding countOf
+  count-ended e = ap countOf e
+
+at-most : (m : ℕ) (a : payloadAnswer.Answer) → AtMost m a → countOf a ≤ m
+unfolding countOf
+at-most m (payloadAnswers.More c i) h = h
+at-most m (payloadAnswers.Stopped c i) h = h
+at-most m (payloadAnswers.Ended c i b) h = h
+at-most m (payloadAnswers.Refused r) h = omega arith
+
+pub passed-as : {r : Told} {a b : payloadAnswer.Answer} (bs : List ℕ) (n : ℕ) → a ≡ b → r ≡ passedTold b bs n → r ≡ passedTold a bs n
+passed-as bs n e h = h ∙ ap (λ (a : payloadAnswer.Answer). passedTold a bs n) (sym e)
+
+pub passed-ended : {r : Told} {a : payloadAnswer.Answer} {c i b : ℕ} (bytes : List ℕ) (from : ℕ) → a ≡ payloadAnswers.Ended c i b
+    → r ≡ closedTold (drop (from + c) bytes) (from + c) i
+    → r ≡ passedTold a (drop from bytes) from
+unfolding passedTold
+passed-ended {c = c} {i = i} bytes from e h =
+    passed-as (drop from bytes) from e (h ∙ ap (λ (bs : List ℕ). closedTold bs (from + c) i) (sym (drop-drop c from bytes)))
 
 -- the part of a slice from a place on
 pub part-drop : (bytes : List ℕ) (from : ℕ) → take (length bytes - from) (drop from bytes) ≡ drop from bytes
@@ -163,143 +223,156 @@ module _ (p : payloadSession.Session) (canvas bytes : List ℕ) (from allowance 
   whole = fed ∙ ap (λ (bs : List ℕ). payload.fedBy p canvas bs allowance) (part-drop bytes from)
 
   -- the call has bytes enough for what it counts
-  pub passed-bound : {a : payloadAnswer.Answer} → f .answer ≡ a → AtMost (length bytes - from) a
-  passed-bound {a} e =
-      subst (λ (n : ℕ). AtMost n a) (length-drop from bytes)
-      (subst (AtMost (length (drop from bytes))) (ap (λ (x : payloadFed.Fed × List ℕ). x .0 .answer) (sym whole) ∙ e) (fed-bound p canvas (drop from bytes) allowance))
+  pub passed-bound : from ≤ length bytes → from + countOf (f .answer) ≤ length bytes
+  passed-bound h =
+      let most : AtMost (length (drop from bytes)) (f .answer) =
+      subst (AtMost (length (drop from bytes))) (ap (λ (x : payloadFed.Fed × List ℕ). x .0 .answer) (sym whole)) (fed-bound p canvas (drop from bytes) allowance) in
+      omega (arith, h, at-most (length (drop from bytes)) (f .answer) most, length-drop from bytes)
 
-module _ (s : Session) (canvas bytes : List ℕ) (from allowance : ℕ) {f : payloadFed.Fed} {after : List ℕ} {k : Session} {r : Fed} (call : (f, after) ≡ payload.fedBy (s .payload) canvas (take (length bytes - from) (drop from bytes)) allowance) (read : k ≡ sessionOf (f .session) (s .header) phases.Within) where
-  passed : {a : payloadAnswer.Answer} → f .answer ≡ a → r ≡ passedOn a k (drop from bytes) from → (r, after) ≡ fedPayload s canvas (drop from bytes) from allowance
+  pub payload-fed : {t : Told} {r : Fed} (h : Parameters) → t ≡ passedTold (f .answer) (drop from bytes) from → r ≡ toldOf (f .session) h t
+      → (r, after) ≡ fedPayload (sessionOf p h phases.Within) canvas (drop from bytes) from allowance
   unfolding fedPayload
-  passed e h =
-      ap (λ (x : Fed). (x, after))
-      (h
-      ∙ ap₂ (λ (a : payloadAnswer.Answer) (x : Session). passedOn a x (drop from bytes) from) (sym e) read)
-      ∙ ap (λ (x : payloadFed.Fed × List ℕ). (passedOn (x .0 .answer) (sessionOf (x .0 .session) (s .header) phases.Within) (drop from bytes) from, x .1)) (whole (s .payload) canvas bytes from allowance call)
+  payload-fed h t r =
+      ap (λ (x : Fed). (x, after)) (r ∙ ap (toldOf (f .session) h) t ∙ told-passed (f .session) h (f .answer) (drop from bytes) from)
+      ∙ ap (λ (x : payloadFed.Fed × List ℕ). (passedOn (x .0 .answer) (sessionOf (x .0 .session) h phases.Within) (drop from bytes) from, x .1)) whole
 
-  module _ {c i : ℕ} where
-    pub passed-more : f .answer ≡ payloadAnswers.More c i → r ≡ record { answer = answers.More (from + c) i; session = k } → (r, after) ≡ fedPayload s canvas (drop from bytes) from allowance
-    unfolding passedOn
-    passed-more e h = passed e h
-
-    pub passed-stopped : f .answer ≡ payloadAnswers.Stopped c i → r ≡ record { answer = answers.Stopped (from + c) i; session = k } → (r, after) ≡ fedPayload s canvas (drop from bytes) from allowance
-    unfolding passedOn
-    passed-stopped e h = passed e h
-
-    pub passed-ended : {b : ℕ} → f .answer ≡ payloadAnswers.Ended c i b → r ≡ closedBy k (drop (from + c) bytes) (from + c) i → (r, after) ≡ fedPayload s canvas (drop from bytes) from allowance
-    unfolding passedOn
-    passed-ended e h = passed e (h ∙ ap (λ (bs : List ℕ). closedBy k bs (from + c) i) (sym (drop-drop c from bytes)))
-
-  pub passed-refused : {n : Refusal} → f .answer ≡ payloadAnswers.Refused n → r ≡ record { answer = answers.Refused n; session = k } → (r, after) ≡ fedPayload s canvas (drop from bytes) from allowance
-  unfolding passedOn
-  passed-refused e h = passed e h
-
-pub ruleset payloads = (passed-more, passed-stopped, passed-ended, passed-refused)
+pub ruleset payloads = (passed-as, passed-ended, passed-bound, payload-fed)
 
 -- ---- before it
 
-module _ (s : Session) (t : Place) (canvas bytes : List ℕ) (allowance : ℕ) {l : Lead} (lead : l ≡ leadFrom bytes 0 t (s .header)) where
+module _ (p : payloadSession.Session) (h : Parameters) (t : Place) (canvas bytes : List ℕ) (allowance : ℕ) {l : Lead} (lead : l ≡ leadFrom bytes 0 t h) where
   pub led-bound : l .consumed ≤ length bytes
-  led-bound = omega (arith, lead-bound bytes 0 t (s .header), ap (λ (x : Lead). x .consumed) lead)
+  led-bound = omega (arith, lead-bound bytes 0 t h, ap (λ (x : Lead). x .consumed) lead)
 
-  led : {x : Led} {r : Fed × List ℕ} → l .led ≡ x → r ≡ ledTo x l s canvas bytes allowance → r ≡ fedLead s t canvas bytes allowance
+  led : {x : Led} {r : Fed × List ℕ} → l .led ≡ x → r ≡ ledTo x l (sessionOf p h (phases.Before t)) canvas bytes allowance
+      → r ≡ fedLead (sessionOf p h (phases.Before t)) t canvas bytes allowance
   unfolding fedLead
-  led e h =
-      h
-      ∙ ap (λ (x : Led). ledTo x l s canvas bytes allowance) (sym e)
-      ∙ ap (λ (x : Lead). ledTo (x .led) x s canvas bytes allowance) lead
+  led e k =
+      k
+      ∙ ap (λ (x : Led). ledTo x l (sessionOf p h (phases.Before t)) canvas bytes allowance) (sym e)
+      ∙ ap (λ (x : Lead). ledTo (x .led) x (sessionOf p h (phases.Before t)) canvas bytes allowance) lead
 
-  module _ {k : Session} {r : Fed} where
-    pub led-on : l .led ≡ leds.On → k ≡ sessionOf (s .payload) (l .header) (phases.Before (l .place)) → r ≡ record { answer = answers.More (l .consumed) 0; session = k }
-        → (r, canvas) ≡ fedLead s t canvas bytes allowance
-    unfolding ledTo
-    led-on e k h = led e (ap (λ (x : Fed). (x, canvas)) (h ∙ ap (λ (x : Session). record { answer = answers.More (l .consumed) 0; session = x }) k))
+  module _ {r : Fed} where
+    pub led-on : l .led ≡ leds.On → r ≡ toldOf p (l .header) (record { answer = answers.More (l .consumed) 0; phase = phases.Before (l .place) })
+        → (r, canvas) ≡ fedLead (sessionOf p h (phases.Before t)) t canvas bytes allowance
+    unfolding ledTo toldOf
+    led-on e k = led e (ap (λ (x : Fed). (x, canvas)) k)
 
-    pub led-refused : {n : Refusal} {y : payloadSession.Session} → l .led ≡ leds.Refused n → y ≡ failedOf (s .payload) → k ≡ sessionOf y (l .header) (phases.Before (l .place))
-        → r ≡ record { answer = answers.Refused n; session = k } → (r, canvas) ≡ fedLead s t canvas bytes allowance
-    unfolding ledTo
-    led-refused {n} e y k h =
+    pub led-refused : {n : Refusal} {y : payloadSession.Session} → l .led ≡ leds.Refused n → y ≡ failedOf p
+        → r ≡ toldOf y (l .header) (record { answer = answers.Refused n; phase = phases.Before (l .place) })
+        → (r, canvas) ≡ fedLead (sessionOf p h (phases.Before t)) t canvas bytes allowance
+    unfolding ledTo toldOf
+    led-refused {n} e y k =
         led e
         (ap (λ (x : Fed). (x, canvas))
-        (h
-        ∙ ap (λ (x : Session). record { answer = answers.Refused n; session = x })
-        (k ∙ ap (λ (x : payloadSession.Session). sessionOf x (l .header) (phases.Before (l .place))) y)))
+        (k ∙ ap (λ (x : payloadSession.Session). toldOf x (l .header) (record { answer = answers.Refused n; phase = phases.Before (l .place) })) y))
 
     pub led-begins : {o : Settings} {b : payloadSession.Session} {l₁ l₂ : List ℕ} → l .led ≡ leds.Begins → o ≡ settingsFrom (l .header)
-        → (b, l₁) ≡ begunBy (s .payload) o canvas → k ≡ sessionOf b (l .header) phases.Within
-        → (r, l₂) ≡ fedPayload k l₁ (drop (l .consumed) bytes) (l .consumed) allowance → (r, l₂) ≡ fedLead s t canvas bytes allowance
+        → (b, l₁) ≡ begunBy p o canvas
+        → (r, l₂) ≡ fedPayload (sessionOf b (l .header) phases.Within) l₁ (drop (l .consumed) bytes) (l .consumed) allowance
+        → (r, l₂) ≡ fedLead (sessionOf p h (phases.Before t)) t canvas bytes allowance
     unfolding ledTo
-    led-begins {l₁ = l₁} e o b k h =
+    led-begins e o b k =
         led e
-        (h
-        ∙ ap (λ (x : Session). fedPayload x l₁ (drop (l .consumed) bytes) (l .consumed) allowance) k
+        (k
         ∙ ap (λ (x : payloadSession.Session × List ℕ). fedPayload (sessionOf (x .0) (l .header) phases.Within) (x .1) (drop (l .consumed) bytes) (l .consumed) allowance)
-        (b ∙ ap (λ (y : Settings). begunBy (s .payload) y canvas) o))
+        (b ∙ ap (λ (y : Settings). begunBy p y canvas) o))
 
 pub ruleset leads = (led-bound, led-on, led-refused, led-begins)
 
 -- ---- a call
+
+module _ (t : Phase) (p : payloadSession.Session) (h : Parameters) (canvas bytes : List ℕ) (allowance : ℕ) where
+  fed-in : {x : Phase} {r : Fed × List ℕ} → t ≡ x → r ≡ fedIn x (sessionOf p h x) canvas bytes allowance → r ≡ fedIn t (sessionOf p h t) canvas bytes allowance
+  fed-in e k = k ∙ ap (λ (x : Phase). fedIn x (sessionOf p h x) canvas bytes allowance) (sym e)
+
+  pub fed-before : {place : Place} {r : Fed} {after : List ℕ} → t ≡ phases.Before place
+      → (r, after) ≡ fedLead (sessionOf p h (phases.Before place)) place canvas bytes allowance
+      → (r, after) ≡ fedIn t (sessionOf p h t) canvas bytes allowance
+  unfolding fedIn
+  fed-before e k = fed-in e k
+
+  pub fed-within : {r : Fed} {after : List ℕ} → t ≡ phases.Within → (r, after) ≡ fedPayload (sessionOf p h phases.Within) canvas (drop 0 bytes) 0 allowance
+      → (r, after) ≡ fedIn t (sessionOf p h t) canvas bytes allowance
+  unfolding fedIn
+  fed-within e k = fed-in e k
+
+  pub fed-escaped : {r : Fed} {x : Told} → t ≡ phases.Escaped → x ≡ escapedTold (drop 0 bytes) 0 0 → r ≡ toldOf p h x
+      → (r, canvas) ≡ fedIn t (sessionOf p h t) canvas bytes allowance
+  unfolding fedIn
+  fed-escaped e x k = fed-in e (ap (λ (r : Fed). (r, canvas)) (k ∙ ap (toldOf p h) x ∙ told-escaped p h phases.Escaped bytes 0 0))
+
+  pub fed-over : {r : Fed} {x : Told} {d : Ending} → t ≡ phases.Over d → x ≡ overTold 0 0 d → r ≡ toldOf p h x
+      → (r, canvas) ≡ fedIn t (sessionOf p h t) canvas bytes allowance
+  unfolding fedIn toldOf overTold overAs movedTo
+  fed-over e x k = fed-in e (ap (λ (r : Fed). (r, canvas)) (k ∙ ap (toldOf p h) x))
 
 module _ (s : Session) (canvas bytes : List ℕ) (allowance : ℕ) {j : Judged} (e : j ≡ feedJudged (s .payload) (length canvas) allowance) where
   pub fed-refused : {n : Refusal} → j ≡ judged.Refused n → _≡_ {A = Fed × List ℕ} (record { answer = answers.Refused n; session = s }, canvas) (fedBy s canvas bytes allowance)
   unfolding fedBy fedAs
   fed-refused h = ap (λ (k : Judged). fedAs k s canvas bytes allowance) (sym h ∙ e)
 
-  module _ (fine : j ≡ judged.Fine) where
-    fed-in : {k : Phase} {r : Fed × List ℕ} → s .phase ≡ k → r ≡ fedIn k s canvas bytes allowance → r ≡ fedBy s canvas bytes allowance
-    unfolding fedBy fedAs
-    fed-in p h =
-        h
-        ∙ ap (λ (x : Phase). fedIn x s canvas bytes allowance) (sym p)
-        ∙ ap (λ (k : Judged). fedAs k s canvas bytes allowance) (sym fine ∙ e)
+  pub fed-on : {r : Fed} {after : List ℕ} → j ≡ judged.Fine
+      → (r, after) ≡ fedIn (s .phase) (sessionOf (s .payload) (s .header) (s .phase)) canvas bytes allowance
+      → (r, after) ≡ fedBy s canvas bytes allowance
+  unfolding fedBy fedAs
+  fed-on fine k = k ∙ ap (λ (k : Judged). fedAs k s canvas bytes allowance) (sym fine ∙ e)
 
-    pub fed-before : {t : Place} {r : Fed} {after : List ℕ} → s .phase ≡ phases.Before t → (r, after) ≡ fedLead s t canvas bytes allowance → (r, after) ≡ fedBy s canvas bytes allowance
-    unfolding fedIn
-    fed-before p h = fed-in p h
-
-    pub fed-within : {r : Fed} {after : List ℕ} → s .phase ≡ phases.Within → (r, after) ≡ fedPayload s canvas (drop 0 bytes) 0 allowance → (r, after) ≡ fedBy s canvas bytes allowance
-    unfolding fedIn
-    fed-within p h = fed-in p h
-
-    pub fed-escaped : {r : Fed} → s .phase ≡ phases.Escaped → r ≡ escapedBy s (drop 0 bytes) 0 0 → (r, canvas) ≡ fedBy s canvas bytes allowance
-    unfolding fedIn
-    fed-escaped p h = fed-in p (ap (λ (x : Fed). (x, canvas)) h)
-
-    pub fed-over : {d : Ending} {r : Fed} → s .phase ≡ phases.Over d → r ≡ overAs s 0 0 d → (r, canvas) ≡ fedBy s canvas bytes allowance
-    unfolding fedIn
-    fed-over p h = fed-in p (ap (λ (x : Fed). (x, canvas)) h)
-
-pub ruleset feedings = (fed-refused, fed-before, fed-within, fed-escaped, fed-over)
+pub ruleset feedings = (fed-refused, fed-on, fed-before, fed-within, fed-escaped, fed-over)
 
 -- ---- finishing
 
-not-over : (s : Session) (owner : Palette) (canvas : List ℕ) (t : Phase) → OneOf (0 ∷ 1 ∷ 2 ∷ []) (tagOf PhaseType.the-type t)
-    → payload.turnedAway owner refusals.Unfinished canvas ≡ finishedIn t s owner canvas
-unfolding finishedIn
-not-over s owner canvas (phases.Before p) h = refl
-not-over s owner canvas phases.Within h = refl
-not-over s owner canvas phases.Escaped h = refl
-not-over s owner canvas (phases.Over e) h = absurd (miss (0 ∷ 1 ∷ 2 ∷ []) 3 tt h)
+module _ {j : Judged} (t : Phase) where
+  pub end-refused : {n : Refusal} → j ≡ judged.Refused n → j ≡ endJudged j t
+  unfolding endJudged
+  end-refused e = e ∙ ap (λ (k : Judged). endJudged k t) (sym e)
 
-module _ (s : Session) (owner : Palette) (canvas : List ℕ) {j : Judged} (e : j ≡ finishJudged (s .payload) (length canvas)) where
-  pub finish-refused : {n : Refusal} → j ≡ judged.Refused n
-      → _≡_ {A = Finished × List ℕ} (record { answer = finishes.Refused n; palette = owner }, canvas) (finishedBy s owner canvas)
-  unfolding finishedBy finishedAs payload.turnedAway
-  finish-refused h = ap (λ (i : Judged). finishedAs i s owner canvas) (sym h ∙ e)
+  pub end-over : {d : Ending} → j ≡ judged.Fine → t ≡ phases.Over d → judged.Fine ≡ endJudged j t
+  unfolding endJudged
+  end-over e k = sym (ap₂ endJudged e k)
 
-  module _ (fine : j ≡ judged.Fine) where
-    finish-in : {r : Finished × List ℕ} → r ≡ finishedIn (s .phase) s owner canvas → r ≡ finishedBy s owner canvas
-    unfolding finishedBy finishedAs
-    finish-in h = h ∙ ap (λ (i : Judged). finishedAs i s owner canvas) (sym fine ∙ e)
+not-over : (t : Phase) → OneOf (0 ∷ 1 ∷ 2 ∷ []) (tagOf PhaseType.the-type t) → judged.Refused refusals.Unfinished ≡ endJudged judged.Fine t
+unfolding endJudged
+not-over (phases.Before p) h = refl
+not-over phases.Within h = refl
+not-over phases.Escaped h = refl
+not-over (phases.Over e) h = absurd (miss (0 ∷ 1 ∷ 2 ∷ []) 3 tt h)
 
-    pub finish-over : {d : Ending} {x : Finished} {after : List ℕ} → s .phase ≡ phases.Over d → (x, after) ≡ payload.finishedBy (s .payload) owner canvas
+pub end-unfinished : {j : Judged} (t : Phase) → j ≡ judged.Fine → OneOf (0 ∷ 1 ∷ 2 ∷ []) (tagOf PhaseType.the-type t)
+    → judged.Refused refusals.Unfinished ≡ endJudged j t
+end-unfinished t e h = not-over t h ∙ ap (λ (k : Judged). endJudged k t) (sym e)
+
+module _ (s : Session) (owner : Palette) (canvas : List ℕ) where
+  -- a finish by its refusal, which is all told by then
+  unfoldable concluded : Judged → Finished × List ℕ
+  concluded judged.Fine = payload.finishedBy (s .payload) owner canvas
+  concluded (judged.Refused n) = payload.turnedAway owner n canvas
+
+  concluded-in : (t : Phase) → concluded (endJudged judged.Fine t) ≡ finishedIn t s owner canvas
+  unfolding concluded endJudged finishedIn
+  concluded-in (phases.Before p) = refl
+  concluded-in phases.Within = refl
+  concluded-in phases.Escaped = refl
+  concluded-in (phases.Over e) = refl
+
+  concluded-as : (j : Judged) → concluded (endJudged j (s .phase)) ≡ finishedAs j s owner canvas
+  unfolding concluded endJudged finishedAs
+  concluded-as judged.Fine = concluded-in (s .phase)
+  concluded-as (judged.Refused n) = refl
+
+  module _ {j k : Judged} (e : j ≡ finishJudged (s .payload) (length canvas)) (d : k ≡ endJudged j (s .phase)) where
+    finish-by : {x : Judged} {r : Finished × List ℕ} → k ≡ x → r ≡ concluded x → r ≡ finishedBy s owner canvas
+    unfolding finishedBy
+    finish-by h y = y ∙ ap concluded (sym h ∙ d) ∙ concluded-as j ∙ ap (λ (i : Judged). finishedAs i s owner canvas) e
+
+    pub finish-refused : {n : Refusal} → k ≡ judged.Refused n
+        → _≡_ {A = Finished × List ℕ} (record { answer = finishes.Refused n; palette = owner }, canvas) (finishedBy s owner canvas)
+    unfolding concluded payload.turnedAway
+    finish-refused h = finish-by h refl
+
+    pub finish-on : {x : Finished} {after : List ℕ} → k ≡ judged.Fine → (x, after) ≡ payload.finishedBy (s .payload) owner canvas
         → (x, after) ≡ finishedBy s owner canvas
-    unfolding finishedIn
-    finish-over p h = finish-in (h ∙ ap (λ (t : Phase). finishedIn t s owner canvas) (sym p))
+    unfolding concluded
+    finish-on h y = finish-by h y
 
-    pub finish-unfinished : OneOf (0 ∷ 1 ∷ 2 ∷ []) (tagOf PhaseType.the-type (s .phase))
-        → _≡_ {A = Finished × List ℕ} (record { answer = finishes.Refused refusals.Unfinished; palette = owner }, canvas) (finishedBy s owner canvas)
-    unfolding payload.turnedAway
-    finish-unfinished h = finish-in (not-over s owner canvas (s .phase) h)
-
-pub ruleset finishings = (finish-refused, finish-over, finish-unfinished)
+pub ruleset finishings = (end-refused, end-over, end-unfinished, finish-refused, finish-on)

@@ -4,7 +4,7 @@ use Prim.Native.Nat.{ℕ, _+_, _%_, _<_}
 use mathlib.Core.Bool.{cond}
 use mathlib.Core.List.{List, [], _∷_, _++_}
 use lib.Dec.{ltb, eqb}
-use lib.ListN.{getD}
+use lib.ListN.{getD, set}
 use Rattle.numbers.specs.Memory as parameters
 use Rattle.payload.specs.Memory as payload
 use Rattle.payload.specs.Ranges as payloadRanges
@@ -45,6 +45,12 @@ phaseFrom n =
     (cond (ltb n 256) (phases.Over endings.Complete)
     (cond (ltb n 512) (phases.Over (endings.Cancelled (n % 256)))
     (phases.Over (endings.Interrupted (n % 256)))))))))
+
+-- nine numbers written from a place on
+unfoldable pub nineWritten : List ℕ → ℕ → List ℕ → List ℕ
+nineWritten ns i vs =
+    set (set (set (set (set (set (set (set (set ns i (getD vs 0 0)) (i + 1) (getD vs 1 0)) (i + 2) (getD vs 2 0)) (i + 3) (getD vs 3 0))
+    (i + 4) (getD vs 4 0)) (i + 5) (getD vs 5 0)) (i + 6) (getD vs 6 0)) (i + 7) (getD vs 7 0)) (i + 8) (getD vs 8 0)
 
 unfoldable pub numbersOf : Session → List ℕ
 unfolding phaseNumber

@@ -32,6 +32,7 @@ use Rattle.dcs.specs.declared.Opened.{Opened}
 use Rattle.dcs.specs.declared.Phase.{Phase}
 use Rattle.dcs.specs.declared.Phase.the-variants as phases
 use Rattle.dcs.specs.declared.Session.{Session}
+use Rattle.dcs.specs.declared.Told.{Told}
 use Rattle.dcs.specs.declared.lead.Lead.{Lead}
 use Rattle.dcs.specs.declared.lead.Led.{Led}
 use Rattle.dcs.specs.declared.lead.Led.the-variants as leds
@@ -43,6 +44,13 @@ use Rattle.dcs.specs.Lead.{leadFrom}
 
 abbrev pub sessionOf : payloadSession.Session → Parameters → Phase → Session
 sessionOf s h t = record { payload = s; header = h; phase = t }
+
+-- one in its payload, and one before it
+abbrev pub within : payloadSession.Session → Parameters → Session
+within s h = sessionOf s h phases.Within
+
+abbrev pub before : payloadSession.Session → Parameters → Place → Session
+before s h t = sessionOf s h (phases.Before t)
 
 -- a payload session that has not begun; nothing is written
 unfoldable pub openedBy : Limits → ℕ → Palette → ℕ → Opened
@@ -86,6 +94,42 @@ closedBy s (b ∷ bs) n i =
     (cond (eqb b 0x9C) (overAs s (n + 1) i endings.Complete)
     (cond (eqb b 0x18 || eqb b 0x1A) (overAs s (n + 1) i (endings.Cancelled b))
     (overAs s n i (endings.Interrupted b))))
+
+-- ---- an answer and the phase after it: what bytes alone decide
+
+unfoldable pub overTold : ℕ → ℕ → Ending → Told
+overTold n i e = record { answer = answers.Ended n i e; phase = phases.Over e }
+
+unfoldable pub escapedTold : List ℕ → ℕ → ℕ → Told
+unfolding overTold
+escapedTold [] n i = record { answer = answers.More n i; phase = phases.Escaped }
+escapedTold (b ∷ bs) n i = cond (eqb b 0x5C) (overTold (n + 1) i endings.Complete) (overTold n i (endings.Interrupted 0x1B))
+
+unfoldable pub closedTold : List ℕ → ℕ → ℕ → Told
+unfolding escapedTold overTold
+closedTold [] n i = record { answer = answers.More n i; phase = phases.Within }
+closedTold (b ∷ bs) n i =
+    cond (eqb b 0x1B) (escapedTold bs (n + 1) i)
+    (cond (eqb b 0x9C) (overTold (n + 1) i endings.Complete)
+    (cond (eqb b 0x18 || eqb b 0x1A) (overTold (n + 1) i (endings.Cancelled b))
+    (overTold n i (endings.Interrupted b))))
+
+-- the bytes that a payload session's call counts
+unfoldable pub countOf : payloadAnswer.Answer → ℕ
+countOf (payloadAnswers.More c i) = c
+countOf (payloadAnswers.Stopped c i) = c
+countOf (payloadAnswers.Ended c i b) = c
+countOf (payloadAnswers.Refused r) = 0
+
+unfoldable pub passedTold : payloadAnswer.Answer → List ℕ → ℕ → Told
+unfolding closedTold
+passedTold (payloadAnswers.More c i) bs n = record { answer = answers.More (n + c) i; phase = phases.Within }
+passedTold (payloadAnswers.Stopped c i) bs n = record { answer = answers.Stopped (n + c) i; phase = phases.Within }
+passedTold (payloadAnswers.Ended c i b) bs n = closedTold (drop c bs) (n + c) i
+passedTold (payloadAnswers.Refused r) bs n = record { answer = answers.Refused r; phase = phases.Within }
+
+unfoldable pub toldOf : payloadSession.Session → Parameters → Told → Fed
+toldOf s h t = record { answer = t .answer; session = sessionOf s h (t .phase) }
 
 -- ---- feeding
 
@@ -138,6 +182,14 @@ unfolding fedAs
 fedBy s canvas bs allowance = fedAs (feedJudged (s .payload) (length canvas) allowance) s canvas bs allowance
 
 -- ---- finishing
+
+-- 8 before the end, where there is no refusal yet
+unfoldable pub endJudged : Judged → Phase → Judged
+endJudged judged.Fine (phases.Before t) = judged.Refused refusals.Unfinished
+endJudged judged.Fine phases.Within = judged.Refused refusals.Unfinished
+endJudged judged.Fine phases.Escaped = judged.Refused refusals.Unfinished
+endJudged judged.Fine (phases.Over e) = judged.Fine
+endJudged (judged.Refused n) t = judged.Refused n
 
 -- 8 before the end
 unfoldable pub finishedIn : Phase → Session → Palette → List ℕ → Finished × List ℕ

@@ -4,9 +4,9 @@ pub mod lead;
 pub mod memory;
 
 ghost use mathlib.Core.Path.{_≡_};
-ghost use Prim.Native.Nat.{_≤_};
+ghost use Prim.Native.Nat.{_+_, _≤_};
 ghost use lib.ListN.{length, drop};
-ghost use Rattle.dcs.specs.Session.{givenAt, settingsFrom, openedBy, sessionOf, movedTo, overAs, escapedBy, closedBy, fedPayload, fedLead, fedBy, finishedBy};
+ghost use Rattle.dcs.specs.Session.{givenAt, settingsFrom, openedBy, sessionOf, within, before, toldOf, overTold, escapedTold, closedTold, countOf, passedTold, fedPayload, fedLead, fedIn, fedBy, endJudged, finishedBy};
 use colours::Palette;
 use frame::Limits;
 use frame::Refusal;
@@ -73,6 +73,12 @@ pub struct Fed {
     pub session: Session,
 }
 
+// What bytes alone decide: an answer, and the phase after it.
+struct Told {
+    answer: Answer,
+    phase: Phase,
+}
+
 // Opens a session for a canvas of `length` bytes and `stride` pixels a row, with a copy of the owner's palette. Nothing is
 // written before `q`.
 pub fn open(limits: Limits, stride: usize, palette: Palette, length: usize) -> Opened
@@ -80,14 +86,11 @@ pub fn open(limits: Limits, stride: usize, palette: Palette, length: usize) -> O
 {
     let opened = begin::reserve(limits, stride, palette, length);
     let answer = opened.answer;
-    let inner = opened.session;
     let header = Parameters::new(3);
-    let session = Session {
-        payload: inner,
-        header,
-        phase: Phase::Before(Place::Start),
-    };
-    Opened { answer, session }
+    Opened {
+        answer,
+        session: session_of(opened.session, header, Phase::Before(Place::Start)),
+    }
 }
 
 // A header's value, where it has so many.
@@ -121,144 +124,178 @@ fn session_of(inner: payload::Session, header: Parameters, phase: Phase) -> Sess
     }
 }
 
-fn answered(answer: Answer, session: Session) -> Fed
-    ensures { λ r. ⌜ r ≡ record { answer = answer; session = session } ⌝ }
+// A call's answer, and its session in the phase after it.
+fn tell(inner: payload::Session, header: Parameters, told: Told) -> Fed
+    ensures { λ r. ⌜ r ≡ toldOf inner header told ⌝ }
 {
-    Fed { answer, session }
-}
-
-fn moved(session: Session, phase: Phase) -> Session
-    ensures { λ r. ⌜ r ≡ movedTo session phase ⌝ }
-{
-    let inner = session.payload;
-    let header = session.header;
-    Session {
-        payload: inner,
-        header,
-        phase,
+    let answer = told.answer;
+    let phase = told.phase;
+    Fed {
+        answer,
+        session: session_of(inner, header, phase),
     }
 }
 
-fn end(session: Session, consumed: usize, ink: usize, ending: Ending) -> Fed
-    ensures { λ r. ⌜ r ≡ overAs session consumed ink ending ⌝ }
+// The sequence is over.
+fn end(consumed: usize, ink: usize, ending: Ending) -> Told
+    ensures { λ r. ⌜ r ≡ overTold consumed ink ending ⌝ }
 {
-    Fed {
+    Told {
         answer: Answer::Ended {
             consumed,
             ink,
             ending,
         },
-        session: moved(session, Phase::Over(ending)),
+        phase: Phase::Over(ending),
     }
 }
 
 // After the 1B that ended a payload, with `at` bytes consumed.
-fn feed_escaped(session: Session, bytes: &[u8], at: usize, ink: usize) -> Fed
-    ensures { λ r. ⌜ r ≡ escapedBy session (drop at (now (bytes .entry))) at ink ⌝ }
+fn escape(bytes: &[u8], at: usize, ink: usize) -> Told
+    ensures { λ r. ⌜ r ≡ escapedTold (drop at (now (bytes .entry))) at ink ⌝ }
 {
     if bytes.len() <= at {
-        return Fed {
+        return Told {
             answer: Answer::More { consumed: at, ink },
-            session: moved(session, Phase::Escaped),
+            phase: Phase::Escaped,
         };
     }
     if bytes[at] == b'\\' {
-        return end(session, at + 1, ink, Ending::Complete);
+        return end(at + 1, ink, Ending::Complete);
     }
-    end(session, at, ink, Ending::Interrupted(0x1B))
+    end(at, ink, Ending::Interrupted(0x1B))
 }
 
 // At the byte that ended a payload, with `at` bytes consumed. It is always there.
-fn close(session: Session, bytes: &[u8], at: usize, ink: usize) -> Fed
-    ensures { λ r. ⌜ r ≡ closedBy session (drop at (now (bytes .entry))) at ink ⌝ }
+fn close(bytes: &[u8], at: usize, ink: usize) -> Told
+    ensures { λ r. ⌜ r ≡ closedTold (drop at (now (bytes .entry))) at ink ⌝ }
 {
     if bytes.len() <= at {
-        return Fed {
+        return Told {
             answer: Answer::More { consumed: at, ink },
-            session,
+            phase: Phase::Within,
         };
     }
     let byte = bytes[at];
     let next = at + 1;
     if byte == 0x1B {
-        return feed_escaped(session, bytes, next, ink);
+        return escape(bytes, next, ink);
     }
     if byte == 0x9C {
-        return end(session, next, ink, Ending::Complete);
+        return end(next, ink, Ending::Complete);
     }
     if byte == 0x18 {
-        return end(session, next, ink, Ending::Cancelled(0x18));
+        return end(next, ink, Ending::Cancelled(0x18));
     }
     if byte == 0x1A {
-        return end(session, next, ink, Ending::Cancelled(0x1A));
+        return end(next, ink, Ending::Cancelled(0x1A));
     }
-    end(session, at, ink, Ending::Interrupted(byte))
+    end(at, ink, Ending::Interrupted(byte))
+}
+
+// What a payload session's call came to, with `from` bytes before it.
+fn pass_on(answer: payload::Answer, bytes: &[u8], from: usize) -> Told
+    requires { ⌜ from + countOf answer ≤ length (now bytes) ⌝ }
+    ensures { λ r. ⌜ r ≡ passedTold answer (drop from (now (bytes .entry))) from ⌝ }
+{
+    match answer {
+        payload::Answer::More { consumed, ink } => Told {
+            answer: Answer::More {
+                consumed: from + consumed,
+                ink,
+            },
+            phase: Phase::Within,
+        },
+        payload::Answer::Stopped { consumed, ink } => Told {
+            answer: Answer::Stopped {
+                consumed: from + consumed,
+                ink,
+            },
+            phase: Phase::Within,
+        },
+        payload::Answer::Ended {
+            consumed,
+            ink,
+            byte: _,
+        } => close(bytes, from + consumed, ink),
+        payload::Answer::Refused(refusal) => Told {
+            answer: Answer::Refused(refusal),
+            phase: Phase::Within,
+        },
+    }
 }
 
 // In the payload, with `from` bytes consumed.
 fn feed_payload(
-    session: Session,
+    inner: payload::Session,
+    header: Parameters,
     canvas: &mut [u8],
     bytes: &[u8],
     from: usize,
     allowance: usize,
 ) -> Fed
     requires { ⌜ from ≤ length (now bytes) ⌝ }
-    ensures { λ r. ⌜ (r, now (canvas .exit)) ≡ fedPayload session (now (canvas .entry)) (drop from (now (bytes .entry))) from allowance ⌝ }
+    ensures { λ r. ⌜ (r, now (canvas .exit)) ≡ fedPayload (within inner header) (now (canvas .entry)) (drop from (now (bytes .entry))) from allowance ⌝ }
 {
-    let inner = session.payload;
-    let header = session.header;
     let call = payload::feed(inner, canvas, &bytes[from..], allowance);
     let answer = call.answer;
-    let read = session_of(call.session, header, Phase::Within);
-    match answer {
-        payload::Answer::More { consumed, ink } => {
-            let at = from + consumed;
-            answered(Answer::More { consumed: at, ink }, read)
-        }
-        payload::Answer::Stopped { consumed, ink } => {
-            let at = from + consumed;
-            answered(Answer::Stopped { consumed: at, ink }, read)
-        }
-        payload::Answer::Ended {
-            consumed,
-            ink,
-            byte: _,
-        } => close(read, bytes, from + consumed, ink),
-        payload::Answer::Refused(refusal) => answered(Answer::Refused(refusal), read),
-    }
+    tell(call.session, header, pass_on(answer, bytes, from))
 }
 
 // Before the payload.
 fn feed_lead(
-    session: Session,
+    inner: payload::Session,
+    header: Parameters,
     place: Place,
     canvas: &mut [u8],
     bytes: &[u8],
     allowance: usize,
 ) -> Fed
-    ensures { λ r. ⌜ (r, now (canvas .exit)) ≡ fedLead session place (now (canvas .entry)) (now (bytes .entry)) allowance ⌝ }
+    ensures { λ r. ⌜ (r, now (canvas .exit)) ≡ fedLead (before inner header place) place (now (canvas .entry)) (now (bytes .entry)) allowance ⌝ }
 {
-    let inner = session.payload;
-    let lead = read_lead(place, session.header, bytes);
-    let header = lead.header;
+    let lead = read_lead(place, header, bytes);
+    let values = lead.header;
     let consumed = lead.consumed;
     let here = lead.place;
     let led = lead.led;
     match led {
         Led::On => {
-            let session = session_of(inner, header, Phase::Before(here));
-            answered(Answer::More { consumed, ink: 0 }, session)
+            let told = Told {
+                answer: Answer::More { consumed, ink: 0 },
+                phase: Phase::Before(here),
+            };
+            tell(inner, values, told)
         }
         Led::Begins => {
-            let begun = begin::begin(inner, settings_from(header), canvas);
-            let session = session_of(begun, header, Phase::Within);
-            feed_payload(session, canvas, bytes, consumed, allowance)
+            let begun = begin::begin(inner, settings_from(values), canvas);
+            feed_payload(begun, values, canvas, bytes, consumed, allowance)
         }
         Led::Refused(refusal) => {
-            let session = session_of(begin::fail(inner), header, Phase::Before(here));
-            answered(Answer::Refused(refusal), session)
+            let told = Told {
+                answer: Answer::Refused(refusal),
+                phase: Phase::Before(here),
+            };
+            tell(begin::fail(inner), values, told)
         }
+    }
+}
+
+// A call that is not refused at once, by the phase.
+fn feed_in(
+    phase: Phase,
+    inner: payload::Session,
+    header: Parameters,
+    canvas: &mut [u8],
+    bytes: &[u8],
+    allowance: usize,
+) -> Fed
+    ensures { λ r. ⌜ (r, now (canvas .exit)) ≡ fedIn phase (sessionOf inner header phase) (now (canvas .entry)) (now (bytes .entry)) allowance ⌝ }
+{
+    match phase {
+        Phase::Before(place) => feed_lead(inner, header, place, canvas, bytes, allowance),
+        Phase::Within => feed_payload(inner, header, canvas, bytes, 0, allowance),
+        Phase::Escaped => tell(inner, header, escape(bytes, 0, 0)),
+        Phase::Over(ending) => tell(inner, header, end(0, 0, ending)),
     }
 }
 
@@ -274,12 +311,20 @@ pub fn feed(session: Session, canvas: &mut [u8], bytes: &[u8], allowance: usize)
         };
     }
     let phase = session.phase;
-    match phase {
-        Phase::Before(place) => feed_lead(session, place, canvas, bytes, allowance),
-        Phase::Within => feed_payload(session, canvas, bytes, 0, allowance),
-        Phase::Escaped => feed_escaped(session, bytes, 0, 0),
-        Phase::Over(ending) => end(session, 0, 0, ending),
+    feed_in(phase, inner, session.header, canvas, bytes, allowance)
+}
+
+// 8 where the sequence is not over, after what the payload session says.
+fn judge_end(judged: Judged, phase: Phase) -> Judged
+    ensures { λ r. ⌜ r ≡ endJudged judged phase ⌝ }
+{
+    if let Judged::Refused(_) = judged {
+        return judged;
     }
+    if let Phase::Over(_) = phase {
+        return Judged::Fine;
+    }
+    Judged::Refused(Refusal::Unfinished)
 }
 
 // Finishes a sequence that has come to its end, as a payload session is finished.
@@ -287,20 +332,15 @@ pub fn finish(session: Session, owner: Palette, canvas: &mut [u8]) -> Finished
     ensures { λ r. ⌜ (r, now (canvas .exit)) ≡ finishedBy session owner (now (canvas .entry)) ⌝ }
 {
     let inner = session.payload;
-    if let Judged::Refused(refusal) = judge::finish_refusal(inner, canvas.len()) {
+    let phase = session.phase;
+    let judged = judge_end(judge::finish_refusal(inner, canvas.len()), phase);
+    if let Judged::Refused(refusal) = judged {
         return Finished {
             answer: Finishing::Refused(refusal),
             palette: owner,
         };
     }
-    let phase = session.phase;
-    if let Phase::Over(_) = phase {
-        return payload::finish(inner, owner, canvas);
-    }
-    Finished {
-        answer: Finishing::Refused(Refusal::Unfinished),
-        palette: owner,
-    }
+    payload::finish(inner, owner, canvas)
 }
 
 // Drops a session: the owner's palette is as it was.

@@ -1,16 +1,13 @@
 -- Laws of a session that begins later: one for each way through a function of `begin`.
-use Prim.Native.Nat.{ℕ, _≤_, _<_}
+use Prim.Native.Nat.{ℕ}
 use mathlib.Core.Bool.{Bool, true, false, cond}
 use mathlib.Core.List.{List}
 use mathlib.Core.Path.{_≡_, refl, sym, ap, ap₂, _∙_}
-use borrow.Author.Tests.{le-leb, lt-leb}
 use lib.Dec.{leb}
 use lib.ListN.{length}
-use Rattle.numbers.proofs.Laws.{cond-yes, cond-no}
 use Rattle.colours.specs.declared.Palette.{Palette}
 use Rattle.colours.specs.Palette.{registerOf}
-use Rattle.canvas.specs.Picture.{rowsOf, span}
-use Rattle.canvas.specs.Paint.{painted}
+use Rattle.canvas.specs.Picture.{rowsOf}
 use Rattle.frame.specs.declared.Frame.{Frame}
 use Rattle.frame.specs.declared.Limits.{Limits}
 use Rattle.frame.specs.declared.Refusal.the-variants as refusals
@@ -22,21 +19,21 @@ use Rattle.payload.specs.declared.Opening.the-variants as openings
 use Rattle.payload.specs.declared.Session.{Session}
 use Rattle.payload.specs.declared.Settings.{Settings}
 use Rattle.payload.specs.Judge.{openable}
-use Rattle.payload.specs.Session.{clearFor, backgroundFor, blankFrame, groundFor, sessionFor, sessionWith}
+use Rattle.payload.specs.Session.{clearFor, backgroundFor, blankFrame, groundFor, sessionFor, openingFor, firstLife, openedIf, firstPainted, sessionWith}
 use Rattle.payload.specs.Begin.{noSettings, reservedBy, withBackground, begunSession, begunBy, failedOf}
 
-module _ (l : Limits) (stride : ℕ) (p : Palette) (size : ℕ) {s : Session} {t : Bool} (e : t ≡ openable l stride size) where
-  pub reserved-ready : t ≡ true → s ≡ sessionFor l stride size (record { p1 = givens.Nothing; p2 = givens.Nothing }) p lives.Live
-      → _≡_ {A = Opened} (record { answer = openings.Ready; session = s }) (reservedBy l stride p size)
-  unfolding reservedBy noSettings
-  reserved-ready h k =
-      ap (λ (x : Session). record { answer = openings.Ready; session = x }) k ∙ sym (cond-yes _ _ (sym e ∙ h))
+module _ (l : Limits) (stride : ℕ) (p : Palette) (size : ℕ) where
+  either : (t : Bool) → openedIf t l stride size noSettings p
+      ≡ cond t (record { answer = openings.Ready; session = sessionFor l stride size noSettings p lives.Live })
+      (record { answer = openings.Refused refusals.Opening; session = sessionFor l stride size noSettings p lives.Failed })
+  unfolding openedIf openingFor firstLife
+  either true = refl
+  either false = refl
 
-  pub reserved-refused : t ≡ false → s ≡ sessionFor l stride size (record { p1 = givens.Nothing; p2 = givens.Nothing }) p lives.Failed
-      → _≡_ {A = Opened} (record { answer = openings.Refused refusals.Opening; session = s }) (reservedBy l stride p size)
+  pub reserved-as : {t : Bool} {x : Opened} → t ≡ openable l stride size → x ≡ openedIf t l stride size (record { p1 = givens.Nothing; p2 = givens.Nothing }) p
+      → x ≡ reservedBy l stride p size
   unfolding reservedBy noSettings
-  reserved-refused h k =
-      ap (λ (x : Session). record { answer = openings.Refused refusals.Opening; session = x }) k ∙ sym (cond-no _ _ (sym e ∙ h))
+  reserved-as e k = rw (k, e) (either (openable l stride size))
 
 module _ (s : Session) (o : Settings) (canvas : List ℕ) {background : List ℕ} {f : Frame} (b : background ≡ backgroundFor (s .palette) (o .p2)) (k : f ≡ blankFrame (s .palette)) where
   -- the session at `q`, as the code makes it
@@ -55,16 +52,12 @@ module _ (s : Session) (o : Settings) (canvas : List ℕ) {background : List ℕ
   unfolding begunSession withBackground
   begun-session = rw (b, k) refl
 
-  pub begun-painted : {after : List ℕ} → 4 ≤ length canvas → after ≡ painted (span 0 1) background canvas
+  pub begun-as : {after : List ℕ} → after ≡ firstPainted (leb 4 (length canvas)) background canvas
       → _≡_ {A = Session × List ℕ} (begun, after) (begunBy s o canvas)
-  unfolding begunBy
-  begun-painted h a =
+  unfolding begunBy firstPainted
+  begun-as a =
       ap₂ (λ (x : Session) (c : List ℕ). (x, c)) begun-session
-      (a ∙ ap (λ (px : List ℕ). painted (span 0 1) px canvas) b ∙ sym (cond-yes _ _ (le-leb 4 (length canvas) h)))
-
-  pub begun-short : length canvas < 4 → _≡_ {A = Session × List ℕ} (begun, canvas) (begunBy s o canvas)
-  unfolding begunBy
-  begun-short h = ap₂ (λ (x : Session) (c : List ℕ). (x, c)) begun-session (sym (cond-no _ _ (lt-leb 4 (length canvas) h)))
+      (a ∙ ap (λ (px : List ℕ). firstPainted (leb 4 (length canvas)) px canvas) b)
 
 pub failed-as : (s : Session)
     → _≡_ {A = Session}
@@ -73,4 +66,4 @@ pub failed-as : (s : Session)
 unfolding failedOf sessionWith
 failed-as s = refl
 
-pub ruleset beginnings = (reserved-ready, reserved-refused, begun-painted, begun-short, failed-as)
+pub ruleset beginnings = (reserved-as, begun-as, failed-as)

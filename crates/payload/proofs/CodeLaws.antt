@@ -1,8 +1,8 @@
 -- What the functions over numbers in memory come to: one law for each of them.
 use Prim.Native.Nat.{ℕ}
-use mathlib.Core.List.{List}
+use mathlib.Core.List.{List, [], _∷_}
 use mathlib.Core.Path.{_≡_, refl, sym, ap, _∙_}
-use lib.ListN.{getD, set, replicate}
+use lib.ListN.{getD}
 use Rattle.numbers.specs.declared.Parameters.{Parameters}
 use Rattle.numbers.specs.Memory as parameters
 use Rattle.colours.specs.declared.Palette.{Palette}
@@ -18,7 +18,7 @@ use Rattle.payload.specs.declared.Life.{Life}
 use Rattle.payload.specs.declared.Session.{Session}
 use Rattle.payload.specs.declared.Settings.{Settings}
 use Rattle.payload.specs.Codes.{givenNumber, givenFrom, lifeNumber, lifeFrom, kindNumber, kindFrom, colorNumber, colorFrom}
-use Rattle.payload.specs.Memory.{groundNumbers, penNumbers, sheetNumbers, rasterNumbers, commandNumbers, frameNumbers, ownNumbers, numbersOf, tableOf, groundFrom, settingsFrom, penFrom, sheetFrom, rasterFrom, nineFrom, commandFrom, frameFrom, sessionFrom, groundWritten, settingsWritten, penWritten, sheetWritten, rasterWritten, nineWritten, commandWritten}
+use Rattle.payload.specs.Memory.{groundNumbers, penNumbers, sheetNumbers, rasterNumbers, commandNumbers, frameNumbers, ownNumbers, numbersOf, tableOf, groundFrom, settingsFrom, penFrom, sheetFrom, rasterFrom, nineFrom, commandFrom, frameFrom, sessionFrom}
 
 -- ---- one number each
 
@@ -33,42 +33,54 @@ kind-as e k = k ∙ ap kindNumber (sym e)
 
 pub ruleset codes-as = (given-as, life-as, kind-as)
 
--- ---- parts written
+-- ---- a session told
 
-pub ground-told : (ns : List ℕ) (g : Ground) {k : ℕ} → k ≡ colorNumber (g .background)
-    → set (set (set (set (set (set (set ns 0 (g .limits .width)) 1 (g .limits .height)) 2 (g .limits .repeats)) 3 (g .limits .pixels)) 4 (g .stride)) 5 (g .rows)) 6 k
-    ≡ groundWritten ns g
-unfolding groundWritten
-ground-told ns g e = rw e refl
-
-pub settings-told : (ns : List ℕ) (o : Settings) {k l : ℕ} → k ≡ givenNumber (o .p1) → l ≡ givenNumber (o .p2) → set (set ns 8 k) 9 l ≡ settingsWritten ns o
-unfolding settingsWritten
-settings-told ns o e f = rw (e, f) refl
-
-pub pen-told : (ns : List ℕ) (p : Pen) {k : ℕ} → k ≡ colorNumber (p .color)
-    → set (set (set (set (set ns 11 (p .column)) 12 (p .row)) 13 (p .repeat)) 14 (p .register)) 15 k ≡ penWritten ns p
-unfolding penWritten
-pen-told ns p e = rw e refl
-
-pub command-told : (ns : List ℕ) (c : Command) {vs : List ℕ} {k : ℕ} → vs ≡ parameters.numbersOf (c .parameters) → k ≡ kindNumber (c .kind)
-    → nineWritten (set (set ns 23 k) 24 (c .number)) 25 vs ≡ commandWritten ns c
-unfolding commandWritten
-command-told ns c e f = rw (e, f) refl
-
-pub ruleset written = (ground-told, settings-told, pen-told)
-
--- all of them, one after the other, from 48 zeros
-pub numbers-told : (s : Session) {a b c d e f : List ℕ} {k : ℕ}
-    → a ≡ groundWritten (replicate 48 0) (s .ground)
-    → b ≡ settingsWritten (set a 7 (s .length)) (s .settings)
-    → k ≡ lifeNumber (s .life)
-    → c ≡ penWritten (set b 10 k) (s .frame .pen)
-    → d ≡ sheetWritten c (s .frame .sheet)
-    → e ≡ rasterWritten d (s .frame .raster)
-    → f ≡ commandWritten e (s .frame .command)
-    → f ≡ numbersOf s
-unfolding groundWritten settingsWritten penWritten sheetWritten rasterWritten commandWritten nineWritten numbersOf ownNumbers groundNumbers frameNumbers penNumbers sheetNumbers rasterNumbers commandNumbers parameters.numbersOf
-numbers-told s ea eb ek ec ed ee ef = rw (ef, ee, ed, ec, ek, eb, ea) refl
+pub numbers-told : (s : Session) {vs : List ℕ} {background p1 p2 life color kind : ℕ}
+    → vs ≡ parameters.numbersOf (s .frame .command .parameters)
+    → background ≡ colorNumber (s .ground .background)
+    → p1 ≡ givenNumber (s .settings .p1)
+    → p2 ≡ givenNumber (s .settings .p2)
+    → life ≡ lifeNumber (s .life)
+    → color ≡ colorNumber (s .frame .pen .color)
+    → kind ≡ kindNumber (s .frame .command .kind)
+    → s .ground .limits .width
+    ∷ s .ground .limits .height
+    ∷ s .ground .limits .repeats
+    ∷ s .ground .limits .pixels
+    ∷ s .ground .stride
+    ∷ s .ground .rows
+    ∷ background
+    ∷ s .length
+    ∷ p1
+    ∷ p2
+    ∷ life
+    ∷ s .frame .pen .column
+    ∷ s .frame .pen .row
+    ∷ s .frame .pen .repeat
+    ∷ s .frame .pen .register
+    ∷ color
+    ∷ s .frame .sheet .width
+    ∷ s .frame .sheet .height
+    ∷ s .frame .sheet .right
+    ∷ s .frame .sheet .bottom
+    ∷ s .frame .raster .ratio
+    ∷ s .frame .raster .width
+    ∷ s .frame .raster .height
+    ∷ kind
+    ∷ s .frame .command .number
+    ∷ getD vs 0 0
+    ∷ getD vs 1 0
+    ∷ getD vs 2 0
+    ∷ getD vs 3 0
+    ∷ getD vs 4 0
+    ∷ getD vs 5 0
+    ∷ getD vs 6 0
+    ∷ getD vs 7 0
+    ∷ getD vs 8 0
+    ∷ 0 ∷ 0 ∷ 0 ∷ 0 ∷ 0 ∷ 0 ∷ 0 ∷ 0 ∷ 0 ∷ 0 ∷ 0 ∷ 0 ∷ 0 ∷ 0 ∷ []
+    ≡ numbersOf s
+unfolding numbersOf ownNumbers groundNumbers frameNumbers penNumbers sheetNumbers rasterNumbers commandNumbers parameters.numbersOf
+numbers-told s ev eb e1 e2 el ec ek = rw (ev, eb, e1, e2, el, ec, ek) refl
 
 -- ---- parts read
 

@@ -18,7 +18,13 @@ use Rattle.payload.specs.declared.Life.{Life}
 use Rattle.payload.specs.declared.Session.{Session}
 use Rattle.payload.specs.declared.judge.Judged.{Judged}
 use Rattle.payload.specs.declared.judge.Judged.the-variants.{Fine, Refused}
-use Rattle.payload.specs.Judge.{inRange, isFailed, fitting, misfitting, feedJudged, finishJudged, oversize, finalJudged}
+use Rattle.payload.specs.Judge.{inRange, isFailed, fitting, misfitting, feedJudged, finishJudged, oversize, finalJudged, lastJudged}
+use mathlib.Core.List.{[], _∷_}
+use denote.Enum.Declared.{tagOf}
+use types.Run.{OneOf, miss}
+use Rattle.frame.specs.declared.Outcome.{Outcome}
+use Rattle.frame.specs.declared.Outcome.the-variants as outcomes
+use Rattle.frame.proofs.Outcome as OutcomeType
 
 -- ---- opening
 
@@ -214,3 +220,20 @@ unfolding feedJudged
 feed-fits s size allowance j e =
     fitting-fits s size
     (passes refusals.Canvas (misfitting s size) _ (passes refusals.Failed (isFailed (s .life)) _ (sym j ∙ e) .1) .0)
+
+-- ---- the last refusal of a finish
+
+pub last-refused : {o : Outcome} {n : Refusal} (a : Sheet) (g : Ground) → o ≡ outcomes.Refused n → Refused n ≡ lastJudged o a g
+unfolding lastJudged
+last-refused a g e = ap (λ (o : Outcome). lastJudged o a g) (sym e)
+
+pub last-final : {j : Judged} (o : Outcome) (a : Sheet) (g : Ground) → OneOf (0 ∷ 1 ∷ 2 ∷ 3 ∷ []) (tagOf OutcomeType.the-type o) → j ≡ finalJudged a g
+    → j ≡ lastJudged o a g
+unfolding lastJudged
+last-final outcomes.Read a g h e = e
+last-final outcomes.Settled a g h e = e
+last-final outcomes.Stopped a g h e = e
+last-final (outcomes.Ended b) a g h e = e
+last-final (outcomes.Refused n) a g h e = absurd (miss (0 ∷ 1 ∷ 2 ∷ 3 ∷ []) 4 tt h)
+
+pub ruleset lasts = (last-refused, last-final)

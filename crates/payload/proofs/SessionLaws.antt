@@ -1,6 +1,6 @@
 -- Laws of a session: one for each way through a function.
 use Prim.Native.Nat.{ℕ, _/_, _≤_}
-use mathlib.Core.Bool.{Bool, true, false}
+use mathlib.Core.Bool.{Bool, true, false, cond}
 use mathlib.Core.List.{List, [], _∷_}
 use mathlib.Core.Path.{_≡_, refl, sym, ap, ap₂, _∙_}
 use native.Mathlib.Nat.{div-le-self}
@@ -29,7 +29,6 @@ use Rattle.frame.specs.declared.Refusal.the-variants as refusals
 use Rattle.frame.specs.declared.Stepped.{Stepped}
 use Rattle.frame.specs.Commands.{Ended, ended}
 use Rattle.bytewise.specs.Feed.{Reached, feedFrom}
-use Rattle.frame.proofs.Outcome as OutcomeType
 use Rattle.payload.specs.declared.Answer.{Answer}
 use Rattle.payload.specs.declared.Answer.the-variants as answers
 use Rattle.payload.specs.declared.Fed.{Fed}
@@ -39,6 +38,7 @@ use Rattle.payload.specs.declared.Given.{Given}
 use Rattle.payload.specs.declared.Life.{Life}
 use Rattle.payload.specs.declared.Life.the-variants as lives
 use Rattle.payload.specs.declared.Opened.{Opened}
+use Rattle.payload.specs.declared.Opening.{Opening}
 use Rattle.payload.specs.declared.Opening.the-variants as openings
 use Rattle.payload.specs.declared.Ratio.{Ratio}
 use Rattle.payload.specs.declared.Ratio.the-variants as ratios
@@ -47,8 +47,8 @@ use Rattle.payload.specs.declared.Session.{Session}
 use Rattle.payload.specs.declared.Settings.{Settings}
 use Rattle.payload.specs.declared.judge.Judged.{Judged}
 use Rattle.payload.specs.declared.judge.Judged.the-variants as judged
-use Rattle.payload.specs.Judge.{limitsFit, inRange, openable, feedJudged, finishJudged, finalJudged}
-use Rattle.payload.specs.Session.{clearFor, backgroundFor, blankFrame, groundFor, sessionFor, openedBy, sessionWith, answeredIn, answeredBy, fedLive, fedIn, fedAs, fedBy, ratioFor, reportedAs, turnedAway, pictured, finishedIf, finishedIn, finishedLive, finishedAs, finishedBy}
+use Rattle.payload.specs.Judge.{limitsFit, inRange, openable, feedJudged, finishJudged, lastJudged}
+use Rattle.payload.specs.Session.{clearFor, backgroundFor, blankFrame, groundFor, sessionFor, openingFor, firstLife, openedIf, firstPainted, openedBy, sessionWith, answerOf, lifeAfter, answeredIn, answeredBy, fedLive, fedIn, fedAs, fedBy, ratioFor, reportedAs, turnedAway, pictured, finishedIf, finishedIn, finishedLive, finishedAs, finishedBy}
 use Rattle.payload.proofs.Life as LifeType
 use Rattle.payload.proofs.JudgeLaws.{feed-fits, finish-fits}
 
@@ -100,33 +100,83 @@ pub session-as : {rows : ℕ} {background : List ℕ} {f : Frame} (l : Limits) (
 unfolding sessionFor groundFor
 session-as l stride size o p life b r k = rw (b, r, k) refl
 
-module _ (l : Limits) (stride : ℕ) (o : Settings) (p : Palette) (canvas : List ℕ) {t : Bool} {s : Session} (e : t ≡ openable l stride (length canvas)) where
-  pub opened-ready : {px after : List ℕ} → t ≡ true → px ≡ backgroundFor p (o .p2) → after ≡ painted (span 0 1) px canvas
-      → s ≡ sessionFor l stride (length canvas) o p lives.Live
-      → _≡_ {A = Opened × List ℕ} (record { answer = openings.Ready; session = s }, after) (openedBy l stride o p canvas)
-  unfolding openedBy
-  opened-ready h b a k =
-      ap₂ (λ (x : Session) (c : List ℕ). (record { answer = openings.Ready; session = x }, c)) k
-      (a ∙ ap (λ (px : List ℕ). painted (span 0 1) px canvas) b)
-      ∙ sym (cond-yes _ _ (sym e ∙ h))
+module _ {t : Bool} where
+  pub opening-yes : t ≡ true → openings.Ready ≡ openingFor t
+  unfolding openingFor
+  opening-yes e = sym (cond-yes _ _ e)
 
-  pub opened-refused : t ≡ false → s ≡ sessionFor l stride (length canvas) o p lives.Failed
-      → _≡_ {A = Opened × List ℕ} (record { answer = openings.Refused refusals.Opening; session = s }, canvas) (openedBy l stride o p canvas)
-  unfolding openedBy
-  opened-refused h k =
-      ap (λ (x : Session). (record { answer = openings.Refused refusals.Opening; session = x }, canvas)) k
-      ∙ sym (cond-no _ _ (sym e ∙ h))
+  pub opening-no : t ≡ false → openings.Refused refusals.Opening ≡ openingFor t
+  unfolding openingFor
+  opening-no e = sym (cond-no _ _ e)
 
-pub ruleset openings-made = (clear-as, background-clear, background-kept, blank-as, pixel-there, session-as, opened-ready, opened-refused)
+  pub life-yes : t ≡ true → lives.Live ≡ firstLife t
+  unfolding firstLife
+  life-yes e = sym (cond-yes _ _ e)
+
+  pub life-no : t ≡ false → lives.Failed ≡ firstLife t
+  unfolding firstLife
+  life-no e = sym (cond-no _ _ e)
+
+  pub painted-yes : {after : List ℕ} (px canvas : List ℕ) → t ≡ true → after ≡ painted (span 0 1) px canvas → after ≡ firstPainted t px canvas
+  unfolding firstPainted
+  painted-yes px canvas e k = k ∙ sym (cond-yes _ _ e)
+
+  pub painted-no : (px canvas : List ℕ) → t ≡ false → canvas ≡ firstPainted t px canvas
+  unfolding firstPainted
+  painted-no px canvas e = sym (cond-no _ _ e)
+
+pub opened-if : {a : Opening} {k : Life} {s : Session} (t : Bool) (l : Limits) (stride size : ℕ) (o : Settings) (p : Palette) → a ≡ openingFor t
+    → k ≡ firstLife t → s ≡ sessionFor l stride size o p k
+    → _≡_ {A = Opened} (record { answer = a; session = s }) (openedIf t l stride size o p)
+unfolding openedIf
+opened-if t l stride size o p ea ek es = rw (ea, es, ek) refl
+
+module _ (l : Limits) (stride : ℕ) (o : Settings) (p : Palette) (canvas : List ℕ) where
+  either : (t : Bool)
+      → _≡_ {A = Opened × List ℕ} (openedIf t l stride (length canvas) o p, firstPainted t (backgroundFor p (o .p2)) canvas)
+      (cond t
+      (record { answer = openings.Ready; session = sessionFor l stride (length canvas) o p lives.Live }, painted (span 0 1) (backgroundFor p (o .p2)) canvas)
+      (record { answer = openings.Refused refusals.Opening; session = sessionFor l stride (length canvas) o p lives.Failed }, canvas))
+  unfolding openedIf openingFor firstLife firstPainted
+  either true = refl
+  either false = refl
+
+  pub opened-as : {t : Bool} {px after : List ℕ} {x : Opened} → t ≡ openable l stride (length canvas) → px ≡ backgroundFor p (o .p2)
+      → after ≡ firstPainted t px canvas
+      → x ≡ openedIf t l stride (length canvas) o p → (x, after) ≡ openedBy l stride o p canvas
+  unfolding openedBy
+  opened-as {t} e b a k = rw (k, a, b, e) (either (openable l stride (length canvas)))
+
+pub ruleset openings-made = (
+  clear-as,
+  background-clear,
+  background-kept,
+  blank-as,
+  pixel-there,
+  session-as,
+  opening-yes,
+  opening-no,
+  life-yes,
+  life-no,
+  painted-yes,
+  painted-no,
+  opened-if,
+  opened-as,
+)
 
 -- ---- feeding
 
-pub answered-as : {o : Outcome} {a : Answer} {x : Session} (life : Life) (s : Session) (r : Progress) (p : Palette) → r .outcome ≡ o → x ≡ sessionWith s life (r .frame) p
-    → _≡_ {A = Fed} (record { answer = a; session = sessionWith s life (r .frame) p }) (answeredIn o s r p)
+pub answer-as : {r : Answer} {o other : Outcome} (n i : ℕ) → o ≡ other → r ≡ answerOf other n i → r ≡ answerOf o n i
+answer-as n i e k = k ∙ ap (λ (o : Outcome). answerOf o n i) (sym e)
+
+pub life-as : {r : Life} {o other : Outcome} → o ≡ other → r ≡ lifeAfter other → r ≡ lifeAfter o
+life-as e k = k ∙ ap lifeAfter (sym e)
+
+pub answered-as : {a : Answer} {l : Life} {x : Session} (s : Session) (r : Progress) (p : Palette)
+    → a ≡ answerOf (r .outcome) (r .consumed) (r .ink) → l ≡ lifeAfter (r .outcome) → x ≡ sessionWith s l (r .frame) p
     → _≡_ {A = Fed} (record { answer = a; session = x }) (answeredBy s r p)
 unfolding answeredBy
-answered-as {a = a} life s r p e k h =
-    ap (λ (y : Session). record { answer = a; session = y }) k ∙ h ∙ ap (λ (o : Outcome). answeredIn o s r p) (sym e)
+answered-as s r p ea el ex = rw (ea, ex, el) refl
 
 -- a session that has not ended reads
 not-ended : (s : Session) (canvas bytes : List ℕ) (allowance : ℕ) (life : Life) → OneOf (0 ∷ 2 ∷ []) (tagOf LifeType.the-type life)
@@ -186,57 +236,44 @@ pub reported-as : {r : Ratio} {t : Bool} (f : Frame) (o : Settings) → r ≡ ra
 unfolding reportedAs
 reported-as f o e k = rw (e, k) refl
 
--- an outcome that is no refusal goes on to 10
-not-refused : (s : Session) (owner : Palette) (last : Frame) (p : Palette) (canvas : List ℕ) (o : Outcome)
-    → OneOf (0 ∷ 1 ∷ 2 ∷ 3 ∷ []) (tagOf OutcomeType.the-type o)
-    → finishedIf (finalJudged (last .sheet) (s .ground)) s owner last p canvas ≡ finishedIn o s owner last p canvas
-unfolding finishedIn
-not-refused s owner last p canvas outcomes.Read h = refl
-not-refused s owner last p canvas outcomes.Settled h = refl
-not-refused s owner last p canvas outcomes.Stopped h = refl
-not-refused s owner last p canvas (outcomes.Ended b) h = refl
-not-refused s owner last p canvas (outcomes.Refused n) h = absurd (miss (0 ∷ 1 ∷ 2 ∷ 3 ∷ []) 4 tt h)
+-- the last refusal tells all of the outcome that is left to tell
+last-told : (s : Session) (owner : Palette) (last : Frame) (p : Palette) (canvas : List ℕ) (o : Outcome)
+    → finishedIf (lastJudged o (last .sheet) (s .ground)) s owner last p canvas ≡ finishedIn o s owner last p canvas
+unfolding finishedIn finishedIf lastJudged
+last-told s owner last p canvas outcomes.Read = refl
+last-told s owner last p canvas outcomes.Settled = refl
+last-told s owner last p canvas outcomes.Stopped = refl
+last-told s owner last p canvas (outcomes.Ended b) = refl
+last-told s owner last p canvas (outcomes.Refused n) = refl
 
-module _ (s : Session) (owner : Palette) (canvas : List ℕ) {lent after : Palette} {st : Stepped} (e : _≡_ {A = Ended} (record { stepped = st; palette = after }) (ended (s .frame) (s .ground) lent)) (t : lent ≡ s .palette) where
+module _ (s : Session) (owner : Palette) (canvas : List ℕ) {lent after : Palette} {st : Stepped} {j : Judged} (e : _≡_ {A = Ended} (record { stepped = st; palette = after }) (ended (s .frame) (s .ground) lent)) (t : lent ≡ s .palette) (k : j ≡ lastJudged (st .outcome) (st .frame .sheet) (s .ground)) where
   same-end : _≡_ {A = Ended} (record { stepped = st; palette = after }) (ended (s .frame) (s .ground) (s .palette))
   same-end = e ∙ ap (ended (s .frame) (s .ground)) t
 
-  finish-in : finishedIn (st .outcome) s owner (st .frame) after canvas ≡ finishedLive s owner canvas
+  finish-if : finishedIf j s owner (st .frame) after canvas ≡ finishedLive s owner canvas
   unfolding finishedLive
-  finish-in = ap (λ (d : Ended). finishedIn (d .stepped .outcome) s owner (d .stepped .frame) (d .palette) canvas) same-end
+  finish-if =
+      ap (λ (i : Judged). finishedIf i s owner (st .frame) after canvas) k
+      ∙ last-told s owner (st .frame) after canvas (st .outcome)
+      ∙ ap (λ (d : Ended). finishedIn (d .stepped .outcome) s owner (d .stepped .frame) (d .palette) canvas) same-end
 
-  pub finish-pending : {n : Refusal} {x : Finished} → st .outcome ≡ outcomes.Refused n → x ≡ record { answer = finishes.Refused n; palette = owner }
+  pub finish-last : {n : Refusal} {x : Finished} → j ≡ judged.Refused n → x ≡ record { answer = finishes.Refused n; palette = owner }
       → (x, canvas) ≡ finishedLive s owner canvas
-  unfolding finishedIn turnedAway
-  finish-pending h k =
-      ap (λ (y : Finished). (y, canvas)) k
-      ∙ ap (λ (o : Outcome). finishedIn o s owner (st .frame) after canvas) (sym h)
-      ∙ finish-in
+  unfolding finishedIf turnedAway
+  finish-last h y =
+      ap (λ (z : Finished). (z, canvas)) y
+      ∙ ap (λ (i : Judged). finishedIf i s owner (st .frame) after canvas) (sym h)
+      ∙ finish-if
 
-  module _ {j : Judged} (o : OneOf (0 ∷ 1 ∷ 2 ∷ 3 ∷ []) (tagOf OutcomeType.the-type (st .outcome))) (k : j ≡ finalJudged (st .frame .sheet) (s .ground)) where
-    finish-if : finishedIf j s owner (st .frame) after canvas ≡ finishedLive s owner canvas
-    finish-if =
-        ap (λ (i : Judged). finishedIf i s owner (st .frame) after canvas) k
-        ∙ not-refused s owner (st .frame) after canvas (st .outcome) o
-        ∙ finish-in
-
-    pub finish-oversize : {n : Refusal} {x : Finished} → j ≡ judged.Refused n → x ≡ record { answer = finishes.Refused n; palette = owner }
-        → (x, canvas) ≡ finishedLive s owner canvas
-    unfolding finishedIf turnedAway
-    finish-oversize h y =
-        ap (λ (z : Finished). (z, canvas)) y
-        ∙ ap (λ (i : Judged). finishedIf i s owner (st .frame) after canvas) (sym h)
-        ∙ finish-if
-
-    pub finish-pictured : {later : List ℕ} {rep : Report} {q : Palette} → j ≡ judged.Fine
-        → later ≡ grown (s .ground .stride) (areaOf (s .frame .sheet .width) (s .frame .sheet .height)) (areaOf (st .frame .sheet .width) (st .frame .sheet .height)) (s .ground .background) canvas
-        → rep ≡ reportedAs (st .frame) (s .settings) → q ≡ after
-        → _≡_ {A = Finished × List ℕ} (record { answer = finishes.Picture rep; palette = q }, later) (finishedLive s owner canvas)
-    unfolding finishedIf pictured
-    finish-pictured h l r q =
-        rw (l, r, q) refl
-        ∙ ap (λ (i : Judged). finishedIf i s owner (st .frame) after canvas) (sym h)
-        ∙ finish-if
+  pub finish-pictured : {later : List ℕ} {rep : Report} {q : Palette} → j ≡ judged.Fine
+      → later ≡ grown (s .ground .stride) (areaOf (s .frame .sheet .width) (s .frame .sheet .height)) (areaOf (st .frame .sheet .width) (st .frame .sheet .height)) (s .ground .background) canvas
+      → rep ≡ reportedAs (st .frame) (s .settings) → q ≡ after
+      → _≡_ {A = Finished × List ℕ} (record { answer = finishes.Picture rep; palette = q }, later) (finishedLive s owner canvas)
+  unfolding finishedIf pictured
+  finish-pictured h l r q =
+      rw (l, r, q) refl
+      ∙ ap (λ (i : Judged). finishedIf i s owner (st .frame) after canvas) (sym h)
+      ∙ finish-if
 
 module _ (s : Session) (owner : Palette) (canvas : List ℕ) {j : Judged} (e : j ≡ finishJudged s (length canvas)) where
   pub finish-refused : {n : Refusal} {x : Finished} → j ≡ judged.Refused n → x ≡ record { answer = finishes.Refused n; palette = owner }
@@ -249,4 +286,4 @@ module _ (s : Session) (owner : Palette) (canvas : List ℕ) {j : Judged} (e : j
   finish-on h y = y ∙ ap (λ (i : Judged). finishedAs i s owner canvas) (sym h ∙ e)
 
 pub ruleset finishings =
-    (ratio-left, ratio-raster, reported-as, finish-pending, finish-oversize, finish-pictured, finish-fits, finish-refused, finish-on)
+    (ratio-left, ratio-raster, reported-as, finish-last, finish-pictured, finish-fits, finish-refused, finish-on)

@@ -5,6 +5,8 @@ use lib.Dec.{leb, ltb, eqb}
 use Rattle.canvas.specs.Picture.{rowsOf}
 use Rattle.frame.specs.declared.Ground.{Ground}
 use Rattle.frame.specs.declared.Limits.{Limits}
+use Rattle.frame.specs.declared.Outcome.{Outcome}
+use Rattle.frame.specs.declared.Outcome.the-variants as outcomes
 use Rattle.frame.specs.declared.Refusal.the-variants as refusals
 use Rattle.frame.specs.declared.Sheet.{Sheet}
 use Rattle.payload.specs.declared.Life.{Life}
@@ -68,3 +70,12 @@ oversize a g =
 unfoldable pub finalJudged : Sheet → Ground → Judged
 unfolding oversize
 finalJudged a g = cond (oversize a g) (Refused refusals.FinalSize) Fine
+
+-- the pending command's refusal, else 10
+unfoldable pub lastJudged : Outcome → Sheet → Ground → Judged
+unfolding finalJudged
+lastJudged outcomes.Read a g = finalJudged a g
+lastJudged outcomes.Settled a g = finalJudged a g
+lastJudged outcomes.Stopped a g = finalJudged a g
+lastJudged (outcomes.Ended b) a g = finalJudged a g
+lastJudged (outcomes.Refused n) a g = Refused n

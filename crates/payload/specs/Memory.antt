@@ -2,7 +2,7 @@
 -- DCS session has its own there. All that `sessionFrom` is given makes a session.
 use Prim.Native.Nat.{ℕ, _+_, _%_}
 use mathlib.Core.List.{List, [], _∷_, _++_}
-use lib.ListN.{getD, set}
+use lib.ListN.{getD}
 use Rattle.numbers.specs.Memory as parameters
 use Rattle.colours.specs.Palette.{ofTable}
 use Rattle.frame.specs.declared.Command.{Command}
@@ -129,34 +129,3 @@ sessionFrom ns table =
       frame = frameFrom ns;
       palette = ofTable table;
     }
-
--- ---- numbers written one by one
-
-unfoldable pub groundWritten : List ℕ → Ground → List ℕ
-unfolding colorNumber
-groundWritten ns g =
-    set (set (set (set (set (set (set ns 0 (g .limits .width)) 1 (g .limits .height)) 2 (g .limits .repeats)) 3 (g .limits .pixels)) 4 (g .stride)) 5 (g .rows)) 6 (colorNumber (g .background))
-
-unfoldable pub settingsWritten : List ℕ → Settings → List ℕ
-unfolding givenNumber
-settingsWritten ns o = set (set ns 8 (givenNumber (o .p1))) 9 (givenNumber (o .p2))
-
-unfoldable pub penWritten : List ℕ → Pen → List ℕ
-unfolding colorNumber
-penWritten ns p =
-    set (set (set (set (set ns 11 (p .column)) 12 (p .row)) 13 (p .repeat)) 14 (p .register)) 15 (colorNumber (p .color))
-
-unfoldable pub sheetWritten : List ℕ → Sheet → List ℕ
-sheetWritten ns a = set (set (set (set ns 16 (a .width)) 17 (a .height)) 18 (a .right)) 19 (a .bottom)
-
-unfoldable pub rasterWritten : List ℕ → Raster → List ℕ
-rasterWritten ns r = set (set (set ns 20 (r .ratio)) 21 (r .width)) 22 (r .height)
-
--- nine numbers, from a place on
-unfoldable pub nineWritten : List ℕ → ℕ → List ℕ → List ℕ
-nineWritten ns i vs =
-    set (set (set (set (set (set (set (set (set ns i (getD vs 0 0)) (i + 1) (getD vs 1 0)) (i + 2) (getD vs 2 0)) (i + 3) (getD vs 3 0)) (i + 4) (getD vs 4 0)) (i + 5) (getD vs 5 0)) (i + 6) (getD vs 6 0)) (i + 7) (getD vs 7 0)) (i + 8) (getD vs 8 0)
-
-unfoldable pub commandWritten : List ℕ → Command → List ℕ
-unfolding kindNumber nineWritten
-commandWritten ns c = nineWritten (set (set ns 23 (kindNumber (c .kind))) 24 (c .number)) 25 (parameters.numbersOf (c .parameters))

@@ -21,6 +21,7 @@ use Rattle.frame.specs.declared.Refusal.{Refusal}
 use Rattle.frame.specs.declared.Refusal.the-variants as refusals
 use Rattle.frame.specs.Commands.{Ended, ended}
 use Rattle.bytewise.specs.Feed.{Reached, feedFrom}
+use Rattle.payload.specs.declared.Answer.{Answer}
 use Rattle.payload.specs.declared.Answer.the-variants as answers
 use Rattle.payload.specs.declared.Fed.{Fed}
 use Rattle.payload.specs.declared.Finishing.the-variants as finishes
@@ -30,6 +31,7 @@ use Rattle.payload.specs.declared.Given.the-variants as givens
 use Rattle.payload.specs.declared.Life.{Life}
 use Rattle.payload.specs.declared.Life.the-variants as lives
 use Rattle.payload.specs.declared.Opened.{Opened}
+use Rattle.payload.specs.declared.Opening.{Opening}
 use Rattle.payload.specs.declared.Opening.the-variants as openings
 use Rattle.payload.specs.declared.Ratio.{Ratio}
 use Rattle.payload.specs.declared.Ratio.the-variants as ratios
@@ -76,6 +78,20 @@ sessionFor l stride size o p life =
       palette = p;
     }
 
+-- by whether it may open
+unfoldable pub openingFor : Bool → Opening
+openingFor may = cond may openings.Ready (openings.Refused refusals.Opening)
+
+unfoldable pub firstLife : Bool → Life
+firstLife may = cond may lives.Live lives.Failed
+
+unfoldable pub openedIf : Bool → Limits → ℕ → ℕ → Settings → Palette → Opened
+unfolding openingFor firstLife sessionFor
+openedIf may l stride size o p = record { answer = openingFor may; session = sessionFor l stride size o p (firstLife may) }
+
+unfoldable pub firstPainted : Bool → List ℕ → List ℕ → List ℕ
+firstPainted due px canvas = cond due (painted (span 0 1) px canvas) canvas
+
 -- pixel (0, 0) gets the background, or nothing is written
 unfoldable pub openedBy : Limits → ℕ → Settings → Palette → List ℕ → Opened × List ℕ
 unfolding sessionFor
@@ -90,18 +106,27 @@ unfoldable pub sessionWith : Session → Life → Frame → Palette → Session
 sessionWith s life f p =
     record { ground = s .ground; length = s .length; settings = s .settings; life = life; frame = f; palette = p }
 
--- what reading came to, as an answer; a refusal fails the session
+-- what reading came to, as an answer
+unfoldable pub answerOf : Outcome → ℕ → ℕ → Answer
+answerOf outcomes.Read n i = answers.More n i
+answerOf outcomes.Settled n i = answers.More n i
+answerOf outcomes.Stopped n i = answers.Stopped n i
+answerOf (outcomes.Ended b) n i = answers.Ended n i b
+answerOf (outcomes.Refused r) n i = answers.Refused r
+
+-- the session's life then: a refusal fails it
+unfoldable pub lifeAfter : Outcome → Life
+lifeAfter outcomes.Read = lives.Live
+lifeAfter outcomes.Settled = lives.Live
+lifeAfter outcomes.Stopped = lives.Live
+lifeAfter (outcomes.Ended b) = lives.Ended b
+lifeAfter (outcomes.Refused r) = lives.Failed
+
+-- what reading came to: its answer, and the session after it
 unfoldable pub answeredIn : Outcome → Session → Progress → Palette → Fed
-unfolding sessionWith
-answeredIn outcomes.Read s r p =
-    record { answer = answers.More (r .consumed) (r .ink); session = sessionWith s lives.Live (r .frame) p }
-answeredIn outcomes.Settled s r p =
-    record { answer = answers.More (r .consumed) (r .ink); session = sessionWith s lives.Live (r .frame) p }
-answeredIn outcomes.Stopped s r p =
-    record { answer = answers.Stopped (r .consumed) (r .ink); session = sessionWith s lives.Live (r .frame) p }
-answeredIn (outcomes.Ended b) s r p =
-    record { answer = answers.Ended (r .consumed) (r .ink) b; session = sessionWith s (lives.Ended b) (r .frame) p }
-answeredIn (outcomes.Refused n) s r p = record { answer = answers.Refused n; session = sessionWith s lives.Failed (r .frame) p }
+unfolding sessionWith answerOf lifeAfter
+answeredIn o s r p =
+    record { answer = answerOf o (r .consumed) (r .ink); session = sessionWith s (lifeAfter o) (r .frame) p }
 
 unfoldable pub answeredBy : Session → Progress → Palette → Fed
 unfolding answeredIn

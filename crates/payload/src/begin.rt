@@ -5,17 +5,16 @@ ghost use Rattle.payload.specs.Begin.{reservedBy, begunBy, failedOf};
 use crate::Given;
 use crate::Life;
 use crate::Opened;
-use crate::Opening;
 use crate::Session;
 use crate::Settings;
 use crate::background_for;
 use crate::blank_frame;
 use crate::judge::may_open;
-use crate::new_session;
+use crate::open_if;
+use crate::paint_if;
 use colours::Palette;
 use frame::Ground;
 use frame::Limits;
-use frame::Refusal;
 
 // A session that has not begun: nothing is written.
 pub fn reserve(limits: Limits, stride: usize, palette: Palette, length: usize) -> Opened
@@ -25,16 +24,8 @@ pub fn reserve(limits: Limits, stride: usize, palette: Palette, length: usize) -
         p1: Given::Nothing,
         p2: Given::Nothing,
     };
-    if may_open(limits, stride, length) {
-        return Opened {
-            answer: Opening::Ready,
-            session: new_session(limits, stride, length, settings, palette, Life::Live),
-        };
-    }
-    Opened {
-        answer: Opening::Refused(Refusal::Opening),
-        session: new_session(limits, stride, length, settings, palette, Life::Failed),
-    }
+    let may = may_open(limits, stride, length);
+    open_if(may, limits, stride, length, settings, palette)
 }
 
 // The payload begins with these settings: pixel (0, 0) gets the background, where there is one.
@@ -54,18 +45,15 @@ pub fn begin(session: Session, settings: Settings, canvas: &mut [u8]) -> Session
         background,
     };
     let frame = blank_frame(palette);
-    let begun = Session {
+    paint_if(4 <= canvas.len(), canvas, background);
+    Session {
         ground,
         length: session.length,
         settings,
         life,
         frame,
         palette,
-    };
-    if 4 <= canvas.len() {
-        canvas::first_pixel(canvas, background);
     }
-    begun
 }
 
 // The session fails: it answers 9 from now on.

@@ -1,10 +1,11 @@
 // The refusals that a session gives before it reads a byte, in document 01's order.
 ghost use mathlib.Core.Path.{_≡_};
-ghost use Rattle.payload.specs.Judge.{inRange, limitsFit, openable, isFailed, misfitting, feedJudged, finishJudged, finalJudged};
+ghost use Rattle.payload.specs.Judge.{inRange, limitsFit, openable, isFailed, misfitting, feedJudged, finishJudged, finalJudged, lastJudged};
 use crate::Life;
 use crate::Session;
 use frame::Ground;
 use frame::Limits;
+use frame::Outcome;
 use frame::Refusal;
 use frame::Sheet;
 use frame::sizes::exceeds;
@@ -135,4 +136,14 @@ pub fn final_refusal(sheet: Sheet, ground: Ground) -> Judged
         return Judged::Refused(Refusal::FinalSize);
     }
     Judged::Fine
+}
+
+// The pending command's refusal, else 10.
+pub(crate) fn last_refusal(outcome: Outcome, sheet: Sheet, ground: Ground) -> Judged
+    ensures { λ r. ⌜ r ≡ lastJudged outcome sheet ground ⌝ }
+{
+    if let Outcome::Refused(refusal) = outcome {
+        return Judged::Refused(refusal);
+    }
+    final_refusal(sheet, ground)
 }

@@ -7,11 +7,13 @@ pub mod judge;
 pub mod memory;
 
 ghost use mathlib.Core.Path.{_≡_};
+ghost use mathlib.Core.Bool.{true};
+ghost use Prim.Native.Nat.{_≤_};
 ghost use lib.ListN.{length};
 ghost use Rattle.colours.specs.Palette.{ofTable};
 ghost use Rattle.bytewise.specs.Step.{Fits};
 ghost use Rattle.bytewise.specs.Feed.{Reached};
-ghost use Rattle.payload.specs.Session.{clearFor, backgroundFor, blankFrame, sessionFor, openedBy, sessionWith, answeredBy, fedLive, fedBy, ratioFor, reportedAs, finishedLive, finishedBy};
+ghost use Rattle.payload.specs.Session.{clearFor, backgroundFor, blankFrame, sessionFor, openingFor, firstLife, openedIf, firstPainted, openedBy, sessionWith, answerOf, lifeAfter, answeredBy, fedLive, fedBy, ratioFor, reportedAs, finishedLive, finishedBy};
 use colours::Palette;
 use frame::Command;
 use frame::Frame;
@@ -28,8 +30,8 @@ use frame::Stepped;
 use frame::commands::end_command;
 use judge::Judged;
 use judge::feed_refusal;
-use judge::final_refusal;
 use judge::finish_refusal;
+use judge::last_refusal;
 use judge::may_open;
 use numbers::Parameters;
 use reading::process;
@@ -225,6 +227,54 @@ fn new_session(
     }
 }
 
+// An opening's answer, by whether it may be.
+fn opening_for(may: bool) -> Opening
+    ensures { λ r. ⌜ r ≡ openingFor may ⌝ }
+{
+    if may {
+        return Opening::Ready;
+    }
+    Opening::Refused(Refusal::Opening)
+}
+
+// The life of its session.
+fn first_life(may: bool) -> Life
+    ensures { λ r. ⌜ r ≡ firstLife may ⌝ }
+{
+    if may {
+        return Life::Live;
+    }
+    Life::Failed
+}
+
+// An opening, by whether it may be: the session is a failed one where it may not.
+fn open_if(
+    may: bool,
+    limits: Limits,
+    stride: usize,
+    length: usize,
+    settings: Settings,
+    palette: Palette,
+) -> Opened
+    ensures { λ r. ⌜ r ≡ openedIf may limits stride length settings palette ⌝ }
+{
+    let life = first_life(may);
+    Opened {
+        answer: opening_for(may),
+        session: new_session(limits, stride, length, settings, palette, life),
+    }
+}
+
+// Pixel (0, 0) gets the background, where that is due.
+fn paint_if(due: bool, canvas: &mut [u8], background: [u8; 4])
+    requires { ⌜ (due ≡ true → 4 ≤ length (now canvas)) ⌝ }
+    ensures { λ _. ⌜ now (canvas .exit) ≡ firstPainted due background (now (canvas .entry)) ⌝ }
+{
+    if due {
+        canvas::first_pixel(canvas, background);
+    }
+}
+
 // Opens a session on a canvas of `stride` pixels a row, with a copy of the owner's palette. Pixel (0, 0) gets the background.
 pub fn open(
     limits: Limits,
@@ -236,18 +286,10 @@ pub fn open(
     ensures { λ r. ⌜ (r, now (canvas .exit)) ≡ openedBy limits stride settings palette (now (canvas .entry)) ⌝ }
 {
     let length = canvas.len();
-    if may_open(limits, stride, length) {
-        let p2 = settings.p2;
-        canvas::first_pixel(canvas, background_for(palette, p2));
-        return Opened {
-            answer: Opening::Ready,
-            session: new_session(limits, stride, length, settings, palette, Life::Live),
-        };
-    }
-    Opened {
-        answer: Opening::Refused(Refusal::Opening),
-        session: new_session(limits, stride, length, settings, palette, Life::Failed),
-    }
+    let may = may_open(limits, stride, length);
+    let p2 = settings.p2;
+    paint_if(may, canvas, background_for(palette, p2));
+    open_if(may, limits, stride, length, settings, palette)
 }
 
 // The session after reading, in a state of life.
@@ -267,38 +309,44 @@ fn after_reading(session: Session, life: Life, frame: Frame, palette: Palette) -
 }
 
 // What reading came to, as an answer.
+fn answer_of(outcome: Outcome, consumed: usize, ink: usize) -> Answer
+    ensures { λ r. ⌜ r ≡ answerOf outcome consumed ink ⌝ }
+{
+    match outcome {
+        Outcome::Read => Answer::More { consumed, ink },
+        Outcome::Settled => Answer::More { consumed, ink },
+        Outcome::Stopped => Answer::Stopped { consumed, ink },
+        Outcome::Ended(byte) => Answer::Ended {
+            consumed,
+            ink,
+            byte,
+        },
+        Outcome::Refused(refusal) => Answer::Refused(refusal),
+    }
+}
+
+// A refusal fails the session.
+fn life_after(outcome: Outcome) -> Life
+    ensures { λ r. ⌜ r ≡ lifeAfter outcome ⌝ }
+{
+    match outcome {
+        Outcome::Read => Life::Live,
+        Outcome::Settled => Life::Live,
+        Outcome::Stopped => Life::Live,
+        Outcome::Ended(byte) => Life::Ended(byte),
+        Outcome::Refused(_) => Life::Failed,
+    }
+}
+
+// What reading came to: its answer and the session.
 fn answer_for(session: Session, progress: Progress, palette: Palette) -> Fed
     ensures { λ r. ⌜ r ≡ answeredBy session progress palette ⌝ }
 {
-    let consumed = progress.consumed;
-    let ink = progress.ink;
     let frame = progress.frame;
     let outcome = progress.outcome;
-    match outcome {
-        Outcome::Read => Fed {
-            answer: Answer::More { consumed, ink },
-            session: after_reading(session, Life::Live, frame, palette),
-        },
-        Outcome::Settled => Fed {
-            answer: Answer::More { consumed, ink },
-            session: after_reading(session, Life::Live, frame, palette),
-        },
-        Outcome::Stopped => Fed {
-            answer: Answer::Stopped { consumed, ink },
-            session: after_reading(session, Life::Live, frame, palette),
-        },
-        Outcome::Ended(byte) => Fed {
-            answer: Answer::Ended {
-                consumed,
-                ink,
-                byte,
-            },
-            session: after_reading(session, Life::Ended(byte), frame, palette),
-        },
-        Outcome::Refused(refusal) => Fed {
-            answer: Answer::Refused(refusal),
-            session: after_reading(session, Life::Failed, frame, palette),
-        },
+    Fed {
+        answer: answer_of(outcome, progress.consumed, progress.ink),
+        session: after_reading(session, life_after(outcome), frame, palette),
     }
 }
 
@@ -386,10 +434,7 @@ fn finish_live(session: Session, owner: Palette, canvas: &mut [u8]) -> Finished
     let ended = end_command(frame, ground, &mut colors);
     let outcome = ended.outcome;
     let last = ended.frame;
-    if let Outcome::Refused(refusal) = outcome {
-        return refuse_finish(owner, refusal);
-    }
-    if let Judged::Refused(refusal) = final_refusal(last.sheet, ground) {
+    if let Judged::Refused(refusal) = last_refusal(outcome, last.sheet, ground) {
         return refuse_finish(owner, refusal);
     }
     let old = frame.sheet;

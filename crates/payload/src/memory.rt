@@ -1,7 +1,7 @@
 // A session as 48 numbers and 256 registers, for a caller that keeps it in its own memory. Any numbers are a session: one that was
 // never opened here answers as its fields say, and 48 zeros are a failed one. The numbers from 34 on are those of a DCS session.
 ghost use mathlib.Core.Path.{_≡_};
-ghost use Rattle.payload.specs.Memory.{groundWritten, groundFrom, settingsWritten, settingsFrom, penWritten, penFrom, sheetWritten, sheetFrom, rasterWritten, rasterFrom, commandWritten, commandFrom, numbersOf, sessionFrom, tableOf};
+ghost use Rattle.payload.specs.Memory.{groundFrom, settingsFrom, penFrom, sheetFrom, rasterFrom, commandFrom, numbersOf, sessionFrom, tableOf};
 use crate::Session;
 use crate::Settings;
 use crate::codes::color_from;
@@ -25,20 +25,6 @@ use numbers::memory::parameters_from;
 
 // ---- a session's parts
 
-fn write_ground(numbers: &mut [u64; 48], ground: Ground)
-    ensures { λ _. ⌜ now (numbers .exit) ≡ groundWritten (now (numbers .entry)) ground ⌝ }
-{
-    let limits = ground.limits;
-    let background = ground.background;
-    numbers[0] = limits.width as u64;
-    numbers[1] = limits.height as u64;
-    numbers[2] = limits.repeats as u64;
-    numbers[3] = limits.pixels as u64;
-    numbers[4] = ground.stride as u64;
-    numbers[5] = ground.rows as u64;
-    numbers[6] = color_number(background);
-}
-
 fn ground_from(numbers: &[u64; 48]) -> Ground
     ensures { λ r. ⌜ r ≡ groundFrom (now (numbers .entry)) ⌝ }
 {
@@ -57,15 +43,6 @@ fn ground_from(numbers: &[u64; 48]) -> Ground
     }
 }
 
-fn write_settings(numbers: &mut [u64; 48], settings: Settings)
-    ensures { λ _. ⌜ now (numbers .exit) ≡ settingsWritten (now (numbers .entry)) settings ⌝ }
-{
-    let p1 = settings.p1;
-    let p2 = settings.p2;
-    numbers[8] = given_number(p1);
-    numbers[9] = given_number(p2);
-}
-
 fn settings_from(numbers: &[u64; 48]) -> Settings
     ensures { λ r. ⌜ r ≡ settingsFrom (now (numbers .entry)) ⌝ }
 {
@@ -73,17 +50,6 @@ fn settings_from(numbers: &[u64; 48]) -> Settings
         p1: given_from(numbers[8]),
         p2: given_from(numbers[9]),
     }
-}
-
-fn write_pen(numbers: &mut [u64; 48], pen: Pen)
-    ensures { λ _. ⌜ now (numbers .exit) ≡ penWritten (now (numbers .entry)) pen ⌝ }
-{
-    let color = pen.color;
-    numbers[11] = pen.column as u64;
-    numbers[12] = pen.row as u64;
-    numbers[13] = pen.repeat as u64;
-    numbers[14] = pen.register as u64;
-    numbers[15] = color_number(color);
 }
 
 fn pen_from(numbers: &[u64; 48]) -> Pen
@@ -99,15 +65,6 @@ fn pen_from(numbers: &[u64; 48]) -> Pen
     }
 }
 
-fn write_sheet(numbers: &mut [u64; 48], sheet: Sheet)
-    ensures { λ _. ⌜ now (numbers .exit) ≡ sheetWritten (now (numbers .entry)) sheet ⌝ }
-{
-    numbers[16] = sheet.width as u64;
-    numbers[17] = sheet.height as u64;
-    numbers[18] = sheet.right as u64;
-    numbers[19] = sheet.bottom as u64;
-}
-
 fn sheet_from(numbers: &[u64; 48]) -> Sheet
     ensures { λ r. ⌜ r ≡ sheetFrom (now (numbers .entry)) ⌝ }
 {
@@ -119,14 +76,6 @@ fn sheet_from(numbers: &[u64; 48]) -> Sheet
     }
 }
 
-fn write_raster(numbers: &mut [u64; 48], raster: Raster)
-    ensures { λ _. ⌜ now (numbers .exit) ≡ rasterWritten (now (numbers .entry)) raster ⌝ }
-{
-    numbers[20] = raster.ratio as u64;
-    numbers[21] = raster.width as u64;
-    numbers[22] = raster.height as u64;
-}
-
 fn raster_from(numbers: &[u64; 48]) -> Raster
     ensures { λ r. ⌜ r ≡ rasterFrom (now (numbers .entry)) ⌝ }
 {
@@ -135,24 +84,6 @@ fn raster_from(numbers: &[u64; 48]) -> Raster
         width: numbers[21] as usize,
         height: numbers[22] as usize,
     }
-}
-
-fn write_command(numbers: &mut [u64; 48], command: Command)
-    ensures { λ _. ⌜ now (numbers .exit) ≡ commandWritten (now (numbers .entry)) command ⌝ }
-{
-    let kind = command.kind;
-    let values = parameters_numbers(command.parameters);
-    numbers[23] = kind_number(kind);
-    numbers[24] = command.number;
-    numbers[25] = values[0];
-    numbers[26] = values[1];
-    numbers[27] = values[2];
-    numbers[28] = values[3];
-    numbers[29] = values[4];
-    numbers[30] = values[5];
-    numbers[31] = values[6];
-    numbers[32] = values[7];
-    numbers[33] = values[8];
 }
 
 fn command_from(numbers: &[u64; 48]) -> Command
@@ -180,21 +111,72 @@ fn command_from(numbers: &[u64; 48]) -> Command
 
 // ---- a session
 
+// The zeros at the end are where a DCS session has its own numbers.
 pub fn numbers_of(session: Session) -> [u64; 48]
     ensures { λ r. ⌜ r ≡ numbersOf session ⌝ }
 {
-    let frame = session.frame;
+    let ground = session.ground;
+    let background = ground.background;
+    let settings = session.settings;
+    let p1 = settings.p1;
+    let p2 = settings.p2;
     let life = session.life;
-    let mut numbers = [0; 48];
-    write_ground(&mut numbers, session.ground);
-    numbers[7] = session.length as u64;
-    write_settings(&mut numbers, session.settings);
-    numbers[10] = life_number(life);
-    write_pen(&mut numbers, frame.pen);
-    write_sheet(&mut numbers, frame.sheet);
-    write_raster(&mut numbers, frame.raster);
-    write_command(&mut numbers, frame.command);
-    numbers
+    let frame = session.frame;
+    let pen = frame.pen;
+    let color = pen.color;
+    let command = frame.command;
+    let kind = command.kind;
+    let values = parameters_numbers(command.parameters);
+    [
+        ground.limits.width as u64,
+        ground.limits.height as u64,
+        ground.limits.repeats as u64,
+        ground.limits.pixels as u64,
+        ground.stride as u64,
+        ground.rows as u64,
+        color_number(background),
+        session.length as u64,
+        given_number(p1),
+        given_number(p2),
+        life_number(life),
+        pen.column as u64,
+        pen.row as u64,
+        pen.repeat as u64,
+        pen.register as u64,
+        color_number(color),
+        frame.sheet.width as u64,
+        frame.sheet.height as u64,
+        frame.sheet.right as u64,
+        frame.sheet.bottom as u64,
+        frame.raster.ratio as u64,
+        frame.raster.width as u64,
+        frame.raster.height as u64,
+        kind_number(kind),
+        command.number,
+        values[0],
+        values[1],
+        values[2],
+        values[3],
+        values[4],
+        values[5],
+        values[6],
+        values[7],
+        values[8],
+        0,
+        0,
+        0,
+        0,
+        0,
+        0,
+        0,
+        0,
+        0,
+        0,
+        0,
+        0,
+        0,
+        0,
+    ]
 }
 
 pub fn session_from(numbers: &[u64; 48], registers: &[u32; 256]) -> Session

@@ -31,7 +31,8 @@ use Rattle.pieces.specs.declared.Counts.{Counts}
 use Rattle.pieces.specs.declared.Reader.{Reader}
 use Rattle.pieces.specs.declared.Standing.{Standing}
 use Rattle.pieces.specs.declared.Standing.the-variants as standings
-use Rattle.pieces.specs.Pieces.{beganAs, openedAs, openedBy, heldSum, countedAs, afterCall, calledAs, calledBy, finishedAs, finishedBy}
+use Rattle.pieces.specs.declared.Told.{Told}
+use Rattle.pieces.specs.Pieces.{beganAs, openedAs, openedBy, heldSum, countedAs, afterCall, toldBy, calledAs, calledBy, finishedAs, finishedBy}
 use Rattle.pieces.proofs.Standing as StandingType
 
 -- ---- counts
@@ -81,35 +82,38 @@ pub ruleset openings-laws = (opens-ready, opens-refused)
 
 -- ---- one call
 
-module _ (r : Reader) (canvas bytes : List ℕ) {f : Fed} {after : List ℕ} (fed : (f, after) ≡ dcs.fedBy (r .session) canvas bytes (r .allowance)) where
-  calls : {a : Answer} {c : Called} → f .answer ≡ a → c ≡ calledAs a (f .session) r → (c, after) ≡ calledBy r canvas bytes
-  unfolding calledBy
-  calls e h =
-      ap (λ (c : Called). (c, after)) (h ∙ ap (λ (a : Answer). calledAs a (f .session) r) (sym e))
-      ∙ ap (λ (x : Fed × List ℕ). (calledAs (x .0 .answer) (x .0 .session) r, x .1)) fed
+module _ (a : Answer) {t : Told} where
+  tells-as : {b : Answer} → a ≡ b → t ≡ toldBy b → t ≡ toldBy a
+  tells-as k h = h ∙ ap toldBy (sym k)
 
-  module _ {k : Reader} {c : Called} where
-    pub calls-more : {n i : ℕ} → f .answer ≡ answers.More n i → k ≡ afterCall r (f .session) standings.Reading n i → c ≡ record { reader = k; stopped = 0 }
-        → (c, after) ≡ calledBy r canvas bytes
-    unfolding calledAs
-    calls-more e h g = calls e (g ∙ ap (λ (k : Reader). record { reader = k; stopped = 0 }) h)
+  pub tells-more : {n i : ℕ} → a ≡ answers.More n i → t ≡ record { standing = standings.Reading; consumed = n; ink = i; stopped = 0 } → t ≡ toldBy a
+  unfolding toldBy
+  tells-more k h = tells-as k h
 
-    pub calls-stopped : {n i : ℕ} → f .answer ≡ answers.Stopped n i → k ≡ afterCall r (f .session) standings.Reading n i → c ≡ record { reader = k; stopped = n }
-        → (c, after) ≡ calledBy r canvas bytes
-    unfolding calledAs
-    calls-stopped {n} e h g = calls e (g ∙ ap (λ (k : Reader). record { reader = k; stopped = n }) h)
+  pub tells-stopped : {n i : ℕ} → a ≡ answers.Stopped n i → t ≡ record { standing = standings.Reading; consumed = n; ink = i; stopped = n } → t ≡ toldBy a
+  unfolding toldBy
+  tells-stopped k h = tells-as k h
 
-    pub calls-ended : {n i : ℕ} {d : Ending} → f .answer ≡ answers.Ended n i d → k ≡ afterCall r (f .session) (standings.Ended d) n i → c ≡ record { reader = k; stopped = 0 }
-        → (c, after) ≡ calledBy r canvas bytes
-    unfolding calledAs
-    calls-ended e h g = calls e (g ∙ ap (λ (k : Reader). record { reader = k; stopped = 0 }) h)
+  pub tells-ended : {n i : ℕ} {d : Ending} → a ≡ answers.Ended n i d
+      → t ≡ record { standing = standings.Ended d; consumed = n; ink = i; stopped = 0 } → t ≡ toldBy a
+  unfolding toldBy
+  tells-ended k h = tells-as k h
 
-    pub calls-refused : {n : Refusal} → f .answer ≡ answers.Refused n → k ≡ afterCall r (f .session) (standings.Refused n) 0 0 → c ≡ record { reader = k; stopped = 0 }
-        → (c, after) ≡ calledBy r canvas bytes
-    unfolding calledAs
-    calls-refused e h g = calls e (g ∙ ap (λ (k : Reader). record { reader = k; stopped = 0 }) h)
+  pub tells-refused : {n : Refusal} → a ≡ answers.Refused n → t ≡ record { standing = standings.Refused n; consumed = 0; ink = 0; stopped = 0 } → t ≡ toldBy a
+  unfolding toldBy
+  tells-refused k h = tells-as k h
 
-pub ruleset calls-laws = (calls-more, calls-stopped, calls-ended, calls-refused)
+pub ruleset tells-laws = (tells-more, tells-stopped, tells-ended, tells-refused)
+
+pub calls : (r : Reader) (canvas bytes : List ℕ) {f : Fed} {after : List ℕ} {t : Told} {k : Reader}
+    → (f, after) ≡ dcs.fedBy (r .session) canvas bytes (r .allowance)
+    → t ≡ toldBy (f .answer) → k ≡ afterCall r (f .session) (t .standing) (t .consumed) (t .ink)
+    → _≡_ {A = Called × List ℕ} (record { reader = k; stopped = t .stopped }, after) (calledBy r canvas bytes)
+unfolding calledBy calledAs
+calls r canvas bytes {f} {after} {t} fed told read =
+    ap (λ (k : Reader). (record { reader = k; stopped = t .stopped }, after)) read
+    ∙ ap (λ (t : Told). (record { reader = afterCall r (f .session) (t .standing) (t .consumed) (t .ink); stopped = t .stopped }, after)) told
+    ∙ ap (λ (x : Fed × List ℕ). (calledAs (x .0 .answer) (x .0 .session) r, x .1)) fed
 
 -- ---- finishing
 

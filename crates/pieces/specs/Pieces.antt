@@ -22,6 +22,7 @@ use Rattle.pieces.specs.declared.Counts.{Counts}
 use Rattle.pieces.specs.declared.Reader.{Reader}
 use Rattle.pieces.specs.declared.Standing.{Standing}
 use Rattle.pieces.specs.declared.Standing.the-variants as standings
+use Rattle.pieces.specs.declared.Told.{Told}
 
 -- ---- opening
 
@@ -64,13 +65,19 @@ unfolding countedAs
 afterCall r s standing consumed ink =
     record { session = s; standing = standing; allowance = r .allowance; counts = countedAs (r .counts) consumed ink }
 
--- what a call's answer makes of a reader; a refusal tells no counts
+-- what an answer tells of its call; a refusal tells no counts
+unfoldable pub toldBy : Answer → Told
+toldBy (answers.More c i) = record { standing = standings.Reading; consumed = c; ink = i; stopped = 0 }
+toldBy (answers.Stopped c i) = record { standing = standings.Reading; consumed = c; ink = i; stopped = c }
+toldBy (answers.Ended c i e) = record { standing = standings.Ended e; consumed = c; ink = i; stopped = 0 }
+toldBy (answers.Refused n) = record { standing = standings.Refused n; consumed = 0; ink = 0; stopped = 0 }
+
+-- what that makes of a reader
 unfoldable pub calledAs : Answer → Session → Reader → Called
-unfolding afterCall
-calledAs (answers.More c i) s r = record { reader = afterCall r s standings.Reading c i; stopped = 0 }
-calledAs (answers.Stopped c i) s r = record { reader = afterCall r s standings.Reading c i; stopped = c }
-calledAs (answers.Ended c i e) s r = record { reader = afterCall r s (standings.Ended e) c i; stopped = 0 }
-calledAs (answers.Refused n) s r = record { reader = afterCall r s (standings.Refused n) 0 0; stopped = 0 }
+unfolding afterCall toldBy
+calledAs a s r =
+    let t : Told = toldBy a in
+    record { reader = afterCall r s (t .standing) (t .consumed) (t .ink); stopped = t .stopped }
 
 -- a call with the reader's allowance
 unfoldable pub calledBy : Reader → List ℕ → List ℕ → Called × List ℕ

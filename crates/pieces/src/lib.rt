@@ -3,7 +3,7 @@
 ghost use mathlib.Core.Path.{_≡_};
 ghost use Rattle.canvas.specs.Picture.{areaOf};
 ghost use Rattle.canvas.specs.Copy.{numberOf, copied};
-ghost use Rattle.pieces.specs.Pieces.{heldSum, beganAs, openedBy, countedAs, afterCall, calledBy, takenIn, takenBy, finishedBy};
+ghost use Rattle.pieces.specs.Pieces.{heldSum, beganAs, openedBy, countedAs, afterCall, toldBy, calledBy, takenIn, takenBy, finishedBy};
 use canvas::Copied;
 use canvas::copy_picture;
 use colours::Palette;
@@ -39,6 +39,14 @@ pub struct Reader {
     standing: Standing,
     allowance: usize,
     counts: Counts,
+}
+
+// What a call's answer tells: what it came to, its bytes and ink, and the bytes that a stop has consumed, 0 for any other.
+struct Told {
+    standing: Standing,
+    consumed: usize,
+    ink: usize,
+    stopped: usize,
 }
 
 // A reader after one call, and the bytes that a stop has consumed; 0 after any other call, which is a piece's last.
@@ -125,10 +133,31 @@ fn after(
     }
 }
 
-fn came_to(reader: Reader, stopped: usize) -> Called
-    ensures { λ r. ⌜ r ≡ record { reader = reader; stopped = stopped } ⌝ }
+fn tell(standing: Standing, consumed: usize, ink: usize, stopped: usize) -> Told
+    ensures { λ r. ⌜ r ≡ record { standing = standing; consumed = consumed; ink = ink; stopped = stopped } ⌝ }
 {
-    Called { reader, stopped }
+    Told {
+        standing,
+        consumed,
+        ink,
+        stopped,
+    }
+}
+
+// A refusal tells no counts.
+fn told_by(answer: Answer) -> Told
+    ensures { λ r. ⌜ r ≡ toldBy answer ⌝ }
+{
+    match answer {
+        Answer::More { consumed, ink } => tell(Standing::Reading, consumed, ink, 0),
+        Answer::Stopped { consumed, ink } => tell(Standing::Reading, consumed, ink, consumed),
+        Answer::Ended {
+            consumed,
+            ink,
+            ending,
+        } => tell(Standing::Ended(ending), consumed, ink, 0),
+        Answer::Refused(refusal) => tell(Standing::Refused(refusal), 0, 0, 0),
+    }
 }
 
 // Makes one call.
@@ -137,26 +166,11 @@ fn call(reader: Reader, canvas: &mut [u8], bytes: &[u8]) -> Called
 {
     let fed = dcs::feed(reader.session, canvas, bytes, reader.allowance);
     let answer = fed.answer;
-    let session = fed.session;
-    match answer {
-        Answer::More { consumed, ink } => {
-            came_to(after(reader, session, Standing::Reading, consumed, ink), 0)
-        }
-        Answer::Stopped { consumed, ink } => {
-            let read = after(reader, session, Standing::Reading, consumed, ink);
-            came_to(read, consumed)
-        }
-        Answer::Ended {
-            consumed,
-            ink,
-            ending,
-        } => {
-            let read = after(reader, session, Standing::Ended(ending), consumed, ink);
-            came_to(read, 0)
-        }
-        Answer::Refused(refusal) => {
-            came_to(after(reader, session, Standing::Refused(refusal), 0, 0), 0)
-        }
+    let told = told_by(answer);
+    let standing = told.standing;
+    Called {
+        reader: after(reader, fed.session, standing, told.consumed, told.ink),
+        stopped: told.stopped,
     }
 }
 

@@ -1,5 +1,5 @@
-use borrow.Author.Needs.{needs}
 use Rattle.dcs.proofs.SessionLaws.{endings-laws}
+use borrow.Author.Needs.{needs}
 use Rattle.dcs.proofs.close.Statement.{statement}
 use Rattle.dcs.proofs.close.Tie as tie
 
@@ -12,8 +12,8 @@ shared-slice-read-byte c = search needs
 add-next : tie.Need-add-next
 add-next c = search needs
 
-feed-escaped-requires : tie.Need-feed-escaped-requires
-feed-escaped-requires c κs = search needs
+escape-requires : tie.Need-escape-requires
+escape-requires c κs = search needs
 
 returns-2 : tie.Need-returns-2
 returns-2 c = search (needs, endings-laws)
@@ -49,7 +49,7 @@ close-spec =
     returns
     shared-slice-read-byte
     add-next
-    feed-escaped-requires
+    escape-requires
     returns-2
     end-requires
     returns-3

@@ -1,13 +1,10 @@
-use borrow.Author.Needs.{needs}
 use Rattle.dcs.proofs.SessionLaws.{endings-laws}
+use borrow.Author.Needs.{needs}
 use Rattle.dcs.proofs.end.Statement.{statement}
 use Rattle.dcs.proofs.end.Tie as tie
-
-moved-requires : tie.Need-moved-requires
-moved-requires c κs = search needs
 
 returns : tie.Need-returns
 returns c = search (needs, endings-laws)
 
 pub end-spec : {M : Type 1} → statement M
-end-spec = tie.close (tie.spec moved-requires returns)
+end-spec = tie.close (tie.spec returns)

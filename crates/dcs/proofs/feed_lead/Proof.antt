@@ -1,5 +1,5 @@
+use Rattle.dcs.proofs.SessionLaws.{leads}
 use borrow.Author.Needs.{needs}
-use Rattle.dcs.proofs.SessionLaws.{led-begins, leads}
 use Rattle.dcs.proofs.feed_lead.Statement.{statement}
 use Rattle.dcs.proofs.feed_lead.Tie as tie
 
@@ -9,11 +9,8 @@ read-lead-requires c κs = search needs
 enum-told : tie.Need-enum-told
 enum-told c = search needs
 
-session-of-requires : tie.Need-session-of-requires
-session-of-requires c κs = search needs
-
-answered-requires : tie.Need-answered-requires
-answered-requires c κs = search needs
+tell-requires : tie.Need-tell-requires
+tell-requires c κs = search needs
 
 enum-told-2 : tie.Need-enum-told-2
 enum-told-2 c = search needs
@@ -24,9 +21,6 @@ settings-from-requires c κs = search needs
 begin-requires : tie.Need-begin-requires
 begin-requires c κs = search needs
 
-session-of-requires-2 : tie.Need-session-of-requires-2
-session-of-requires-2 c κs = search needs
-
 feed-payload-requires : tie.Need-feed-payload-requires
 feed-payload-requires c κs = search (needs, leads)
 
@@ -36,11 +30,8 @@ enum-known-led c = search needs
 fail-requires : tie.Need-fail-requires
 fail-requires c κs = search needs
 
-session-of-requires-3 : tie.Need-session-of-requires-3
-session-of-requires-3 c κs = search needs
-
-answered-requires-2 : tie.Need-answered-requires-2
-answered-requires-2 c κs = search needs
+tell-requires-2 : tie.Need-tell-requires-2
+tell-requires-2 c κs = search needs
 
 returns : tie.Need-returns
 returns c = search (needs, leads)
@@ -49,14 +40,7 @@ same-length : tie.Need-same-length
 same-length c = search needs
 
 returns-2 : tie.Need-returns-2
-returns-2 c =
-    let fed = c .before .before in
-    let made = fed .before .before in
-    let begun = made .before .before .before in
-    let settings = begun .before .before in
-    let told = settings .before in
-    led-begins _ _ _ _ _ (told .before .before .before .read-lead .ensures) (told .enum-told2 .given .1) (settings .settings-from .ensures) (begun .begin .ensures)
-    (made .session-of2 .ensures) (fed .feed-payload .ensures)
+returns-2 c = search (needs, leads)
 
 returns-3 : tie.Need-returns-3
 returns-3 c = search (needs, leads)
@@ -67,17 +51,14 @@ feed-lead-spec =
     (tie.spec
     read-lead-requires
     enum-told
-    session-of-requires
-    answered-requires
+    tell-requires
     enum-told-2
     settings-from-requires
     begin-requires
-    session-of-requires-2
     feed-payload-requires
     enum-known-led
     fail-requires
-    session-of-requires-3
-    answered-requires-2
+    tell-requires-2
     returns
     same-length
     returns-2

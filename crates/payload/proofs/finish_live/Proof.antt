@@ -10,8 +10,11 @@ table-requires c κs = search needs
 end-command-requires : tie.Need-end-command-requires
 end-command-requires c κs = search needs
 
-enum-known-outcome : tie.Need-enum-known-outcome
-enum-known-outcome c = search needs
+last-refusal-requires : tie.Need-last-refusal-requires
+last-refusal-requires c κs = search needs
+
+enum-known-refusal : tie.Need-enum-known-refusal
+enum-known-refusal c = search needs
 
 refuse-finish-requires : tie.Need-refuse-finish-requires
 refuse-finish-requires c κs = search needs
@@ -19,24 +22,12 @@ refuse-finish-requires c κs = search needs
 returns : tie.Need-returns
 returns c = search (needs, finishings)
 
-final-refusal-requires : tie.Need-final-refusal-requires
-final-refusal-requires c κs = search needs
-
-enum-known-refusal : tie.Need-enum-known-refusal
-enum-known-refusal c = search needs
-
-refuse-finish-requires-2 : tie.Need-refuse-finish-requires-2
-refuse-finish-requires-2 c κs = search needs
-
-returns-2 : tie.Need-returns-2
-returns-2 c = search (needs, finishings)
-
 enum-told : tie.Need-enum-told
 enum-told c = search needs
 
 grow-requires : tie.Need-grow-requires
 grow-requires c κs =
-    let done = c .before .before .before .before .before .before .before .before .before in
+    let done = c .before .before .before .before .before .before .before .before in
     let start = done .before .before .before .before .before .before .before .before in
     settle-room (start .args .session .frame) (start .args .session .ground) _ _ (start .pre) (done .end-command .ensures)
 
@@ -49,8 +40,8 @@ of-table-requires c κs = search needs
 same-length : tie.Need-same-length
 same-length c = search needs
 
-returns-3 : tie.Need-returns-3
-returns-3 c = search (needs, finishings)
+returns-2 : tie.Need-returns-2
+returns-2 c = search (needs, finishings)
 
 pub finish-live-spec : {M : Type 1} → statement M
 finish-live-spec =
@@ -58,16 +49,13 @@ finish-live-spec =
     (tie.spec
     table-requires
     end-command-requires
-    enum-known-outcome
+    last-refusal-requires
+    enum-known-refusal
     refuse-finish-requires
     returns
-    final-refusal-requires
-    enum-known-refusal
-    refuse-finish-requires-2
-    returns-2
     enum-told
     grow-requires
     report-for-requires
     of-table-requires
     same-length
-    returns-3)
+    returns-2)

@@ -9,11 +9,11 @@ may-open-requires c κs = search needs
 background-for-requires : tie.Need-background-for-requires
 background-for-requires c κs = search needs
 
-first-pixel-requires : tie.Need-first-pixel-requires
-first-pixel-requires c κs = search (needs, openings-made)
+paint-if-requires : tie.Need-paint-if-requires
+paint-if-requires c κs = search (needs, openings-made)
 
-new-session-requires : tie.Need-new-session-requires
-new-session-requires c κs = search needs
+open-if-requires : tie.Need-open-if-requires
+open-if-requires c κs = search needs
 
 same-length : tie.Need-same-length
 same-length c = search needs
@@ -21,21 +21,13 @@ same-length c = search needs
 returns : tie.Need-returns
 returns c = search (needs, openings-made)
 
-new-session-requires-2 : tie.Need-new-session-requires-2
-new-session-requires-2 c κs = search needs
-
-returns-2 : tie.Need-returns-2
-returns-2 c = search (needs, openings-made)
-
 pub open-spec : {M : Type 1} → statement M
 open-spec =
     tie.close
     (tie.spec
     may-open-requires
     background-for-requires
-    first-pixel-requires
-    new-session-requires
+    paint-if-requires
+    open-if-requires
     same-length
-    returns
-    new-session-requires-2
-    returns-2)
+    returns)

@@ -1,4 +1,4 @@
-use Rattle.payload.specs.Memory.{nineWritten}
+use Rattle.dcs.specs.Memory.{nineWritten}
 use Rattle.dcs.proofs.MemoryLaws.{numbers-told}
 use borrow.Author.Needs.{needs}
 use Rattle.dcs.proofs.memory.numbers_of.Statement.{statement}

@@ -1,5 +1,5 @@
-use borrow.Author.Needs.{needs}
 use Rattle.payload.proofs.BeginLaws.{beginnings}
+use borrow.Author.Needs.{needs}
 use Rattle.payload.proofs.begin.begin.Statement.{statement}
 use Rattle.payload.proofs.begin.begin.Tie as tie
 
@@ -9,8 +9,8 @@ background-for-requires c κs = search needs
 blank-frame-requires : tie.Need-blank-frame-requires
 blank-frame-requires c κs = search needs
 
-first-pixel-requires : tie.Need-first-pixel-requires
-first-pixel-requires c κs = search needs
+paint-if-requires : tie.Need-paint-if-requires
+paint-if-requires c κs = search needs
 
 same-length : tie.Need-same-length
 same-length c = search needs
@@ -18,16 +18,7 @@ same-length c = search needs
 returns : tie.Need-returns
 returns c = search (needs, beginnings)
 
-returns-2 : tie.Need-returns-2
-returns-2 c = search (needs, beginnings)
-
 pub begin-spec : {M : Type 1} → statement M
 begin-spec =
     tie.close
-    (tie.spec
-    background-for-requires
-    blank-frame-requires
-    first-pixel-requires
-    same-length
-    returns
-    returns-2)
+    (tie.spec background-for-requires blank-frame-requires paint-if-requires same-length returns)

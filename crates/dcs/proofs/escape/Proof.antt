@@ -1,10 +1,7 @@
-use borrow.Author.Needs.{needs}
 use Rattle.dcs.proofs.SessionLaws.{endings-laws}
-use Rattle.dcs.proofs.feed_escaped.Statement.{statement}
-use Rattle.dcs.proofs.feed_escaped.Tie as tie
-
-moved-requires : tie.Need-moved-requires
-moved-requires c κs = search needs
+use borrow.Author.Needs.{needs}
+use Rattle.dcs.proofs.escape.Statement.{statement}
+use Rattle.dcs.proofs.escape.Tie as tie
 
 returns : tie.Need-returns
 returns c = search (needs, endings-laws)
@@ -27,11 +24,10 @@ end-requires-2 c κs = search needs
 returns-3 : tie.Need-returns-3
 returns-3 c = search (needs, endings-laws)
 
-pub feed-escaped-spec : {M : Type 1} → statement M
-feed-escaped-spec =
+pub escape-spec : {M : Type 1} → statement M
+escape-spec =
     tie.close
     (tie.spec
-    moved-requires
     returns
     shared-slice-read-if2
     add-end

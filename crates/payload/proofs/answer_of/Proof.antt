@@ -1,0 +1,55 @@
+use Rattle.payload.proofs.SessionLaws.{answer-as}
+use Rattle.payload.specs.Session.{answerOf}
+use borrow.Author.Needs.{needs}
+use Rattle.payload.proofs.answer_of.Statement.{statement}
+use Rattle.payload.proofs.answer_of.Tie as tie
+
+enum-told : tie.Need-enum-told
+enum-told c = search needs
+
+enum-told-2 : tie.Need-enum-told-2
+enum-told-2 c = search needs
+
+enum-told-3 : tie.Need-enum-told-3
+enum-told-3 c = search needs
+
+enum-known-outcome : tie.Need-enum-known-outcome
+enum-known-outcome c = search needs
+
+enum-known-outcome-2 : tie.Need-enum-known-outcome-2
+enum-known-outcome-2 c = search needs
+
+returns : tie.Need-returns
+unfolding answerOf
+returns c = search (needs, answer-as)
+
+returns-2 : tie.Need-returns-2
+unfolding answerOf
+returns-2 c = search (needs, answer-as)
+
+returns-3 : tie.Need-returns-3
+unfolding answerOf
+returns-3 c = search (needs, answer-as)
+
+returns-4 : tie.Need-returns-4
+unfolding answerOf
+returns-4 c = search (needs, answer-as)
+
+returns-5 : tie.Need-returns-5
+unfolding answerOf
+returns-5 c = search (needs, answer-as)
+
+pub answer-of-spec : {M : Type 1} → statement M
+answer-of-spec =
+    tie.close
+    (tie.spec
+    enum-told
+    enum-told-2
+    enum-told-3
+    enum-known-outcome
+    enum-known-outcome-2
+    returns
+    returns-2
+    returns-3
+    returns-4
+    returns-5)
