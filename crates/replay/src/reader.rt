@@ -1,4 +1,5 @@
-// A session of either kind, so that both are put through the same calls.
+// A session of either kind, so that both are put through the same calls. Between the calls it is kept as numbers: they are cheap to
+// carry for the check, and so every stored case tries a session's memory form too.
 use crate::calls::CANCELLED;
 use crate::calls::COMPLETE;
 use crate::calls::ENDED;
@@ -17,11 +18,39 @@ use frame::Refusal;
 use payload::Finished;
 use payload::Opening;
 
-// The session that is not at work is one whose opening was refused.
+// The session at work as its memory form has it. Which kind's numbers they are: a DCS session's are framed.
 pub(crate) struct Reader {
     is_framed: bool,
-    payload: payload::Session,
-    dcs: dcs::Session,
+    numbers: [u64; 48],
+    registers: [u32; 256],
+}
+
+fn plain(session: payload::Session) -> Reader {
+    Reader {
+        is_framed: false,
+        numbers: payload::memory::numbers_of(session),
+        registers: payload::memory::table_of(session),
+    }
+}
+
+fn framed(session: dcs::Session) -> Reader {
+    Reader {
+        is_framed: true,
+        numbers: dcs::memory::numbers_of(session),
+        registers: dcs::memory::table_of(session),
+    }
+}
+
+fn plain_session(reader: Reader) -> payload::Session {
+    let numbers = reader.numbers;
+    let registers = reader.registers;
+    payload::memory::session_from(&numbers, &registers)
+}
+
+fn framed_session(reader: Reader) -> dcs::Session {
+    let numbers = reader.numbers;
+    let registers = reader.registers;
+    dcs::memory::session_from(&numbers, &registers)
 }
 
 pub(crate) struct Began {
@@ -38,38 +67,22 @@ fn is_ready(answer: Opening) -> bool {
 
 fn open_dcs(record: &[u8], length: usize, stride: usize, owner: Palette) -> Began {
     let limits = limits_of(record);
-    let settings = settings_of(record);
-    let mut nothing = [0; 4];
-    let idle = payload::open(limits, 0, settings, owner, &mut nothing);
-    let payload = idle.session;
     let opened = dcs::open(limits, stride, owner, length);
     let answer = opened.answer;
-    let dcs = opened.session;
     Began {
         is_ready: is_ready(answer),
-        reader: Reader {
-            is_framed: true,
-            payload,
-            dcs,
-        },
+        reader: framed(opened.session),
     }
 }
 
 fn open_payload(record: &[u8], canvas: &mut [u8], stride: usize, owner: Palette) -> Began {
     let limits = limits_of(record);
     let settings = settings_of(record);
-    let idle = dcs::open(limits, 0, owner, 0);
-    let dcs = idle.session;
     let opened = payload::open(limits, stride, settings, owner, canvas);
     let answer = opened.answer;
-    let payload = opened.session;
     Began {
         is_ready: is_ready(answer),
-        reader: Reader {
-            is_framed: false,
-            payload,
-            dcs,
-        },
+        reader: plain(opened.session),
     }
 }
 
@@ -137,49 +150,41 @@ pub(crate) struct Heard {
     pub reader: Reader,
 }
 
-pub(crate) fn feed(before: Reader, canvas: &mut [u8], bytes: &[u8], allowance: usize) -> Heard {
-    let payload = before.payload;
-    let dcs = before.dcs;
-    if before.is_framed {
-        let fed = dcs::feed(dcs, canvas, bytes, allowance);
-        let answer = fed.answer;
-        let after = fed.session;
-        return Heard {
-            said: said_by_dcs(answer),
-            reader: Reader {
-                is_framed: true,
-                payload,
-                dcs: after,
-            },
-        };
-    }
-    let fed = payload::feed(payload, canvas, bytes, allowance);
+fn feed_payload(before: Reader, canvas: &mut [u8], bytes: &[u8], allowance: usize) -> Heard {
+    let fed = payload::feed(plain_session(before), canvas, bytes, allowance);
     let answer = fed.answer;
-    let after = fed.session;
     Heard {
         said: said_by_payload(answer),
-        reader: Reader {
-            is_framed: false,
-            payload: after,
-            dcs,
-        },
+        reader: plain(fed.session),
     }
+}
+
+fn feed_dcs(before: Reader, canvas: &mut [u8], bytes: &[u8], allowance: usize) -> Heard {
+    let fed = dcs::feed(framed_session(before), canvas, bytes, allowance);
+    let answer = fed.answer;
+    Heard {
+        said: said_by_dcs(answer),
+        reader: framed(fed.session),
+    }
+}
+
+pub(crate) fn feed(before: Reader, canvas: &mut [u8], bytes: &[u8], allowance: usize) -> Heard {
+    if before.is_framed {
+        return feed_dcs(before, canvas, bytes, allowance);
+    }
+    feed_payload(before, canvas, bytes, allowance)
 }
 
 pub(crate) fn finish(reader: Reader, owner: Palette, canvas: &mut [u8]) -> Finished {
-    let payload = reader.payload;
-    let dcs = reader.dcs;
     if reader.is_framed {
-        return dcs::finish(dcs, owner, canvas);
+        return dcs::finish(framed_session(reader), owner, canvas);
     }
-    payload::finish(payload, owner, canvas)
+    payload::finish(plain_session(reader), owner, canvas)
 }
 
 pub(crate) fn abort(reader: Reader, owner: Palette) -> Palette {
-    let payload = reader.payload;
-    let dcs = reader.dcs;
     if reader.is_framed {
-        return dcs::abort(dcs, owner);
+        return dcs::abort(framed_session(reader), owner);
     }
-    payload::abort(payload, owner)
+    payload::abort(plain_session(reader), owner)
 }

@@ -84,14 +84,14 @@ fn say_dcs(answer: dcs::Answer) {
 }
 
 fn feed_payload(state: State, lent: &mut [u8], bytes: &[u8], allowance: usize) -> State {
-    let fed = payload::feed(state.payload, lent, bytes, allowance);
+    let fed = payload::feed(state.payload_session(), lent, bytes, allowance);
     let answer = fed.answer;
     say_payload(answer);
     state.with_payload(fed.session)
 }
 
 fn feed_dcs(state: State, lent: &mut [u8], bytes: &[u8], allowance: usize) -> State {
-    let fed = dcs::feed(state.dcs, lent, bytes, allowance);
+    let fed = dcs::feed(state.dcs_session(), lent, bytes, allowance);
     let answer = fed.answer;
     say_dcs(answer);
     state.with_dcs(fed.session)
@@ -123,8 +123,11 @@ pub(crate) fn finish(state: State, lent: &mut [u8]) -> State {
             say::words(b"none");
             state
         }
-        Open::Payload => finished(state, payload::finish(state.payload, state.palette, lent)),
-        Open::Dcs => finished(state, dcs::finish(state.dcs, state.palette, lent)),
+        Open::Payload => finished(
+            state,
+            payload::finish(state.payload_session(), state.palette, lent),
+        ),
+        Open::Dcs => finished(state, dcs::finish(state.dcs_session(), state.palette, lent)),
     }
 }
 
@@ -137,11 +140,11 @@ pub(crate) fn abort(state: State) -> State {
         }
         Open::Payload => {
             say::words(b"aborted");
-            state.closed(payload::abort(state.payload, state.palette))
+            state.closed(payload::abort(state.payload_session(), state.palette))
         }
         Open::Dcs => {
             say::words(b"aborted");
-            state.closed(dcs::abort(state.dcs, state.palette))
+            state.closed(dcs::abort(state.dcs_session(), state.palette))
         }
     }
 }

@@ -1,8 +1,5 @@
 // What the program holds from line to line.
 use colours::Palette;
-use frame::Limits;
-use payload::Given;
-use payload::Settings;
 
 // Which session is open.
 pub(crate) enum Open {
@@ -11,13 +8,13 @@ pub(crate) enum Open {
     Dcs,
 }
 
-// The owner's palette; a place for a session of each kind, of which only the one that is open is ever used; the canvas's length,
-// and how many of its first bytes are lent.
+// The owner's palette; the session that is open, as numbers and registers, which are cheap to carry for the check, and zeros where
+// there is none; the canvas's length, and how many of its first bytes are lent.
 pub(crate) struct State {
     pub(crate) palette: Palette,
     pub(crate) open: Open,
-    pub(crate) payload: payload::Session,
-    pub(crate) dcs: dcs::Session,
+    numbers: [u64; 48],
+    registers: [u32; 256],
     pub(crate) length: usize,
     pub(crate) lent: usize,
 }
@@ -25,12 +22,11 @@ pub(crate) struct State {
 impl State {
     pub(crate) fn with_payload(self, session: payload::Session) -> State {
         let palette = self.palette;
-        let other = self.dcs;
         State {
             palette,
             open: Open::Payload,
-            payload: session,
-            dcs: other,
+            numbers: payload::memory::numbers_of(session),
+            registers: payload::memory::table_of(session),
             length: self.length,
             lent: self.lent,
         }
@@ -38,26 +34,37 @@ impl State {
 
     pub(crate) fn with_dcs(self, session: dcs::Session) -> State {
         let palette = self.palette;
-        let other = self.payload;
         State {
             palette,
             open: Open::Dcs,
-            payload: other,
-            dcs: session,
+            numbers: dcs::memory::numbers_of(session),
+            registers: dcs::memory::table_of(session),
             length: self.length,
             lent: self.lent,
         }
     }
 
+    // The session that was stored, where a payload session is open.
+    pub(crate) fn payload_session(self) -> payload::Session {
+        let numbers = self.numbers;
+        let registers = self.registers;
+        payload::memory::session_from(&numbers, &registers)
+    }
+
+    // The session that was stored, where a DCS session is open.
+    pub(crate) fn dcs_session(self) -> dcs::Session {
+        let numbers = self.numbers;
+        let registers = self.registers;
+        dcs::memory::session_from(&numbers, &registers)
+    }
+
     // No session, and a palette of the owner's.
     pub(crate) fn closed(self, palette: Palette) -> State {
-        let one = self.payload;
-        let other = self.dcs;
         State {
             palette,
             open: Open::Nothing,
-            payload: one,
-            dcs: other,
+            numbers: [0; 48],
+            registers: [0; 256],
             length: self.length,
             lent: self.lent,
         }
@@ -73,33 +80,13 @@ impl State {
     }
 }
 
-// Limits that no opening takes.
-fn no_limits() -> Limits {
-    Limits {
-        width: 0,
-        height: 0,
-        repeats: 0,
-        pixels: 0,
-    }
-}
-
-// The standard palette and no canvas. Refused openings fill the places of the sessions.
+// The standard palette, no session and no canvas.
 pub(crate) fn at_start() -> State {
-    let palette = Palette::standard();
-    let settings = Settings {
-        p1: Given::Nothing,
-        p2: Given::Nothing,
-    };
-    let mut canvas = [0; 4];
-    let one = payload::open(no_limits(), 0, settings, palette, &mut canvas);
-    let other = dcs::open(no_limits(), 0, palette, 0);
-    let payload_place = one.session;
-    let dcs_place = other.session;
     State {
-        palette,
+        palette: Palette::standard(),
         open: Open::Nothing,
-        payload: payload_place,
-        dcs: dcs_place,
+        numbers: [0; 48],
+        registers: [0; 256],
         length: 0,
         lent: 0,
     }
