@@ -1,5 +1,5 @@
 -- A byte does in the code what it does in the definition.
-use Prim.Native.Nat.{ℕ, _-_, _≤_}
+use Prim.Native.Nat.{ℕ, _≤_}
 use native.Mathlib.Omega.{arith}
 use mathlib.Core.Path.{_≡_, refl, sym, ap, _∙_, subst}
 use mathlib.Core.Bool.{Bool, true, false, _&&_, _||_, and-true, true≢false}
@@ -24,7 +24,7 @@ use Rattle.frame.specs.Commands.{withCommand, byDigitIn, byDigit, bySemicolon}
 use Rattle.bytewise.specs.Step.{Turned, readAs, dataStep, takesSemicolon, argumentStep, stepIn, stepOf}
 use Rattle.bytewise.specs.Feed.{thenData, byteStep}
 use Rattle.meaning.specs.Commands.{Kind, repeat, colour, raster, Begun, ofValues, lengthens, taken, longer, closed}
-use Rattle.meaning.specs.Drawing.{Setting, Drawing, drawAll, inkOfAll}
+use Rattle.meaning.specs.Drawing.{Setting, Drawing, drawAll, inkOfAll, strokesSince}
 use Rattle.meaning.specs.Reader.{Step, next}
 use Rattle.meaning.specs.Sessions.{Reading, settled, rested, payloadStep}
 use Rattle.meaning.proofs.AreaLaws.{cond-case}
@@ -213,12 +213,12 @@ module _ {s : Setting} {opening : List ℕ} {r : Reading} {g : Ground} {f : Fram
 
   -- a byte that is read and ends no command
   reads-on : (c : codeCommand.Command) (k : Option Begun)
-      → payloadStep s r b ≡ next (passedWith r k) (inkOfAll (r .drawing .strokes) - inkOfAll (r .drawing .strokes)) → SameBegun k c
+      → payloadStep s r b ≡ next (passedWith r k) (inkOfAll (strokesSince (r .drawing) (r .drawing))) → SameBegun k c
       → Agrees s opening r g b left (payloadStep s r b) (record { stepped = readAs (withCommand f c) 0; palette = p; canvas = l })
   unfolding readAs passedWith withCommand
   reads-on c k e begun =
       subst (λ (x : Step Reading). Agrees s opening r g b left x (record { stepped = readAs (withCommand f c) 0; palette = p; canvas = l })) (sym e)
-      (quietly _ refl refl refl (record { drawing = with-command c (same .drawing); begun = begun }))
+      (quietly _ _ refl refl refl refl (record { drawing = with-command c (same .drawing); begun = begun }))
 
   module _ {k : Begun} (has : r .begun ≡ some k) where
     begun-as : SameBegun (some k) (f .command)

@@ -23,12 +23,12 @@ use Rattle.frame.specs.Numbers.{numberOf}
 use Rattle.frame.specs.Commands.{begun}
 use Rattle.bytewise.specs.Step.{Turned, readAs, inked, canvasAfter, paintedOn, drawnIn, drawnBy, movedTo, dataStep, rowCeiling}
 use Rattle.meaning.specs.Commands.{does, scanByte, closed}
-use Rattle.meaning.specs.Drawing.{Setting, Drawing, withPen, moved, unless, strokeOf, stroked, sixelled, drawCommand, drawAll, andThen, inkOf, inkOfAll}
+use Rattle.meaning.specs.Drawing.{Setting, Drawing, withPen, moved, unless, strokeOf, stroked, sixelled, drawCommand, drawAll, andThen, inkOf, inkOfAll, strokesSince}
 use Rattle.meaning.specs.Payload.{Parameters}
 use Rattle.meaning.specs.Reader.{Step, next, halt, refuse}
 use Rattle.meaning.specs.Sessions.{Reading, settled, rested, endedAt, wentOn, readByte, payloadStep}
 use Rattle.meaning.proofs.AreaLaws.{Allowed, Sound}
-use Rattle.meaning.proofs.InkLaws.{ink-append, sixel-range, scan-sixel}
+use Rattle.meaning.proofs.InkLaws.{since-appended, since-same, sixel-range, scan-sixel}
 use Rattle.agreement.specs.Same.{groundOf, frameOf, canvasOf, Rated, Bounded, SameDrawing, Same}
 use Rattle.agreement.proofs.Sizes.{Sized, allows, turns, sixel-sized}
 use Rattle.agreement.proofs.Sixel.{stroke-same}
@@ -56,11 +56,12 @@ abbrev pub plain : Parameters → ℕ → Drawing → Reading
 plain o n d = record { parameters = o; passed = n; begun = none; drawing = d; over = none }
 
 -- a byte that is read and draws nothing
-pub quietly : {s : Setting} {opening : List ℕ} {r u : Reading} {g : Ground} {b left : ℕ} {t : Turned} (x : ℕ) → u .over ≡ none
-    → t .stepped .outcome ≡ outcomes.Read → t .stepped .ink ≡ 0 → SameAfter s opening u g t → Agrees s opening r g b left (next u (x - x)) t
-quietly x over e ink same =
-    let nothing : 0 ≡ x - x = omega arith in
-    reads {i = x - x} (omega arith) over e (ink ∙ nothing) same
+pub quietly : {s : Setting} {opening : List ℕ} {r u : Reading} {g : Ground} {b left : ℕ} {t : Turned} (before now : Drawing)
+    → now .strokes ≡ before .strokes → u .over ≡ none → t .stepped .outcome ≡ outcomes.Read → t .stepped .ink ≡ 0 → SameAfter s opening u g t
+    → Agrees s opening r g b left (next u (inkOfAll (strokesSince before now))) t
+quietly before now still over e ink same =
+    let nothing : inkOfAll (strokesSince before now) ≡ 0 = since-same before now still in
+    reads {i = inkOfAll (strokesSince before now)} (omega arith) over e (ink ∙ sym nothing) same
 
 -- one value whatever a test says
 pub cond-same : {A : Type 0} (t : Bool) (x : A) → cond t x x ≡ x
@@ -68,9 +69,12 @@ cond-same true x = refl
 cond-same false x = refl
 
 -- a stroke's ink is what it adds
-stroke-ink : (d : Drawing) (bits : ℕ) → inkOfAll (d .strokes ++ strokeOf bits d ∷ []) - inkOfAll (d .strokes) ≡ ones bits * d .pen .repeats
-unfolding inkOfAll inkOf strokeOf
-stroke-ink d bits = let sum = ink-append (d .strokes) (strokeOf bits d ∷ []) in omega arith
+stroke-ink : (d : Drawing) (bits : ℕ) → inkOfAll (strokesSince d (stroked d (strokeOf bits d))) ≡ ones bits * d .pen .repeats
+unfolding inkOfAll inkOf strokeOf stroked
+stroke-ink d bits =
+    let own : inkOfAll (strokesSince d (stroked d (strokeOf bits d))) ≡ d .pen .repeats * ones bits + 0 =
+    ap inkOfAll (since-appended d (stroked d (strokeOf bits d)) (strokeOf bits d ∷ []) refl) in
+    omega arith
 
 -- no byte from 1C to 7F ends the payload
 pub unended : (b : ℕ) → 0x1C ≤ b → b ≤ 0x7F → ends b ≡ false
@@ -101,15 +105,15 @@ module _ {s : Setting} (bounded : Bounded s) (opening : List ℕ) (o : Parameter
   -- a command begins
   hash-agrees : (left : ℕ) → AgreesAt hash left
   unfolding dataStep payloadStep readByte scanByte drawAll frameOf sixel ends skipped
-  hash-agrees left = quietly _ refl refl refl (record { drawing = kept _; begun = (refl, read-none 5) })
+  hash-agrees left = quietly _ _ refl refl refl refl (record { drawing = kept _; begun = (refl, read-none 5) })
 
   bang-agrees : (left : ℕ) → AgreesAt bang left
   unfolding dataStep payloadStep readByte scanByte drawAll frameOf sixel ends skipped
-  bang-agrees left = quietly _ refl refl refl (record { drawing = kept _; begun = (refl, counted-none) })
+  bang-agrees left = quietly _ _ refl refl refl refl (record { drawing = kept _; begun = (refl, counted-none) })
 
   quote-agrees : (left : ℕ) → AgreesAt quote left
   unfolding dataStep payloadStep readByte scanByte drawAll frameOf sixel ends skipped
-  quote-agrees left = quietly _ refl refl refl (record { drawing = kept _; begun = (refl, read-none 4) })
+  quote-agrees left = quietly _ _ refl refl refl refl (record { drawing = kept _; begun = (refl, read-none 4) })
 
   -- the pen moves to column 0 and a row
   moved-same : (row held : ℕ) → held ≡ min row rowCeiling
@@ -128,13 +132,13 @@ module _ {s : Setting} (bounded : Bounded s) (opening : List ℕ) (o : Parameter
 
   dollar-agrees : (left : ℕ) → AgreesAt dollar left
   unfolding dataStep payloadStep readByte scanByte drawAll andThen drawCommand frameOf sixel ends skipped
-  dollar-agrees left = quietly _ refl refl refl (record { drawing = moved-same _ _ refl; begun = idle })
+  dollar-agrees left = quietly _ _ refl refl refl refl (record { drawing = moved-same _ _ refl; begun = idle })
 
   dash-agrees : (left : ℕ) → AgreesAt dash left
   unfolding dataStep payloadStep readByte scanByte drawAll andThen drawCommand frameOf sixel ends skipped
   dash-agrees left =
       let held : min (min (d .pen .row) rowCeiling + 6) rowCeiling ≡ min (d .pen .row + 6) rowCeiling = omega arith in
-      quietly _ refl refl refl (record { drawing = moved-same _ _ held; begun = idle })
+      quietly _ _ refl refl refl refl (record { drawing = moved-same _ _ held; begun = idle })
 
   -- the end of the payload
   end-agrees : (b left : ℕ) → sixel b ≡ false → ends b ≡ true → AgreesAt b left
@@ -146,7 +150,7 @@ module _ {s : Setting} (bounded : Bounded s) (opening : List ℕ) (o : Parameter
       → eqb b quote ≡ false → AgreesAt b left
   unfolding dataStep payloadStep readByte scanByte drawAll frameOf
   other-agrees b left e₁ e₂ e₃ e₄ e₅ e₆ e₇ =
-      simp (e₁, e₂, e₃, e₄, e₅, e₆, e₇, cond-same) (quietly _ refl refl refl (record { drawing = kept c; begun = idle }))
+      simp (e₁, e₂, e₃, e₄, e₅, e₆, e₇, cond-same) (quietly _ _ refl refl refl refl (record { drawing = kept c; begun = idle }))
 
   -- a stroke is painted where its ink is within what is left, else the call stops
   painted-agrees : (b bits left : ℕ) {w h : ℕ} → Allowed s (d .area) (d .pen .column + d .pen .repeats) (d .pen .row + 6)
@@ -161,7 +165,7 @@ module _ {s : Setting} (bounded : Bounded s) (opening : List ℕ) (o : Parameter
       ink = ones bits * d .pen .repeats
 
       added : ℕ
-      added = inkOfAll (d .strokes ++ strokeOf bits d ∷ []) - inkOfAll (d .strokes)
+      added = inkOfAll (strokesSince d (stroked d (strokeOf bits d)))
 
       go : (t : Bool) → ltb left ink ≡ t
           → Agrees s opening (plain o n d) ground b left

@@ -7,7 +7,7 @@ use mathlib.Core.List.{List, [], _++_, append-nil}
 use lib.Dec.{eqb}
 use Rattle.numbers.specs.Bytes.{skipped, sixel, ends, bang, quote, hash, dollar, dash}
 use Rattle.meaning.specs.Commands.{repeat, colour, raster, return, line, draw, Placed, Begun, taken, longer, Scanned, closed, begins, does, own, scanByte}
-use Rattle.meaning.specs.Drawing.{Setting, Outcome, drawAll, inkOfAll}
+use Rattle.meaning.specs.Drawing.{Setting, Outcome, drawAll, inkOfAll, strokesSince}
 use Rattle.meaning.specs.Reader.{Step, next, halt, refuse}
 use Rattle.meaning.specs.Sessions.{Reading, settled, rested, endedAt, wentOn, readByte, payloadStep}
 use Rattle.meaning.proofs.AreaLaws.{drawOn, drawOn-none, drawOn-some, drawAll-append}
@@ -110,7 +110,7 @@ passedWith r k = record { parameters = r .parameters; passed = suc (r .passed); 
 module _ (s : Setting) (r : Reading) (b : ℕ) (going : r .over ≡ none) (unended : ends b ≡ false) where
   -- a byte that ends no command draws nothing
   goes-on : {k : Option Begun} → scanByte (r .passed) (r .begun) b ≡ record { begun = k; ended = [] }
-      → payloadStep s r b ≡ next (passedWith r k) (inkOfAll (r .drawing .strokes) - inkOfAll (r .drawing .strokes))
+      → payloadStep s r b ≡ next (passedWith r k) (inkOfAll (strokesSince (r .drawing) (r .drawing)))
   unfolding payloadStep readByte wentOn drawAll passedWith
   goes-on scans =
       ap (λ (o : Option ℕ). elim o [ none ↦ readByte s r b | some e ↦ halt r ]) going
@@ -121,12 +121,12 @@ module _ (s : Setting) (r : Reading) (b : ℕ) (going : r .over ≡ none) (unend
       went c = wentOn r c (drawAll s (c .ended) (r .drawing))
 
   -- a skipped byte
-  pub payload-skips : skipped b ≡ true → payloadStep s r b ≡ next (passedWith r (r .begun)) (inkOfAll (r .drawing .strokes) - inkOfAll (r .drawing .strokes))
+  pub payload-skips : skipped b ≡ true → payloadStep s r b ≡ next (passedWith r (r .begun)) (inkOfAll (strokesSince (r .drawing) (r .drawing)))
   unfolding scanByte
   payload-skips e = goes-on (rw e)
 
   -- a byte that the begun command takes
   pub payload-takes : skipped b ≡ false → taken (r .begun) b ≡ true
-      → payloadStep s r b ≡ next (passedWith r (longer (r .begun) b)) (inkOfAll (r .drawing .strokes) - inkOfAll (r .drawing .strokes))
+      → payloadStep s r b ≡ next (passedWith r (longer (r .begun) b)) (inkOfAll (strokesSince (r .drawing) (r .drawing)))
   unfolding scanByte
   payload-takes e t = goes-on (rw (e, t))

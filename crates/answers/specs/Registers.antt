@@ -3,7 +3,7 @@
 use Prim.Native.Nat.{ℕ, zero, suc, _+_}
 use mathlib.Core.List.{List, [], _++_}
 use Rattle.colours.specs.declared.Palette.{Palette}
-use Rattle.colours.specs.Palette.{registerOf}
+use Rattle.colours.specs.Palette.{registerCount, registerOf}
 use Rattle.answers.specs.Adler.{adler}
 
 -- the bytes of so many registers from one on
@@ -11,6 +11,6 @@ unfoldable pub registerBytes : Palette → ℕ → ℕ → List ℕ
 registerBytes p from zero = []
 registerBytes p from (suc n) = registerOf p from ++ registerBytes p (from + 1) n
 
--- the checksum of all 256
+-- the checksum of all
 unfoldable pub registersSum : Palette → ℕ
-registersSum p = adler (registerBytes p 0 256)
+registersSum p = adler (registerBytes p 0 registerCount)

@@ -12,7 +12,7 @@ use Rattle.frame.specs.declared.Limits.{Limits}
 use Rattle.frame.specs.declared.Refusal.{Refusal}
 use Rattle.frame.specs.Numbers.{numberOf}
 use Rattle.meaning.specs.Calls.{settingFor, opens}
-use Rattle.meaning.specs.Drawing.{Setting, Outcome}
+use Rattle.meaning.specs.Drawing.{houseLimits, Setting, Outcome}
 use Rattle.meaning.specs.Payload as meant
 use Rattle.meaning.proofs.AreaLaws.{cond-case, option-case, Sound, opens-roomy, payload-sound}
 use Rattle.payload.specs.declared.Finished.{Finished}
@@ -20,11 +20,11 @@ use Rattle.payload.specs.declared.Finishing.{Finishing}
 use Rattle.payload.specs.declared.Finishing.the-variants.{Picture, Refused}
 use Rattle.payload.specs.declared.Given.the-variants.{Nothing}
 use Rattle.payload.specs.declared.Report.{Report}
-use Rattle.payload.specs.History.{givenMeant, parametersMeant, limitsMeant, settingMeant, reportMeant}
+use Rattle.payload.specs.Meant.{limitsCoded, givenMeant, parametersMeant, limitsMeant, settingMeant, reportMeant, finishMeant}
 use Rattle.payload.specs.Judge.{openable}
-use Rattle.oneshot.specs.OneShot.{Read, readOutcome, readPart, finishMeant, readMeant}
+use Rattle.oneshot.specs.OneShot.{Read, readOutcome, readPart, readMeant}
 use Rattle.oneshot.proofs.PartLaws.{opens-meant}
-use Rattle.boundary.specs.Bench.{house, noParameters, sizeOrNumber, benchDecoded, SizeWithin}
+use Rattle.boundary.specs.Bench.{noParameters, sizeOrNumber, benchDecoded, SizeWithin}
 
 -- ---- an answer's number
 
@@ -59,20 +59,17 @@ finish-within {s} o out h =
     (λ _. cond-case (Within s) (meant.tooLarge s (out .drawing .area)) (λ _. tt) (λ _. (h .fits .width, h .fits .height)))
     (λ n _. tt)
 
-within-house : (s : Setting) (a : Finishing) (p : Palette) → s .limits ≡ house → Within s (finishMeant a p) → SizeWithin a
-unfolding finishMeant reportMeant house
+within-house : (s : Setting) (a : Finishing) (p : Palette) → s .limits ≡ houseLimits → Within s (finishMeant a p) → SizeWithin a
+unfolding finishMeant reportMeant
 within-house s (Picture r) p e h = (subst (λ l. r .width ≤ l .width) e (h .0), subst (λ l. r .height ≤ l .height) e (h .1))
 within-house s (Refused n) p e h = tt
 
 -- ---- the reading
 
-abbrev houseLimits : Limits
-houseLimits = record { width = 1024; height = 768; repeats = 1024; pixels = 786432 }
-
-module _ {t : Bool} (stride : ℕ) (canvas bytes : List ℕ) {l : Limits} (limits : l ≡ houseLimits) (e : t ≡ openable l stride (length canvas)) where
-  known : opens house stride (length canvas) ≡ t
-  unfolding house limitsMeant
-  known = sym (e ∙ ap (λ (k : Limits). openable k stride (length canvas)) limits ∙ opens-meant houseLimits stride (length canvas))
+module _ {t : Bool} (stride : ℕ) (canvas bytes : List ℕ) {l : Limits} (limits : l ≡ limitsCoded houseLimits) (e : t ≡ openable l stride (length canvas)) where
+  known : opens houseLimits stride (length canvas) ≡ t
+  unfolding limitsMeant
+  known = sym (e ∙ ap (λ (k : Limits). openable k stride (length canvas)) limits ∙ opens-meant (limitsCoded houseLimits) stride (length canvas))
 
   pub bench-open : t ≡ true → openable l stride (length canvas) ≡ true
   bench-open h = sym e ∙ h
@@ -85,10 +82,10 @@ module _ {t : Bool} (stride : ℕ) (canvas bytes : List ℕ) {l : Limits} (limit
   module _ (h : t ≡ true) {p : Palette} (palette : p ≡ standard) (x : Finished) (l₁ : List ℕ)
       (k : readMeant x l₁ ≡ readPart (settingMeant l stride (length canvas)) (parametersMeant (record { p1 = Nothing; p2 = Nothing })) p canvas bytes) where
     abbrev setting : Setting
-    setting = settingFor house stride (length canvas)
+    setting = settingFor houseLimits stride (length canvas)
 
     read : readMeant x l₁ ≡ readPart setting noParameters standard canvas bytes
-    unfolding house noParameters settingMeant limitsMeant parametersMeant givenMeant
+    unfolding noParameters settingMeant limitsMeant parametersMeant givenMeant
     read =
         k
         ∙ ap (λ (y : Limits). readPart (settingMeant y stride (length canvas)) noParameters p canvas bytes) limits
@@ -102,7 +99,7 @@ module _ {t : Bool} (stride : ℕ) (canvas bytes : List ℕ) {l : Limits} (limit
     unfolding settingFor
     bench-fits =
         within-house setting (x .answer) (x .palette) refl
-        (subst (Within setting) (sym answer) (finish-within noParameters (meant.payload setting noParameters standard bytes) (payload-sound (opens-roomy house stride (length canvas) (known ∙ h)) noParameters standard bytes)))
+        (subst (Within setting) (sym answer) (finish-within noParameters (meant.payload setting noParameters standard bytes) (payload-sound (opens-roomy houseLimits stride (length canvas) (known ∙ h)) noParameters standard bytes)))
 
     pub bench-read : {r : ℕ} → r ≡ sizeOrNumber (finishMeant (x .answer) (x .palette)) → (r, l₁) ≡ benchDecoded stride canvas bytes
     unfolding benchDecoded readMeant readPart readOutcome settingFor
@@ -112,7 +109,7 @@ module _ {t : Bool} (stride : ℕ) (canvas bytes : List ℕ) {l : Limits} (limit
         ∙ sym (cond-yes _ _ (known ∙ h))
 
 -- the smallest allowance under the house's limits
-pub house-least : {l : Limits} → l ≡ houseLimits → 6 * l .width ≤ 6144
+pub house-least : {l : Limits} → l ≡ limitsCoded houseLimits → 6 * l .width ≤ 6144
 house-least e = subst (λ (k : Limits). 6 * k .width ≤ 6144) (sym e) (omega arith)
 
 pub ruleset benched = (house-least, bench-open, bench-closed, bench-fits, bench-read)

@@ -22,12 +22,12 @@ use Rattle.payload.specs.declared.Finishing.the-variants.{Picture, Refused}
 use Rattle.payload.specs.declared.Given.{Given}
 use Rattle.payload.specs.declared.Ratio.{Ratio}
 use Rattle.payload.specs.declared.Report.{Report}
-use Rattle.payload.specs.History.{givenMeant, ratioMeant, limitsMeant, reportMeant}
+use Rattle.payload.specs.Meant.{givenMeant, ratioMeant, limitsMeant, reportMeant, finishMeant}
 use Rattle.oneshot.specs.declared.search.Found.{Found}
 use Rattle.oneshot.specs.declared.search.Found.the-variants as founds
-use Rattle.oneshot.specs.OneShot.{foundMeant, Read, readWhole, finishMeant, readMeant}
+use Rattle.oneshot.specs.OneShot.{foundMeant, Read, readWhole, readMeant}
 use Rattle.oneshot.specs.Search.{foundIn}
-use Rattle.oneshot.proofs.FoundLaws.{found-meant}
+use Rattle.oneshot.proofs.FoundLaws.{refused-part, found-meant}
 use Rattle.boundary.specs.Reading.{givenKind, givenNumber, ratioKind, ratioNumber, reportNumbers, refusalNumber, sixelRead}
 
 -- ---- by the cases of an enum
@@ -94,7 +94,7 @@ standard-table t e k = e ∙ k
 found-short : (bytes : List ℕ) (f : Found) → length (meaning.partOf (foundMeant bytes f)) ≤ length bytes
 unfolding meaning.partOf foundMeant
 found-short bytes (founds.Payload from o) = rw (length-drop from bytes) (omega arith)
-found-short bytes (founds.Refused n) = omega arith
+found-short bytes (founds.Refused n) = rw (refused-part bytes n) (omega arith)
 
 -- the part is no longer than the bytes
 pub part-short : (l : Limits) (stride size : ℕ) (bytes : List ℕ) {part : List ℕ} → part ≡ partHandedBack (limitsMeant l) stride size bytes → length part ≤ length bytes

@@ -6,14 +6,10 @@ use mathlib.Core.Option.{none, some}
 use lib.ListN.{length}
 use Rattle.colours.specs.Palette.{standard}
 use Rattle.meaning.specs.Calls.{settingFor, opens, shown}
-use Rattle.meaning.specs.Drawing.{Limits, Setting, Outcome}
+use Rattle.meaning.specs.Drawing.{houseLimits, Setting, Outcome}
 use Rattle.meaning.specs.Payload.{Parameters, payload, Finished, finished, turnedDown, finish}
 use Rattle.payload.specs.declared.Finishing.{Finishing}
 use Rattle.payload.specs.declared.Finishing.the-variants.{Picture, Refused}
-
--- the house's limits
-unfoldable pub house : Limits
-house = record { width = 1024; height = 768; repeats = 1024; pixels = 786432 }
 
 -- no P1 and no P2
 unfoldable pub noParameters : Parameters
@@ -26,13 +22,13 @@ sizeOrNumber (turnedDown n) = n
 
 -- that of a payload with the standard palette, and the canvas after it; 11 and the canvas as it was where none can be opened
 unfoldable pub benchDecoded : ℕ → List ℕ → List ℕ → ℕ × List ℕ
-unfolding house noParameters sizeOrNumber
+unfolding noParameters sizeOrNumber
 benchDecoded stride canvas bytes =
-    let s : Setting = settingFor house stride (length canvas) in
+    let s : Setting = settingFor houseLimits stride (length canvas) in
     let out : Outcome = payload s noParameters standard bytes in
-    cond (opens house stride (length canvas)) (sizeOrNumber (finish s noParameters out), shown stride (some (out .drawing)) canvas) (11, canvas)
+    cond (opens houseLimits stride (length canvas)) (sizeOrNumber (finish s noParameters out), shown stride (some (out .drawing)) canvas) (11, canvas)
 
 -- a picture of the code no larger than the house's limits
 abbrev pub SizeWithin : Finishing → Type 0
-SizeWithin (Picture r) = (r .width ≤ 1024) × (r .height ≤ 768)
+SizeWithin (Picture r) = (r .width ≤ houseLimits .width) × (r .height ≤ houseLimits .height)
 SizeWithin (Refused n) = Unit {0}

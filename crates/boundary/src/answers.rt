@@ -1,6 +1,6 @@
 // What the calls over a session answer, as numbers.
 ghost use mathlib.Core.Path.{_≡_};
-ghost use Rattle.oneshot.specs.OneShot.{finishMeant};
+ghost use Rattle.payload.specs.Meant.{finishMeant};
 ghost use Rattle.boundary.specs.Sessions.{openingNumber, payloadNumber, payloadReport, endingKind, endingByte, dcsNumber, dcsReport, finishReport};
 use crate::report::report_numbers;
 use dcs::Ending;

@@ -1,7 +1,6 @@
 // What a finish answers, as numbers.
 ghost use mathlib.Core.Path.{_≡_};
-ghost use Rattle.payload.specs.History.{givenMeant, ratioMeant};
-ghost use Rattle.oneshot.specs.OneShot.{finishMeant};
+ghost use Rattle.payload.specs.Meant.{givenMeant, ratioMeant, finishMeant};
 ghost use Rattle.boundary.specs.Bench.{SizeWithin, sizeOrNumber};
 ghost use Rattle.boundary.specs.Reading.{givenKind, givenNumber, ratioKind, ratioNumber, reportNumbers, refusalNumber};
 use frame::number;

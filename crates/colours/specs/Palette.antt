@@ -11,13 +11,17 @@ use Rattle.colours.specs.declared.Palette.{Palette}
 use Rattle.colours.specs.Packing.{packed, pixelOf}
 use Rattle.colours.specs.Standard.{standardAt, listed}
 
+-- a palette has this many registers
+abbrev pub registerCount : ℕ
+registerCount = 256
+
 -- the palette whose registers hold these numbers
 unfoldable pub ofTable : List ℕ → Palette
 ofTable colors = record { colors = colors }
 
 -- the standard palette
 unfoldable pub standard : Palette
-standard = ofTable (listed standardAt 0 256)
+standard = ofTable (listed standardAt 0 registerCount)
 
 -- the pixel of register n; above 255 that of 255
 unfoldable pub registerOf : Palette → ℕ → List ℕ
@@ -25,7 +29,7 @@ registerOf p n = pixelOf (getD (p .colors) (min n 255) 0)
 
 -- register n holds the colour; above 255 nothing changes
 unfoldable pub stored : Palette → ℕ → ℕ → Palette
-stored p n color = pick (ltb n 256) (ofTable (set (p .colors) n color)) p
+stored p n color = pick (ltb n registerCount) (ofTable (set (p .colors) n color)) p
 
 -- register n set by percents of red, green and blue
 unfoldable pub setRgb : Palette → ℕ → ℤ → ℤ → ℤ → Palette

@@ -29,6 +29,7 @@ use Rattle.payload.specs.Begin.{noSettings, withBackground, begunSession, begun
 use Rattle.payload.specs.Judge.{openable, misfitting, fitting, feedJudged}
 use Rattle.payload.specs.Session as coded
 use Rattle.payload.specs.History as payload
+use Rattle.payload.specs.Meant as payloadMeant
 use Rattle.payload.proofs.SessionLaws.{pixel-there}
 use Rattle.payload.proofs.Openings as openings
 use Rattle.dcs.specs.declared.Phase.{Phase}
@@ -41,7 +42,8 @@ use Rattle.dcs.specs.declared.lead.Place.{Place}
 use Rattle.dcs.specs.declared.lead.Step as leadStep
 use Rattle.dcs.specs.Lead.{leadAt, leadOn, leadFrom}
 use Rattle.dcs.specs.Session.{sessionOf, settingsFrom, fedPayload, ledTo}
-use Rattle.dcs.specs.History.{answerMeant, SamePlace, atStart, atIntroduced, inHeader, before, refused, Feeds}
+use Rattle.dcs.specs.History.{SamePlace, atStart, atIntroduced, inHeader, before, refused, Feeds}
+use Rattle.dcs.specs.Meant.{answerMeant}
 use Rattle.dcs.proofs.Runs.{call-dry, call-refuses, after-one}
 use Rattle.dcs.proofs.Leading.{LeadAgrees, goesOn, begins, turnsDown, byte-leads}
 use Rattle.dcs.proofs.Within as framed
@@ -49,7 +51,7 @@ use Rattle.dcs.proofs.Within.{answered, payload-feeds}
 
 module _ (l : Limits) (stride : ℕ) (p : Palette) (opening : List ℕ) where
   abbrev setting : Setting
-  setting = payload.settingMeant l stride (length opening)
+  setting = payloadMeant.settingMeant l stride (length opening)
 
   -- the definition's call
   abbrev dcsCall : ℕ → sessions.Phase → List ℕ → Run sessions.Phase
@@ -99,17 +101,17 @@ module _ (l : Limits) (stride : ℕ) (p : Palette) (opening : List ℕ) where
     Leads z q = Feeds l stride p opening (ledTo (z .led) z (sessionOf waiting h₀ t₀) opening whole a) (answered l stride p opening x₀ q)
 
     lead-begins : (t : Place) (h : Parameters) (n : ℕ) (bs : List ℕ) → drop n whole ≡ bs
-        → Leads (leadAt t h n leds.Begins) (after n 0 (dcsCall a (sessions.within (sessions.opened (payload.parametersMeant (settingsFrom h)) p)) bs))
+        → Leads (leadAt t h n leds.Begins) (after n 0 (dcsCall a (sessions.within (sessions.opened (payloadMeant.parametersMeant (settingsFrom h)) p)) bs))
     unfolding ledTo sessions.opened
     lead-begins t h n bs e =
         subst
         (λ (us : List ℕ).
-        Leads (leadAt t h n leds.Begins) (after n 0 (dcsCall a (sessions.within (sessions.opened (payload.parametersMeant (settingsFrom h)) p)) us)))
+        Leads (leadAt t h n leds.Begins) (after n 0 (dcsCall a (sessions.within (sessions.opened (payloadMeant.parametersMeant (settingsFrom h)) p)) us)))
         e
         (subst
         (λ (b : payloadSession.Session × List ℕ).
         Feeds l stride p opening (fedPayload (sessionOf (b .0) h phases.Within) (b .1) (drop n whole) n a)
-        (answered l stride p opening x₀ (after n 0 (dcsCall a (sessions.within (sessions.opened (payload.parametersMeant (settingsFrom h)) p)) (drop n whole)))))
+        (answered l stride p opening x₀ (after n 0 (dcsCall a (sessions.within (sessions.opened (payloadMeant.parametersMeant (settingsFrom h)) p)) (drop n whole)))))
         (sym (begun-ready (settingsFrom h) opens))
         (payload-feeds l stride p opening (openings.ready-stands l stride (settingsFrom h) p opening opens) refl h x₀ n a (drop n whole) (fine-begun (settingsFrom h) a fine)))
 

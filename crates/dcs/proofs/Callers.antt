@@ -9,18 +9,19 @@ use Rattle.colours.specs.declared.Palette.{Palette}
 use Rattle.frame.specs.declared.Limits.{Limits}
 use Rattle.meaning.specs.Calls as calls
 use Rattle.meaning.specs.Callers as callers
-use Rattle.meaning.specs.Callers.{afterFeed}
+use Rattle.meaning.specs.Callers.{statusTold, afterFeed}
 use Rattle.meaning.specs.Drawing.{Setting}
-use Rattle.meaning.specs.Reader.{isRefused, Run, call, Turn, pieceOf, allowanceOf, Caller, mayCall, having, turn, turns, proper}
+use Rattle.meaning.specs.Reader.{stopped, isRefused, Run, call, Turn, pieceOf, allowanceOf, Caller, mayCall, having, turn, turns, proper}
 use Rattle.meaning.specs.Sessions.{End, Phase, dcsStep, dcsRested}
 use Rattle.meaning.proofs.CallerLaws.{not-refused}
 use Rattle.meaning.proofs.FeedingLaws.{feed-answers}
 use Rattle.meaning.proofs.ToldLaws as toldLaws
-use Rattle.meaning.proofs.ToldLaws.{endTold, may-told, Tells, answered-tells, answered-leaves, Learned, learned-more}
-use Rattle.payload.specs.History.{settingMeant}
+use Rattle.meaning.proofs.ToldLaws.{endTold, may-told, Tells, answered-tells, answered-leaves, Learned, learned-more, answer-status}
+use Rattle.payload.specs.Meant.{settingMeant}
 use Rattle.dcs.specs.declared.Fed.{Fed}
 use Rattle.dcs.specs.Session.{fedBy}
-use Rattle.dcs.specs.History.{answerMeant, heldAt, Stands, Feeds, Held, tellHeld, called, callsOf, properCalls}
+use Rattle.dcs.specs.History.{heldAt, Stands, Feeds, Held, tellHeld, called, callsOf, properCalls}
+use Rattle.dcs.specs.Meant.{answerMeant}
 use Rattle.dcs.proofs.Standing.{feed-stands, stands-long, stands-fit}
 
 module _ (l : Limits) (stride : ℕ) (p : Palette) (opening : List ℕ) where
@@ -86,3 +87,20 @@ module _ (l : Limits) (stride : ℕ) (p : Palette) (opening : List ℕ) where
     pub calls-stand : {c : Caller Held} {k : Caller Phase} → CallerStands c k → (ts : List Turn) → properCalls A c ts ≡ true
         → CallerStands (callsOf c ts) (turns (dcsStep setting p) (dcsRested setting) k ts) × (proper (dcsStep setting p) (dcsRested setting) A k ts ≡ true)
     calls-stand = toldLaws.calls-stand tellHeld (dcsStep setting p) (dcsRested setting) CallerStands A may-there turn-stands
+
+    -- a call that neither stopped nor was refused tells whether the end has come
+    turn-tells : (c : Caller Held) (k : Caller Phase) → CallerStands c k → (t : Turn) → A ≤ allowanceOf t → mayCall t (k .how) ≡ true → (x : calls.Status End)
+        → (called c t .how ≡ stopped → ⊥) → isRefused (called c t .how) ≡ false
+        → statusTold x (tellHeld (c .state) (c .unread ++ pieceOf t) (allowanceOf t) .1) ≡ calls.atEnd (calls.dcsEnd (turn (dcsStep setting p) (dcsRested setting) k t .state))
+    unfolding callers.called afterFeed turn having
+    turn-tells c k h t allowed may x =
+        let live : isRefused (k .how) ≡ false = not-refused t (k .how) may in
+        answer-status calls.dcsEnd (sessionAt k) (call (dcsStep setting p) (dcsRested setting) (allowanceOf t) (k .state) (k .unread ++ pieceOf t)) x
+        (fed-feeds h (allowanceOf t) (pieceOf t) live (omega arith) .answer)
+
+    -- and so does the last of any calls
+    pub status-stands : {c : Caller Held} {k : Caller Phase} → CallerStands c k → (x : calls.Status End)
+        → ((c .how ≡ stopped → ⊥) → isRefused (c .how) ≡ false → x ≡ calls.atEnd (calls.dcsEnd (k .state)))
+        → (ts : List Turn) → properCalls A c ts ≡ true → (callsOf c ts .how ≡ stopped → ⊥) → isRefused (callsOf c ts .how) ≡ false
+        → callers.lastStatus tellHeld x c ts ≡ calls.atEnd (calls.dcsEnd (turns (dcsStep setting p) (dcsRested setting) k ts .state))
+    status-stands = toldLaws.status-stands tellHeld (dcsStep setting p) (dcsRested setting) CallerStands A may-there turn-stands calls.dcsEnd turn-tells

@@ -2,35 +2,41 @@
 use Prim.Native.Nat.{ℕ, _+_, _-_, _*_, _/_, _≤_}
 use native.Mathlib.Omega.{arith}
 use mathlib.Core.Bool.{true, false}
-use mathlib.Core.Option.{Option, some}
+use mathlib.Core.Option.{Option, none, some}
 use mathlib.Core.List.{List}
+use mathlib.Core.Logic.{_↔_, Iff·trans}
 use mathlib.Core.Path.{_≡_, refl, sym, ap, _∙_, subst}
 use lib.ListN.{length}
 use Rattle.numbers.proofs.Laws.{cond-yes}
 use Rattle.colours.specs.declared.Palette.{Palette}
 use Rattle.frame.specs.declared.Limits.{Limits}
 use Rattle.meaning.specs.Calls as calls
+use Rattle.meaning.specs.Callers.{Ask, lastStatus}
 use Rattle.meaning.specs.Drawing.{Setting, Drawing}
-use Rattle.meaning.specs.Histories.{Ask}
-use Rattle.meaning.specs.OneShot.{missing, findPayload, oneShot}
+use Rattle.meaning.specs.OneShot.{refusedWith, findPayload, answerOf, oneShot}
 use Rattle.meaning.specs.Payload as meant
-use Rattle.meaning.specs.Reader.{How, stopped, halted, refusedBy, isRefused, readFrom, Turn, stream, pieces, Caller, ranBy, ready}
-use Rattle.meaning.specs.Sequence.{sequencePayload, sequenceInk}
+use Rattle.meaning.specs.Reader.{How, stopped, halted, refusedBy, isRefused, Run, readFrom, Turn, stream, pieces, Caller, ranBy, ready}
+use Rattle.meaning.specs.Sequence.{sequencePayload, sequenceEnd, sequenceConsumed, sequenceRefusal, sequenceDrawn, sequenceFinish, sequenceInk}
 use Rattle.meaning.specs.Sessions.{End, Phase, start, dcsStep, finishDcs}
+use Rattle.meaning.proofs.DcsLaws.{readSequence}
 use Rattle.meaning.proofs.DcsSoFar.{dcs-finish-drawing, dcs-refused-drawn}
 use Rattle.meaning.proofs.Demand3.{dcs-calls, dcs-outcome, dcs-finishes, dcs-refused, dcs-all-ink}
 use Rattle.meaning.proofs.FeedingLaws.{finish-answers}
+use Rattle.meaning.proofs.SequenceLaws.{sequence-drawn, sequence-refusal, sequence-ended, sequence-consumed, sequence-finished, ended-found}
 use Rattle.meaning.proofs.ToldLaws as toldLaws
 use Rattle.meaning.proofs.ToldLaws.{all-pass, endTold, refused-told, told-end, told-refusal}
-use Rattle.payload.specs.History.{settingMeant, limitsMeant, Finishes}
+use Rattle.payload.specs.declared.Finished.{Finished}
+use Rattle.payload.specs.History.{Finishes, pictures, declines}
+use Rattle.payload.specs.Meant.{settingMeant, limitsMeant}
 use Rattle.payload.specs.Judge.{openable}
 use Rattle.payload.proofs.Openings.{opens-meant}
 use Rattle.dcs.specs.declared.Session.{Session}
 use Rattle.dcs.specs.Session.{openedBy, fedBy, finishedBy}
-use Rattle.dcs.specs.History.{answerMeant, heldAt, Stands, Feeds, Held, feedHeld, feedMeant, Past, fedAll, PastMeant, fedAllMeant, callsOf, properCalls}
+use Rattle.dcs.specs.History.{heldAt, Stands, Feeds, Held, feedHeld, tellHeld, feedMeant, Past, fedAll, PastMeant, fedAllMeant, callsOf, properCalls}
+use Rattle.dcs.specs.Meant.{answerMeant}
 use Rattle.dcs.proofs.Standing.{feed-stands, finish-stands, stands-shows, stands-long, stands-fit}
 use Rattle.dcs.proofs.Openings.{opened-stands}
-use Rattle.dcs.proofs.Callers.{CallerStands, calls-stand}
+use Rattle.dcs.proofs.Callers.{CallerStands, sessionAt, calls-stand, status-stands}
 
 -- ---- any calls
 
@@ -65,6 +71,12 @@ history-finishes l stride p opening {s} {c} {m} k cs owner =
     (finishedBy (fedAll s c cs .state .0) owner (fedAll s c cs .state .1)) (calls.finishDcsSession (fedAllMeant p m (length opening) cs .state) n))
     (stands-long l stride p opening after)
     (finish-stands l stride p opening owner after)
+
+-- a finish that is refused shows no picture, whichever it would be
+declined-alike : {picture other l : List ℕ} {owner : Palette} {y : Finished × List ℕ} {z : meant.Finished} {n : ℕ} → Finishes picture owner l y z
+    → z ≡ meant.turnedDown n → Finishes other owner l y z
+declined-alike pictures e = absurd (let never : _≡_ {A = ℕ} 0 1 = cc in omega arith)
+declined-alike (declines n) e = declines n
 
 -- ---- demands 2 and 3 of the code: a session that was opened, and a caller that presents what was left unread
 
@@ -165,7 +177,7 @@ module _ (l : Limits) (stride : ℕ) (p : Palette) (opening : List ℕ) (opens :
 
     -- A refusal is what introducer and header are refused with, or what reading the whole at once answers; the canvas shows what came before it.
     pub whole-refused : {n : ℕ} → now .how ≡ refusedBy n
-        → (n ≤ 3 → sequencePayload (stream ts) ≡ missing n) × (2 ≤ n → oneShot setting p (stream ts) ≡ meant.turnedDown n)
+        → (n ≤ 3 → sequencePayload (stream ts) ≡ refusedWith n) × (2 ≤ n → oneShot setting p (stream ts) ≡ meant.turnedDown n)
         × (canvas ≡ calls.shown stride (calls.drawingFound setting p (sequencePayload (stream ts))) opening)
     whole-refused told =
         let e = told-refusal (there .how) (calls.dcsEnd (there .state)) (sym (stood .learned .how) ∙ told) in
@@ -178,3 +190,78 @@ module _ (l : Limits) (stride : ℕ) (p : Palette) (opening : List ℕ) (opens :
     -- Demand 3, its third sentence: the ink that the calls told adds up to I.
     pub whole-ink : (now .how ≡ stopped → ⊥) → isRefused (now .how) ≡ false → now .ink ≡ sequenceInk setting p (stream ts)
     whole-ink going fine = stood .learned .ink (fine-there fine) ∙ dcs-all-ink setting p A ts proper-there (going-there going)
+
+    -- A refusal is given exactly when reading the whole stream comes to it.
+    pub whole-refusal : (now .how ≡ stopped → ⊥) → (n : ℕ) → (now .how ≡ refusedBy n) ↔ (sequenceRefusal setting p (stream ts) ≡ some n)
+    unfolding ranBy endTold
+    whole-refusal going n =
+        let same : readSequence setting p (stream ts) .how ≡ there .how = ap (λ (q : Run Phase). q .how) (whole-state going) in
+        Iff·trans (
+          λ e. same ∙ told-refusal (there .how) (calls.dcsEnd (there .state)) (sym (stood .learned .how) ∙ e),
+          λ e. stood .learned .how ∙ ap (λ (h : How). endTold h (calls.dcsEnd (there .state))) (sym same ∙ e),
+        )
+        (sequence-refusal setting p (stream ts) n)
+
+    -- The canvas shows what has been drawn once the whole stream is read, up to a refusal.
+    pub whole-drawn : (now .how ≡ stopped → ⊥) → canvas ≡ calls.shown stride (sequenceDrawn setting p (stream ts)) opening
+    unfolding ranBy
+    whole-drawn going =
+        canvas-shows
+        ∙ ap (λ (d : Option Drawing). calls.shown stride d opening)
+        (sym (ap (λ (q : Run Phase). calls.drawingOf (q .state)) (whole-state going)) ∙ sequence-drawn setting p (stream ts))
+
+    -- ---- unless the last call stopped or was refused
+
+    module _ (going : now .how ≡ stopped → ⊥) (fine : isRefused (now .how) ≡ false) where
+      unrefused : isRefused (readSequence setting p (stream ts) .how) ≡ false
+      unfolding ranBy
+      unrefused = ap (λ (q : Run Phase). isRefused (q .how)) (whole-state going) ∙ fine-there fine
+
+      ended : calls.dcsEnd (there .state) ≡ sequenceEnd (stream ts)
+      unfolding ranBy
+      ended = sym (ap (λ (q : Run Phase). calls.dcsEnd (q .state)) (whole-state going)) ∙ sequence-ended setting p (stream ts) unrefused
+
+      -- The last call told how the whole stream has ended, or that it has not.
+      pub whole-status : lastStatus tellHeld calls.needsMore opened ts ≡ calls.atEnd (sequenceEnd (stream ts))
+      unfolding calls.dcsEnd calls.atEnd ready
+      whole-status =
+          status-stands l stride p opening A roomy start-stands calls.needsMore (λ g f. refl) ts ok going fine ∙ ap calls.atEnd ended
+
+      -- The bytes that the calls told are those that the whole stream consumes.
+      pub whole-consumed : now .consumed ≡ sequenceConsumed (stream ts)
+      unfolding ranBy
+      whole-consumed =
+          stood .learned .consumed (fine-there fine)
+          ∙ sym (ap (λ (q : Run Phase). q .consumed) (whole-state going))
+          ∙ sequence-consumed setting p (stream ts) unrefused
+
+      answers-whole : calls.finishDcsSession (sessionAt l stride p opening there) (length canvas) ≡ sequenceFinish setting p (stream ts)
+      unfolding calls.finishDcsSession ranBy
+      answers-whole =
+          let m : calls.Session Phase = sessionAt l stride p opening there in
+          ap (calls.finishDcsSession m) (stands-long l stride p opening (stood .session))
+          ∙ finish-answers (λ (t : Phase). calls.visibleArea (calls.drawingOf t)) finishDcs m (length opening) (fine-there fine) (stands-fit l stride p opening (stood .session))
+          ∙ ap (λ (q : Run Phase). finishDcs setting (q .state)) (sym (whole-state going))
+          ∙ sequence-finished setting p (stream ts) unrefused
+
+      -- A finish is the whole stream's: 8 before its end, and then what reading it all at once answers, with its picture.
+      pub whole-concludes : (owner : Palette)
+          → Finishes (calls.shown stride (calls.drawingFound setting p (sequencePayload (stream ts))) opening) owner canvas (finishedBy session owner canvas)
+          (sequenceFinish setting p (stream ts))
+      unfolding calls.dcsShownAtFinish settingMeant calls.settingFor sequenceFinish
+      whole-concludes owner = go (sequenceEnd (stream ts)) refl
+        where
+          finishes : Finishes (calls.shown stride (calls.drawingAtFinish setting (there .state)) opening) owner canvas (finishedBy session owner canvas)
+              (sequenceFinish setting p (stream ts))
+          finishes =
+              subst (Finishes (calls.shown stride (calls.drawingAtFinish setting (there .state)) opening) owner canvas (finishedBy session owner canvas)) answers-whole
+              (finish-stands l stride p opening owner (stood .session))
+
+          go : (o : Option End) → sequenceEnd (stream ts) ≡ o
+              → Finishes (calls.shown stride (calls.drawingFound setting p (sequencePayload (stream ts))) opening) owner canvas (finishedBy session owner canvas)
+              (sequenceFinish setting p (stream ts))
+          go none e = declined-alike finishes (ap (λ (o : Option End). elim o as (λ _. meant.Finished) [ none ↦ meant.turnedDown 8 | some d ↦ answerOf setting p (sequencePayload (stream ts)) ]) e)
+          go (some d) e =
+              subst (λ (x : Option Drawing). Finishes (calls.shown stride x opening) owner canvas (finishedBy session owner canvas) (sequenceFinish setting p (stream ts)))
+              (dcs-finish-drawing setting p A ts roomy proper-there (going-there going) (ended ∙ e) ∙ ap (calls.drawingFound setting p) (ended-found (stream ts) e))
+              finishes

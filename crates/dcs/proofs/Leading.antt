@@ -26,6 +26,7 @@ use Rattle.meaning.specs.Reader as reader
 use Rattle.meaning.specs.Sessions as sessions
 use Rattle.payload.specs.declared.Given.the-variants as givens
 use Rattle.payload.specs.History as payload
+use Rattle.payload.specs.Meant as payloadMeant
 use Rattle.dcs.specs.declared.lead.Place.{Place}
 use Rattle.dcs.specs.declared.lead.Led.the-variants as leds
 use Rattle.dcs.specs.declared.lead.Step.{Step}
@@ -46,25 +47,25 @@ elem-some [] i h = absurd (omega arith)
 elem-some (x ∷ xs) zero h = refl
 elem-some (x ∷ xs) (suc i) h = elem-some xs i (omega arith)
 
-given-meant : {bs : List ℕ} {h : Parameters} → Read 3 bs h → (i : ℕ) → payload.givenMeant (givenAt (finished h) i) ≡ Option·map held16 (getElem? (values 3 bs) i)
-unfolding givenAt payload.givenMeant
+given-meant : {bs : List ℕ} {h : Parameters} → Read 3 bs h → (i : ℕ) → payloadMeant.givenMeant (givenAt (finished h) i) ≡ Option·map held16 (getElem? (values 3 bs) i)
+unfolding givenAt payloadMeant.givenMeant
 given-meant {bs} {h} r i =
     let count : finished h .count ≡ length (values 3 bs) = read-count (omega arith) r in
     let value : valueAt (finished h) i ≡ getD (values 3 bs) i 0 = read-value i (omega arith) r in
     by-test (leb (finished h .count) i)
     (λ t.
     let few : finished h .count ≤ i = leb-true _ _ t in
-    ap payload.givenMeant (cond-yes givens.Nothing (givens.Number (held16 (valueAt (finished h) i))) t)
+    ap payloadMeant.givenMeant (cond-yes givens.Nothing (givens.Number (held16 (valueAt (finished h) i))) t)
     ∙ ap (Option·map held16) (sym (elem-none (values 3 bs) i (omega arith))))
     (λ t.
     let many : i < finished h .count = leb-false _ _ t in
-    ap payload.givenMeant (cond-no givens.Nothing (givens.Number (held16 (valueAt (finished h) i))) t)
+    ap payloadMeant.givenMeant (cond-no givens.Nothing (givens.Number (held16 (valueAt (finished h) i))) t)
     ∙ ap (λ (n : ℕ). some (held16 n)) value
     ∙ ap (Option·map held16) (sym (elem-some (values 3 bs) i (omega arith))))
 
 -- the values of a header are the definition's parameters
-pub settings-meant : {bs : List ℕ} {h : Parameters} → Read 3 bs h → sessions.parametersOf bs ≡ payload.parametersMeant (settingsFrom h)
-unfolding sessions.parametersOf payload.parametersMeant settingsFrom
+pub settings-meant : {bs : List ℕ} {h : Parameters} → Read 3 bs h → sessions.parametersOf bs ≡ payloadMeant.parametersMeant (settingsFrom h)
+unfolding sessions.parametersOf payloadMeant.parametersMeant settingsFrom
 settings-meant r =
     ap₂ (λ (a b : Option ℕ). record { p1 = a; p2 = b }) (sym (given-meant r 0)) (sym (given-meant r 1))
 
@@ -73,7 +74,7 @@ settings-meant r =
 -- the code's step and the definition's: on to the same place, to the payload with the same parameters, or refused with the same number
 pub data LeadAgrees (p : Palette) : Step → reader.Step sessions.Phase → Type 0 where
   goesOn : {s : Step} {x : sessions.Phase} → s .led ≡ leds.On → SamePlace (s .place) (s .header) x → LeadAgrees p s (reader.next x 0)
-  begins : {s : Step} {o : meant.Parameters} → s .led ≡ leds.Begins → o ≡ payload.parametersMeant (settingsFrom (s .header))
+  begins : {s : Step} {o : meant.Parameters} → s .led ≡ leds.Begins → o ≡ payloadMeant.parametersMeant (settingsFrom (s .header))
       → LeadAgrees p s (reader.next (sessions.within (sessions.opened o p)) 0)
   turnsDown : {s : Step} {x : sessions.Phase} {n : ℕ} (why : Refusal) → s .led ≡ leds.Refused why → numberOf why ≡ n → SamePlace (s .place) (s .header) x
       → LeadAgrees p s (reader.refuse x n)

@@ -14,23 +14,25 @@ use Rattle.meaning.specs.Callers as callers
 use Rattle.meaning.specs.Drawing.{Setting}
 use Rattle.meaning.specs.Reader.{Step, next, halt, refuse, How, readAll, stopped, halted, refusedBy, isRefused, isOngoing, Run, still, after, follow, readFrom, Turn, pieceOf, allowanceOf, stream, Caller, ranBy, mayCall, having, turn, turns}
 use Rattle.meaning.specs.Payload.{turnedDown}
-use Rattle.meaning.specs.Sessions.{End, Phase, start, introduced, header, within, afterEscape, over, dcsStep, dcsRested, finishDcs}
+use Rattle.meaning.specs.Sessions.{End, Phase, start, dcsStep, dcsRested, finishDcs}
 use Rattle.meaning.proofs.AreaLaws.{DcsDoes, advances, begins, turns as refused, reads, refuses, escapes, closes, breaks, completes, lapses, remains, dcs-does}
 use Rattle.meaning.proofs.CallLaws.{call-stop-reads}
 use Rattle.meaning.proofs.CallerLaws.{not-refused}
 use Rattle.meaning.proofs.Demand3.{dcs-caps}
-use Rattle.meaning.proofs.DcsParts.{no-end}
 use Rattle.meaning.proofs.EachCall.{dcs-so-far}
 use Rattle.meaning.proofs.InkLaws.{Halts}
+use Rattle.meaning.proofs.SequenceLaws.{unended-finish}
 use Rattle.meaning.proofs.SoFarLaws.{LeftBy, allRead, stoppedAt}
 use Rattle.meaning.proofs.FeedingLaws.{finish-answers}
 use Rattle.meaning.proofs.ToldLaws.{endTold, told-stopped, told-more, answered-end, proper-one}
-use Rattle.payload.specs.History.{settingMeant, Finishes}
+use Rattle.payload.specs.History.{Finishes}
+use Rattle.payload.specs.Meant.{settingMeant}
 use Rattle.payload.specs.Judge.{openable}
 use Rattle.dcs.specs.declared.Answer.the-variants as answers
 use Rattle.dcs.specs.declared.Ending.{Ending}
 use Rattle.dcs.specs.Session.{fedBy, finishedBy}
-use Rattle.dcs.specs.History.{endMeant, answerMeant, Held, tellHeld, called, properCalls}
+use Rattle.dcs.specs.History.{Held, tellHeld, called, properCalls}
+use Rattle.dcs.specs.Meant.{endMeant, answerMeant}
 use Rattle.dcs.proofs.Callers.{CallerStands, sessionAt, fed-feeds, may-there, calls-stand}
 use Rattle.dcs.proofs.History as history
 use Rattle.dcs.proofs.Standing.{finish-stands, stands-long, stands-fit}
@@ -75,16 +77,6 @@ left-none : {S : Type 0} {step : S → ℕ → Step S} {rest : S → S} {h : How
     → h ≡ readAll → unread ≡ []
 left-none allRead e = refl
 left-none (stoppedAt q inked) e = absurd (let never : _≡_ {A = ℕ} 0 1 = cc in omega arith)
-
--- finishing before the end is 8
-finish-before : (s : Setting) (t : Phase) → calls.dcsEnd t ≡ none → finishDcs s t ≡ turnedDown 8
-unfolding finishDcs calls.dcsEnd
-finish-before s start e = refl
-finish-before s introduced e = refl
-finish-before s (header bs) e = refl
-finish-before s (within r) e = refl
-finish-before s (afterEscape r) e = refl
-finish-before s (over d r) e = absurd (no-end (sym e))
 
 all-going : readAll ≡ stopped → ⊥
 all-going e = let never : _≡_ {A = ℕ} 0 1 = cc in omega arith
@@ -141,7 +133,7 @@ module _ (l : Limits) (stride : ℕ) (p : Palette) (opening : List ℕ) (opens :
       let answer : calls.finishDcsSession m (length (now .state .1)) ≡ turnedDown 8 =
       ap (calls.finishDcsSession m) (stands-long l stride p opening (stood .session))
       ∙ finish-answers (λ (t : Phase). calls.visibleArea (calls.drawingOf t)) finishDcs m (length opening) fine (stands-fit l stride p opening (stood .session))
-      ∙ finish-before setting (there .state) (not-ended e) in
+      ∙ unended-finish setting (there .state) (not-ended e) in
       subst (Finishes (calls.shown stride (calls.drawingAtFinish setting (there .state)) opening) owner (now .state .1) (finishedBy (now .state .0) owner (now .state .1))) answer
       (finish-stands l stride p opening owner (stood .session))
 

@@ -12,8 +12,8 @@ use Rattle.numbers.proofs.Laws.{cond-yes, cond-no}
 use Rattle.colours.specs.declared.Palette.{Palette}
 use Rattle.meaning.specs.Drawing.{Setting}
 use Rattle.meaning.specs.Reader.{Step, next, halt, refuse, How, readAll, stopped, halted, refusedBy, Run, still, after, follow, call}
-use Rattle.meaning.specs.Sequence.{inPayload}
 use Rattle.meaning.specs.Sessions.{Reading, Phase, within, afterEscape, over, payloadStep, rested, endStep, withinStep, escapeStep, dcsStep, dcsRested, complete, cancelled, interrupted}
+use Rattle.meaning.proofs.Framing.{inPayload}
 use Rattle.meaning.proofs.RunLaws.{after-zero, after-after}
 use Rattle.meaning.proofs.CallLaws.{Called, nothing, goes, stops, halts, refuses, called, drop-one-more}
 

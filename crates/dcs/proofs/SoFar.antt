@@ -16,7 +16,7 @@ use Rattle.meaning.specs.Sequence.{sequencePayload, sequenceInk}
 use Rattle.meaning.specs.Sessions.{End, Phase}
 use Rattle.meaning.proofs.DcsSoFar.{dcs-settled-so-far, dcs-stopped-drawn, dcs-ended-drawn}
 use Rattle.meaning.proofs.ToldLaws.{endTold}
-use Rattle.payload.specs.History.{settingMeant}
+use Rattle.payload.specs.Meant.{settingMeant}
 use Rattle.payload.specs.Judge.{openable}
 use Rattle.dcs.specs.History.{Held, properCalls}
 use Rattle.dcs.proofs.Callers.{CallerStands}

@@ -33,6 +33,7 @@ use Rattle.payload.specs.declared.Opened as payloadOpened
 use Rattle.payload.specs.Judge.{inRange, limitsFit, openable, isFailed, feedJudged, finishJudged}
 use Rattle.payload.specs.Session as coded
 use Rattle.payload.specs.History as payload
+use Rattle.payload.specs.Meant as payloadMeant
 use Rattle.payload.proofs.Openings as openings
 use Rattle.payload.proofs.Judgements as judgements
 use Rattle.payload.proofs.Finishings as finishings
@@ -43,14 +44,15 @@ use Rattle.dcs.specs.declared.Session.{Session}
 use Rattle.dcs.specs.declared.lead.Place.{Place}
 use Rattle.dcs.specs.declared.lead.Place.the-variants as places
 use Rattle.dcs.specs.Session.{sessionOf, openedBy, overAs, escapedBy, fedPayload, fedLead, fedIn, fedAs, fedBy, finishedIn, finishedAs, finishedBy}
-use Rattle.dcs.specs.History.{endMeant, answerMeant, SamePlace, atStart, atIntroduced, inHeader, heldAt, Stands, before, refused, inside, escaped, ended, Opens, isReady, isRefused, Feeds}
+use Rattle.dcs.specs.History.{SamePlace, atStart, atIntroduced, inHeader, heldAt, Stands, before, refused, inside, escaped, ended, Opens, isReady, isRefused, Feeds}
+use Rattle.dcs.specs.Meant.{endMeant, answerMeant}
 use Rattle.dcs.proofs.Runs.{both}
 use Rattle.dcs.proofs.Within.{here, dcsCall, answered, over-feeds, escaped-feeds, payload-feeds}
 use Rattle.dcs.proofs.Before.{waiting, place-area, place-unfinished, lead-feeds}
 
 module _ (l : Limits) (stride : ℕ) (p : Palette) (opening : List ℕ) where
   abbrev setting : Setting
-  setting = payload.settingMeant l stride (length opening)
+  setting = payloadMeant.settingMeant l stride (length opening)
 
   -- ---- feeding
 
@@ -83,7 +85,7 @@ module _ (l : Limits) (stride : ℕ) (p : Palette) (opening : List ℕ) where
 
   module _ (opens : openable l stride (length opening) ≡ true) {t : Place} {h : Parameters} {x : sessions.Phase} (same : SamePlace t h x) where
     -- the waiting session, as one that has begun
-    waits : payload.Stands opening (waiting l stride p opening) (painted (span 0 1) (coded.backgroundFor p (noSettings .p2)) opening) (heldAt l stride (length opening) (sessions.opened (payload.parametersMeant noSettings) p) false)
+    waits : payload.Stands opening (waiting l stride p opening) (painted (span 0 1) (coded.backgroundFor p (noSettings .p2)) opening) (heldAt l stride (length opening) (sessions.opened (payloadMeant.parametersMeant noSettings) p) false)
     waits = openings.ready-stands l stride noSettings p opening opens
 
     before-judged : (a : ℕ) → judgements.judgedMeant (feedJudged (waiting l stride p opening) (length opening) a)
@@ -161,8 +163,8 @@ module _ (l : Limits) (stride : ℕ) (p : Palette) (opening : List ℕ) where
   -- ---- opening
 
   -- an opening of the code is the definition's
-  pub open-stands : Opens l stride p opening (openedBy l stride p (length opening)) (calls.openDcs (payload.limitsMeant l) stride (length opening))
-  unfolding openedBy reservedBy calls.openDcs calls.openWith numberOf payload.settingMeant calls.settingFor openable limitsFit inRange calls.opens calls.limitsHold calls.ranges payload.limitsMeant
+  pub open-stands : Opens l stride p opening (openedBy l stride p (length opening)) (calls.openDcs (payloadMeant.limitsMeant l) stride (length opening))
+  unfolding openedBy reservedBy calls.openDcs calls.openWith numberOf payloadMeant.settingMeant calls.settingFor openable limitsFit inRange calls.opens calls.limitsHold calls.ranges payloadMeant.limitsMeant
   open-stands =
       both goal (openable l stride (length opening)) _ _ _ _ (λ e. isReady (before e (atStart (read-none 3)))) (λ _. isRefused refusals.Opening)
     where

@@ -18,8 +18,8 @@ use Rattle.frame.specs.Numbers.{numberOf}
 use Rattle.meaning.specs.Calls as calls
 use Rattle.meaning.specs.Drawing.{Setting}
 use Rattle.meaning.specs.Reader.{Step, How, readAll, stopped, halted, refusedBy, Run, still, after, follow, call}
-use Rattle.meaning.specs.Sequence.{inPayload}
 use Rattle.meaning.specs.Sessions as sessions
+use Rattle.meaning.proofs.Framing.{inPayload}
 use Rattle.meaning.proofs.RunLaws.{after-after}
 use Rattle.meaning.proofs.CallLaws.{called}
 use Rattle.meaning.proofs.FeedingLaws.{fed-as}
@@ -32,6 +32,7 @@ use Rattle.payload.specs.declared.judge.Judged.the-variants as judged
 use Rattle.payload.specs.Judge.{feedJudged}
 use Rattle.payload.specs.Session as coded
 use Rattle.payload.specs.History as payload
+use Rattle.payload.specs.Meant as payloadMeant
 use Rattle.payload.proofs.Judgements as judgements
 use Rattle.payload.proofs.Feedings as feedings
 use Rattle.dcs.specs.declared.Ending.{Ending}
@@ -41,34 +42,35 @@ use Rattle.dcs.specs.declared.Phase.{Phase}
 use Rattle.dcs.specs.declared.Phase.the-variants as phases
 use Rattle.dcs.specs.declared.Session.{Session}
 use Rattle.dcs.specs.Session.{sessionOf, movedTo, overAs, escapedBy, closedBy, passedOn, fedPayload, fedBy}
-use Rattle.dcs.specs.History.{endMeant, answerMeant, heldAt, Stands, refused, inside, escaped, ended, Feeds}
+use Rattle.dcs.specs.History.{heldAt, Stands, refused, inside, escaped, ended, Feeds}
+use Rattle.dcs.specs.Meant.{endMeant, answerMeant}
 use Rattle.dcs.proofs.Runs.{both, after-one, halted-at, endCall, framedCall, within-call, escape-call}
 
 -- ---- what an answer of the payload session means, read back
 
-more-from : (a : payloadAnswer.Answer) (c i : ℕ) → payload.answerMeant a ≡ calls.told c i calls.needsMore → a ≡ payloadAnswers.More c i
-unfolding payload.answerMeant
+more-from : (a : payloadAnswer.Answer) (c i : ℕ) → payloadMeant.answerMeant a ≡ calls.told c i calls.needsMore → a ≡ payloadAnswers.More c i
+unfolding payloadMeant.answerMeant
 more-from (payloadAnswers.More c′ i′) c i e = cc
 more-from (payloadAnswers.Stopped c′ i′) c i e = cc
 more-from (payloadAnswers.Ended c′ i′ b) c i e = cc
 more-from (payloadAnswers.Refused n) c i e = cc
 
-stopped-from : (a : payloadAnswer.Answer) (c i : ℕ) → payload.answerMeant a ≡ calls.told c i calls.stoppedForInk → a ≡ payloadAnswers.Stopped c i
-unfolding payload.answerMeant
+stopped-from : (a : payloadAnswer.Answer) (c i : ℕ) → payloadMeant.answerMeant a ≡ calls.told c i calls.stoppedForInk → a ≡ payloadAnswers.Stopped c i
+unfolding payloadMeant.answerMeant
 stopped-from (payloadAnswers.More c′ i′) c i e = cc
 stopped-from (payloadAnswers.Stopped c′ i′) c i e = cc
 stopped-from (payloadAnswers.Ended c′ i′ b) c i e = cc
 stopped-from (payloadAnswers.Refused n) c i e = cc
 
-ended-from : (a : payloadAnswer.Answer) (c i b : ℕ) → payload.answerMeant a ≡ calls.told c i (calls.ended b) → a ≡ payloadAnswers.Ended c i b
-unfolding payload.answerMeant
+ended-from : (a : payloadAnswer.Answer) (c i b : ℕ) → payloadMeant.answerMeant a ≡ calls.told c i (calls.ended b) → a ≡ payloadAnswers.Ended c i b
+unfolding payloadMeant.answerMeant
 ended-from (payloadAnswers.More c′ i′) c i b e = cc
 ended-from (payloadAnswers.Stopped c′ i′) c i b e = cc
 ended-from (payloadAnswers.Ended c′ i′ b′) c i b e = cc
 ended-from (payloadAnswers.Refused n) c i b e = cc
 
-refused-from : (a : payloadAnswer.Answer) (n : ℕ) → payload.answerMeant a ≡ calls.refused n → (why : Refusal) × (a ≡ payloadAnswers.Refused why) × (numberOf why ≡ n)
-unfolding payload.answerMeant
+refused-from : (a : payloadAnswer.Answer) (n : ℕ) → payloadMeant.answerMeant a ≡ calls.refused n → (why : Refusal) × (a ≡ payloadAnswers.Refused why) × (numberOf why ≡ n)
+unfolding payloadMeant.answerMeant
 refused-from (payloadAnswers.More c i) n e = let never : _≡_ {A = ℕ} 0 1 = cc in absurd (omega arith)
 refused-from (payloadAnswers.Stopped c i) n e = let never : _≡_ {A = ℕ} 0 1 = cc in absurd (omega arith)
 refused-from (payloadAnswers.Ended c i b) n e = let never : _≡_ {A = ℕ} 0 1 = cc in absurd (omega arith)
@@ -89,7 +91,7 @@ end-of (turnedDown why e o d) = tt
 
 module _ (l : Limits) (stride : ℕ) (p : Palette) (opening : List ℕ) where
   abbrev pub setting : Setting
-  setting = payload.settingMeant l stride (length opening)
+  setting = payloadMeant.settingMeant l stride (length opening)
 
   -- the definition's session in a phase, and its call
   abbrev pub here : sessions.Phase → calls.Session sessions.Phase

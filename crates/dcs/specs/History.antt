@@ -1,4 +1,4 @@
--- What the code's values mean, and when a DCS session and its canvas stand for a session of the definition.
+-- When a DCS session of the code and its canvas stand for a session of the definition, and its callers.
 use Prim.Native.Nat.{ℕ}
 use mathlib.Core.Bool.{Bool, true, false}
 use mathlib.Core.Option.{none}
@@ -13,7 +13,7 @@ use Rattle.frame.specs.declared.Refusal.{Refusal}
 use Rattle.frame.specs.Numbers.{numberOf}
 use Rattle.meaning.specs.Calls as calls
 use Rattle.meaning.specs.Callers as callers
-use Rattle.meaning.specs.Histories.{Ask}
+use Rattle.meaning.specs.Callers.{Ask}
 use Rattle.meaning.specs.Reader.{Turn, Caller}
 use Rattle.meaning.specs.Sessions as sessions
 use Rattle.payload.specs.declared.Life.the-variants as lives
@@ -23,10 +23,9 @@ use Rattle.payload.specs.Begin.{noSettings}
 use Rattle.payload.specs.Judge.{openable}
 use Rattle.payload.specs.Session.{sessionFor}
 use Rattle.payload.specs.History as payload
+use Rattle.payload.specs.Meant as payloadMeant
 use Rattle.dcs.specs.declared.Answer.{Answer}
-use Rattle.dcs.specs.declared.Answer.the-variants as answers
 use Rattle.dcs.specs.declared.Ending.{Ending}
-use Rattle.dcs.specs.declared.Ending.the-variants as endings
 use Rattle.dcs.specs.declared.Fed.{Fed}
 use Rattle.dcs.specs.declared.Opened.{Opened}
 use Rattle.dcs.specs.declared.Phase.the-variants as phases
@@ -34,21 +33,7 @@ use Rattle.dcs.specs.declared.Session.{Session}
 use Rattle.dcs.specs.declared.lead.Place.{Place}
 use Rattle.dcs.specs.declared.lead.Place.the-variants as places
 use Rattle.dcs.specs.Session.{sessionOf, fedBy}
-
--- ---- what the code's values mean
-
-unfoldable pub endMeant : Ending → sessions.End
-endMeant endings.Complete = sessions.complete
-endMeant (endings.Cancelled b) = sessions.cancelled b
-endMeant (endings.Interrupted b) = sessions.interrupted b
-
--- a feed's answer: counts and a status, or a refusal's number
-unfoldable pub answerMeant : Answer → calls.Answer sessions.End
-unfolding endMeant
-answerMeant (answers.More consumed ink) = calls.told consumed ink calls.needsMore
-answerMeant (answers.Stopped consumed ink) = calls.told consumed ink calls.stoppedForInk
-answerMeant (answers.Ended consumed ink e) = calls.told consumed ink (calls.ended (endMeant e))
-answerMeant (answers.Refused n) = calls.refused (numberOf n)
+use Rattle.dcs.specs.Meant.{endMeant, answerMeant}
 
 -- ---- a session and its canvas stand for a session of the definition
 
@@ -60,7 +45,7 @@ pub data SamePlace : Place → Parameters → sessions.Phase → Type 0 where
 
 -- what was opened, in a state, failed or not
 abbrev pub heldAt : {S : Type 0} → Limits → ℕ → ℕ → S → Bool → calls.Session S
-heldAt l stride size x failed = record { setting = payload.settingMeant l stride size; length = size; state = x; failed = failed }
+heldAt l stride size x failed = record { setting = payloadMeant.settingMeant l stride size; length = size; state = x; failed = failed }
 
 -- of a session opened with these limits, stride and palette on a canvas with these bytes: before `q` not a byte is written, and from then on
 -- its payload session and the canvas stand for the definition's payload

@@ -1,4 +1,5 @@
 pub mod Lead
 pub mod Session
+pub mod Meant
 pub mod History
 pub mod Memory

@@ -9,8 +9,8 @@ use mathlib.Core.List.{List, [], _∷_, _++_}
 use lib.Dec.{leb}
 use lib.ListN.{length, take, drop}
 use borrow.Author.Tests.{leb-true, leb-false}
-use Rattle.meaning.specs.Reader.{Step, next, halt, refuse, How, readAll, stopped, halted, refusedBy, isRefused, Run, still, after, follow, readFrom, call, RestLaw, HaltLaw, CapLaw}
-use Rattle.meaning.specs.Histories.{byte}
+use Rattle.meaning.specs.Reader.{Step, next, halt, refuse, How, readAll, stopped, halted, refusedBy, isRefused, Run, still, after, follow, readFrom, call}
+use Rattle.meaning.proofs.ReaderAsks.{RestLaw, HaltLaw, CapLaw}
 use Rattle.meaning.proofs.Cases.{cond-map}
 use Rattle.meaning.proofs.RunLaws.{after-zero, after-after, read-as}
 

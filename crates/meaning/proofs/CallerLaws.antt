@@ -9,7 +9,8 @@ use mathlib.Core.List.{List, [], _∷_, _++_, append-nil, append-assoc}
 use lib.Dec.{leb}
 use lib.ListN.{length, drop}
 use borrow.Author.Tests.{leb-true}
-use Rattle.meaning.specs.Reader.{Step, How, readAll, stopped, halted, refusedBy, isRefused, Run, after, readFrom, call, Turn, fresh, again, pieceOf, allowanceOf, stream, pieces, Caller, ranBy, ready, mayCall, having, turn, turns, proper, RestLaw, HaltLaw, CapLaw}
+use Rattle.meaning.specs.Reader.{Step, How, readAll, stopped, halted, refusedBy, isRefused, Run, after, readFrom, call, Turn, fresh, again, pieceOf, allowanceOf, stream, pieces, Caller, ranBy, ready, mayCall, having, turn, turns, proper}
+use Rattle.meaning.proofs.ReaderAsks.{RestLaw, HaltLaw, CapLaw}
 use Rattle.meaning.proofs.Cases.{cond-map, cond-no, both}
 use Rattle.meaning.proofs.RunLaws.{after-zero, after-after}
 use Rattle.meaning.proofs.CallLaws.{call-plain, call-stops, onward, call-onward}

@@ -5,18 +5,17 @@ use mathlib.Core.Path.{_≡_, refl, sym, ap, _∙_}
 use mathlib.Core.Bool.{true, false, _||_, true≢false}
 use mathlib.Core.Option.{none, some}
 use mathlib.Core.List.{List, [], _∷_, _++_}
-use lib.Dec.{eqb, lit≤}
+use lib.Dec.{eqb}
 use lib.ListN.{drop}
-use borrow.Author.Tests.{eqb-true, eqb-false, ne-eqb}
-use Rattle.numbers.specs.Bytes.{skipped, ends}
-use Rattle.meaning.specs.Commands.{ofValues}
+use borrow.Author.Tests.{eqb-true}
 use Rattle.colours.specs.declared.Palette.{Palette}
 use Rattle.meaning.specs.Drawing.{Setting}
 use Rattle.meaning.specs.Reader.{Step, next, halt, refuse, How, readAll, stopped, halted, refusedBy, isRefused, Run, still, after, follow, readFrom}
 use Rattle.meaning.specs.Sessions.{Reading, opened, settled, payloadStep, End, Phase, start, introduced, header, within, afterEscape, over, HeaderByte, goesOn, settles, wrong, headerByte, startStep, introducedStep, headerStep, endStep, withinStep, escapeStep, dcsStep}
-use Rattle.meaning.specs.OneShot.{Found, found, missing, headerFrom, findPayload}
-use Rattle.meaning.specs.Sequence.{Introducer, c1, escaped, afterFirstEscape, sequencePayload, inPayload, readEnd, framed, howWithout}
+use Rattle.meaning.specs.OneShot.{Found, found, lacking, refusedWith, headerFrom, findPayload}
+use Rattle.meaning.specs.Sequence.{afterFirstEscape, sequencePayload}
 use Rattle.meaning.specs.Calls.{dcsEnd, drawingSettled}
+use Rattle.meaning.proofs.Framing.{Introducer, c1, escaped, inPayload, readEnd, framed}
 use Rattle.meaning.proofs.RunLaws.{after-zero, after-after, read-as}
 use Rattle.meaning.proofs.CallLaws.{drop-one-more}
 use Rattle.meaning.proofs.AreaLaws.{cond-case, Before}
@@ -68,20 +67,13 @@ module _ (s : Setting) (p : Palette) where
 
 -- ---- before the payload
 
--- a refusal before the payload has that number, and it is not 8
-pub without-refused : (m n : ℕ) → howWithout m ≡ refusedBy n → (m ≡ n) × (m ≡ 8 → ⊥)
-unfolding howWithout isRefused
-without-refused m n =
-    cond-case (λ (h : How). h ≡ refusedBy n → (m ≡ n) × (m ≡ 8 → ⊥)) (eqb m 8)
-    (λ _ r. absurd (true≢false (sym (ap isRefused r))))
-    (λ e r. (cc, eqb-false m 8 e))
-
 module _ (s : Setting) (p : Palette) where
   -- where reading from a phase on leads: through some bytes, with no ink, into the payload; or it comes to its end before the payload
   abbrev pub Leads : Phase → List ℕ → Found → Type 0
   Leads t bs (found o part) =
       (n : ℕ) × (readFrom (dcsStep s p) t bs ≡ after n 0 (readFrom (dcsStep s p) (within (opened o p)) part)) × (drop n bs ≡ part)
-  Leads t bs (missing n) = Before (readFrom (dcsStep s p) t bs .state) × (readFrom (dcsStep s p) t bs .how ≡ howWithout n)
+  Leads t bs lacking = Before (readFrom (dcsStep s p) t bs .state) × (readFrom (dcsStep s p) t bs .how ≡ readAll)
+  Leads t bs (refusedWith n) = Before (readFrom (dcsStep s p) t bs .state) × (readFrom (dcsStep s p) t bs .how ≡ refusedBy n)
 
   -- a byte of no ink before it
   leads-on : (t u : Phase) (b : ℕ) (bs : List ℕ) (f : Found) → dcsStep s p t b ≡ next u 0 → Leads u bs f → Leads t (b ∷ bs) f
@@ -91,29 +83,13 @@ module _ (s : Setting) (p : Palette) where
     read-as (dcsStep s p) t b bs e ∙ ap (after 1 0) (h .1) ∙ sym (after-after 1 0 (h .0) 0 _),
     drop-one-more (h .0) b bs ∙ h .2,
   )
-  leads-on t u b bs (missing n) e h = (rw (read-as (dcsStep s p) t b bs e) (h .0), rw (read-as (dcsStep s p) t b bs e) (h .1))
+  leads-on t u b bs lacking e h = (rw (read-as (dcsStep s p) t b bs e) (h .0), rw (read-as (dcsStep s p) t b bs e) (h .1))
+  leads-on t u b bs (refusedWith n) e h = (rw (read-as (dcsStep s p) t b bs e) (h .0), rw (read-as (dcsStep s p) t b bs e) (h .1))
 
   -- a byte that is refused
-  leads-wrong : (t : Phase) (b : ℕ) (bs : List ℕ) (n : ℕ) → Before t → n ≤ 3 → dcsStep s p t b ≡ refuse t n → Leads t (b ∷ bs) (missing n)
-  unfolding follow still howWithout
-  leads-wrong t b bs n h small e = (
-    rw (read-as (dcsStep s p) t b bs e) h,
-    rw (read-as (dcsStep s p) t b bs e, ne-eqb n 8 (λ q. omega arith)) refl,
-  )
-
-  -- a header's byte is refused with 2 or 3
-  abbrev Small : HeaderByte → Type 0
-  Small (goesOn more) = Unit {0}
-  Small (settles o) = Unit {0}
-  Small (wrong n) = n ≤ 3
-
-  header-small : (got : List ℕ) (b : ℕ) → Small (headerByte got b)
-  unfolding headerByte
-  header-small got b =
-      cond-case Small (skipped b) (λ _. tt)
-      λ _. cond-case Small (ofValues b) (λ _. tt)
-      λ _. cond-case Small (eqb b 0x71) (λ _. tt)
-      λ _. cond-case Small (ends b) (λ _. lit≤ tt) (λ _. lit≤ tt)
+  leads-wrong : (t : Phase) (b : ℕ) (bs : List ℕ) (n : ℕ) → Before t → dcsStep s p t b ≡ refuse t n → Leads t (b ∷ bs) (refusedWith n)
+  unfolding follow still
+  leads-wrong t b bs n h e = (rw (read-as (dcsStep s p) t b bs e) h, rw (read-as (dcsStep s p) t b bs e) refl)
 
   header-as : (got : List ℕ) (b : ℕ) {x : HeaderByte} → headerByte got b ≡ x
       → dcsStep s p (header got) b
@@ -127,34 +103,34 @@ module _ (s : Setting) (p : Palette) where
 
   -- a header leads where a one-shot goes from it
   header-leads : (got bs : List ℕ) → Leads (header got) bs (headerFrom got bs)
-  unfolding headerFrom readFrom still howWithout
+  unfolding headerFrom readFrom still
   header-leads got [] = (tt, refl)
-  header-leads got (b ∷ bs) = go (headerByte got b) refl (header-small got b) (λ more. header-leads more bs)
+  header-leads got (b ∷ bs) = go (headerByte got b) refl (λ more. header-leads more bs)
     where
-      go : (x : HeaderByte) → headerByte got b ≡ x → Small x → ((more : List ℕ) → Leads (header more) bs (headerFrom more bs))
-          → Leads (header got) (b ∷ bs) (elim x [ goesOn more ↦ headerFrom more bs | settles o ↦ found o bs | wrong n ↦ missing n ])
-      go (goesOn more) e small later = leads-on (header got) (header more) b bs (headerFrom more bs) (header-as got b e) (later more)
-      go (settles o) e small later = (1, read-as (dcsStep s p) (header got) b bs (header-as got b e), refl)
-      go (wrong n) e small later = leads-wrong (header got) b bs n tt small (header-as got b e)
+      go : (x : HeaderByte) → headerByte got b ≡ x → ((more : List ℕ) → Leads (header more) bs (headerFrom more bs))
+          → Leads (header got) (b ∷ bs) (elim x [ goesOn more ↦ headerFrom more bs | settles o ↦ found o bs | wrong n ↦ refusedWith n ])
+      go (goesOn more) e later = leads-on (header got) (header more) b bs (headerFrom more bs) (header-as got b e) (later more)
+      go (settles o) e later = (1, read-as (dcsStep s p) (header got) b bs (header-as got b e), refl)
+      go (wrong n) e later = leads-wrong (header got) b bs n tt (header-as got b e)
 
   introduced-leads : (bs : List ℕ) → Leads introduced bs (afterFirstEscape bs)
-  unfolding afterFirstEscape readFrom still howWithout dcsStep introducedStep
+  unfolding afterFirstEscape readFrom still dcsStep introducedStep
   introduced-leads [] = (tt, refl)
   introduced-leads (b ∷ bs) =
       cond-case (Leads introduced (b ∷ bs)) (eqb b 0x50)
       (λ e. leads-on introduced (header []) b bs (headerFrom [] bs) (rw e) (header-leads [] bs))
-      (λ e. leads-wrong introduced b bs 1 tt (lit≤ tt) (rw e))
+      (λ e. leads-wrong introduced b bs 1 tt (rw e))
 
   -- a sequence leads where its introducer and header say
   pub sequence-leads : (bs : List ℕ) → Leads start bs (sequencePayload bs)
-  unfolding sequencePayload readFrom still howWithout dcsStep startStep
+  unfolding sequencePayload readFrom still dcsStep startStep
   sequence-leads [] = (tt, refl)
   sequence-leads (b ∷ bs) =
       cond-case (Leads start (b ∷ bs)) (eqb b 0x1B)
       (λ e. leads-on start introduced b bs (afterFirstEscape bs) (rw e) (introduced-leads bs))
       λ e. cond-case (Leads start (b ∷ bs)) (eqb b 0x90)
       (λ f. leads-on start (header []) b bs (headerFrom [] bs) (rw (e, f)) (header-leads [] bs))
-      (λ f. leads-wrong start b bs 1 tt (lit≤ tt) (rw (e, f)))
+      (λ f. leads-wrong start b bs 1 tt (rw (e, f)))
 
 -- ---- the end
 
@@ -304,11 +280,13 @@ module _ (s : Setting) (p : Palette) (q : Run Reading) (bs : List ℕ) where
 -- where the sequence has a payload, or its header is refused, a one-shot finds the same
 abbrev pub Agrees : List ℕ → Found → Type 0
 Agrees bs (found o part) = findPayload bs ≡ found o part
-Agrees bs (missing n) = 2 ≤ n → (n ≡ 8 → ⊥) → findPayload bs ≡ missing n
+Agrees bs lacking = Unit {0}
+Agrees bs (refusedWith n) = 2 ≤ n → findPayload bs ≡ refusedWith n
 
 agrees-found : (bs : List ℕ) (f : Found) → findPayload bs ≡ f → Agrees bs f
 agrees-found bs (found o part) e = e
-agrees-found bs (missing n) e = λ _ _. e
+agrees-found bs lacking e = tt
+agrees-found bs (refusedWith n) e = λ _. e
 
 -- after the introducer a one-shot reads the header
 pub introducer-found : {i : List ℕ} → Introducer i → (later : List ℕ) → findPayload (i ++ later) ≡ headerFrom [] later
@@ -324,18 +302,18 @@ introducer-sequence escaped later = refl
 
 escaped-agrees : (b : ℕ) (bs : List ℕ) → eqb b 0x1B ≡ true → Agrees (b ∷ bs) (afterFirstEscape bs)
 unfolding afterFirstEscape
-escaped-agrees b [] e = λ low known. absurd (known refl)
+escaped-agrees b [] e = tt
 escaped-agrees b (c ∷ bs) e =
     cond-case (Agrees (b ∷ c ∷ bs)) (eqb c 0x50)
     (λ f. agrees-found (b ∷ c ∷ bs) (headerFrom [] bs) (rw (eqb-true b 0x1B e, eqb-true c 0x50 f) (introducer-found escaped bs)))
-    (λ _ low known. absurd (omega arith))
+    (λ _ low. absurd (omega arith))
 
 -- so it is for every sequence
 pub sequence-agrees : (bs : List ℕ) → Agrees bs (sequencePayload bs)
 unfolding sequencePayload
-sequence-agrees [] = λ low known. absurd (known refl)
+sequence-agrees [] = tt
 sequence-agrees (b ∷ bs) =
     cond-case (Agrees (b ∷ bs)) (eqb b 0x1B) (escaped-agrees b bs)
     λ _. cond-case (Agrees (b ∷ bs)) (eqb b 0x90)
     (λ f. agrees-found (b ∷ bs) (headerFrom [] bs) (rw (eqb-true b 0x90 f) (introducer-found c1 bs)))
-    (λ _ low known. absurd (omega arith))
+    (λ _ low. absurd (omega arith))

@@ -8,10 +8,10 @@ use mathlib.Core.List.{List}
 use lib.ListN.{take}
 use Rattle.colours.specs.declared.Palette.{Palette}
 use Rattle.meaning.specs.Drawing.{Setting, Outcome}
-use Rattle.meaning.specs.Payload.{Parameters, payload}
-use Rattle.meaning.specs.Reader.{Step, next, halt, How, readAll, stopped, halted, refusedBy, isRefused, isOngoing, Run, after, readFrom, Turn, stream, ranBy}
-use Rattle.meaning.specs.Sessions.{Reading, opened, settled, rested, endedAt, payloadStep, End, Phase, start, introduced, header, within, afterEscape, over, dcsStep, dcsRested}
-use Rattle.meaning.specs.OneShot.{Found, found, missing, findPayload}
+use Rattle.meaning.specs.Payload.{Parameters}
+use Rattle.meaning.specs.Reader.{Step, next, halt, How, readAll, stopped, halted, refusedBy, isRefused, isOngoing, Run, after, Turn, stream, ranBy}
+use Rattle.meaning.specs.Sessions.{Reading, settled, rested, endedAt, payloadStep, End, Phase, start, introduced, header, within, afterEscape, over, dcsStep, dcsRested}
+use Rattle.meaning.specs.OneShot.{Found, found, lacking, refusedWith, findPayload}
 use Rattle.meaning.specs.Sequence.{sequencePayload, sequenceInk}
 use Rattle.meaning.specs.Calls.{drawingOf, drawingAtFinish, drawingSettled, drawingFound, dcsEnd, dcsTurns, properDcs}
 use Rattle.meaning.proofs.AreaLaws.{option-case, payload-case, Before, DcsDoes, advances, begins, turns, reads, refuses, escapes, closes, breaks, completes, lapses, remains, dcs-does}
@@ -19,9 +19,10 @@ use Rattle.meaning.proofs.InkLaws.{readByte-case, Inks, Halts, wentOn-h
 use Rattle.meaning.proofs.SoFarLaws.{LeftBy, allRead, stoppedAt, SoFar, so-far-read, HaltedAt, halted-at}
 use Rattle.meaning.proofs.PayloadLaws.{readPayload, reading-settled, settled-none, rested-settled, halted-settled}
 use Rattle.meaning.proofs.DcsParts.{framed-settled, no-end, before-open, Agrees, sequence-agrees}
-use Rattle.meaning.proofs.DcsLaws.{readSequence, sequence-found, sequence-missing, sequence-refused-drawing, sequence-over, sequence-drawing, sequence-ink}
+use Rattle.meaning.proofs.DcsLaws.{readSequence, sequence-found, sequence-lacking, sequence-refused-before, sequence-refused-drawing, sequence-over, sequence-drawing, sequence-ink}
 use Rattle.meaning.proofs.Demand3.{dcs-outcome}
-use Rattle.meaning.proofs.EachCall.{no-drawing, dcs-so-far}
+use Rattle.meaning.proofs.SequenceLaws.{before-drawing}
+use Rattle.meaning.proofs.EachCall.{dcs-so-far}
 
 -- ---- the drawing with its pending command carried out
 
@@ -108,7 +109,8 @@ module _ (s : Setting) (p : Palette) (bs : List ℕ) where
           let h = framed-settled s p (readPayload s o p part) part (sym (ap (λ (x : Run Phase). isRefused (x .how)) whole) ∙ fine) in
           ap (λ (x : Run Phase). drawingSettled s (x .state)) whole ∙ h .1
           ∙ ap (λ (out : Outcome). some (out .drawing)) (reading-settled s o p part (h .0))
-      go (missing n) q = before-settled s (readSequence s p bs .state) (sequence-missing s p bs q .0)
+      go lacking q = before-settled s (readSequence s p bs .state) (sequence-lacking s p bs q .0)
+      go (refusedWith n) q = before-settled s (readSequence s p bs .state) (sequence-refused-before s p bs q .0)
 
   -- refused: what came before
   pub sequence-refused-settled : {n : ℕ} → readSequence s p bs .how ≡ refusedBy n
@@ -118,7 +120,8 @@ module _ (s : Setting) (p : Palette) (bs : List ℕ) where
     where
       go : (f : Found) → sequencePayload bs ≡ f → drawingOf (readSequence s p bs .state) ≡ drawingFound s p f
       go (found o part) q = sequence-refused-drawing s p bs q r .1
-      go (missing m) q = no-drawing (readSequence s p bs .state) (sequence-missing s p bs q .0)
+      go lacking q = before-drawing (readSequence s p bs .state) (sequence-lacking s p bs q .0)
+      go (refusedWith m) q = before-drawing (readSequence s p bs .state) (sequence-refused-before s p bs q .0)
 
   module _ {e : End} (z : dcsEnd (readSequence s p bs .state) ≡ some e) where
     -- at an end there is a payload, and a one-shot finds the same
@@ -128,8 +131,9 @@ module _ (s : Setting) (p : Palette) (bs : List ℕ) where
         go : (f : Found) → sequencePayload bs ≡ f → Agrees bs f
             → (o : Parameters) × (part : List ℕ) × (sequencePayload bs ≡ found o part) × (findPayload bs ≡ found o part)
         go (found o part) q same = (o, part, q, same)
-        go (missing n) q same =
-            absurd (no-end (sym (before-open (readSequence s p bs .state) (sequence-missing s p bs q .0)) ∙ z))
+        go lacking q same = absurd (no-end (sym (before-open (readSequence s p bs .state) (sequence-lacking s p bs q .0)) ∙ z))
+        go (refusedWith n) q same =
+            absurd (no-end (sym (before-open (readSequence s p bs .state) (sequence-refused-before s p bs q .0)) ∙ z))
 
     -- no command is pending there
     pub sequence-end-settled : drawingOf (readSequence s p bs .state) ≡ drawingSettled s (readSequence s p bs .state)

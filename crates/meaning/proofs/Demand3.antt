@@ -12,12 +12,13 @@ use Rattle.colours.specs.declared.Palette.{Palette}
 use Rattle.meaning.specs.Commands.{body}
 use Rattle.meaning.specs.Drawing.{Setting}
 use Rattle.meaning.specs.Payload.{Parameters, payload, payloadInk, turnedDown, finish}
-use Rattle.meaning.specs.Reader.{How, stopped, refusedBy, isRefused, Run, readFrom, Turn, stream, pieces, ranBy, ready, RestLaw, HaltLaw, CapLaw}
-use Rattle.meaning.specs.Histories.{readItems, history, asksOf}
+use Rattle.meaning.specs.Reader.{How, stopped, refusedBy, isRefused, Run, readFrom, Turn, stream, pieces, ranBy, ready}
 use Rattle.meaning.specs.Sessions.{Reading, opened, rested, payloadStep, finishReading, outcomeOf, End, Phase, start, dcsStep, dcsRested, finishDcs}
-use Rattle.meaning.specs.OneShot.{missing, oneShot}
+use Rattle.meaning.specs.OneShot.{refusedWith, oneShot}
 use Rattle.meaning.specs.Sequence.{sequencePayload, sequenceInk}
 use Rattle.meaning.specs.Calls.{dcsEnd, payloadTurns, properPayload, dcsTurns, properDcs}
+use Rattle.meaning.proofs.ReaderAsks.{RestLaw, HaltLaw, CapLaw}
+use Rattle.meaning.proofs.Histories.{readItems, history, asksOf}
 use Rattle.meaning.proofs.CallerLaws.{calls-outcome, calls-bound}
 use Rattle.meaning.proofs.HistoryLaws.{history-plain}
 use Rattle.meaning.proofs.InkLaws.{payload-cap, payload-rest, payload-halt, dcs-cap, dcs-rest, dcs-halt}
@@ -130,7 +131,7 @@ module _ (s : Setting) (p : Palette) where
 
   -- a refusal is what introducer and header are refused with, or what reading the whole at once answers
   pub dcs-refused : (A : ℕ) (ts : List Turn) {n : ℕ} → properDcs s p A ts ≡ true → dcsTurns s p ts .how ≡ refusedBy n
-      → (n ≤ 3 → sequencePayload (stream ts) ≡ missing n) × (2 ≤ n → oneShot s p (stream ts) ≡ turnedDown n)
+      → (n ≤ 3 → sequencePayload (stream ts) ≡ refusedWith n) × (2 ≤ n → oneShot s p (stream ts) ≡ turnedDown n)
   unfolding ranBy
   dcs-refused A ts {n} ok e =
       let whole : readFrom (dcsStep s p) start (stream ts) .how ≡ refusedBy n =

@@ -11,23 +11,14 @@ use Rattle.canvas.specs.Picture.{picture}
 use Rattle.meaning.specs.Drawing.{Setting, Drawing, Outcome, blank, backgroundOf, inkOfAll}
 use Rattle.meaning.specs.Payload.{Parameters, payload, payloadInk}
 use Rattle.meaning.specs.Reader.{How, readAll, stopped, halted, refusedBy, isAll, isRefused, isOngoing, Run, Turn, stream, ranBy}
-use Rattle.meaning.specs.Sessions.{Reading, opened, settled, rested, payloadStep, Phase, start, introduced, header, within, afterEscape, over, dcsStep, dcsRested}
+use Rattle.meaning.specs.Sessions.{Reading, opened, settled, rested, payloadStep, Phase, start, within, dcsStep, dcsRested}
 use Rattle.meaning.specs.Calls.{Session, drawingOf, shown, payloadShown, dcsShown, payloadTurns, properPayload, dcsTurns, properDcs}
 use Rattle.meaning.proofs.AreaLaws.{Before}
 use Rattle.meaning.proofs.SoFarLaws.{LeftBy, allRead, stoppedAt, SoFar, so-far-read, caller-so-far}
 use Rattle.meaning.proofs.InkLaws.{inked-settled}
 use Rattle.meaning.proofs.PayloadLaws.{outcome-settled, readPayload, reading-settled, reading-ink, rested-settled, settled-none, halted-settled, payload-body}
+use Rattle.meaning.proofs.SequenceLaws.{before-drawing}
 use Rattle.meaning.proofs.Demand3.{payload-rests, payload-halts, payload-caps, dcs-rests, dcs-halts, dcs-caps, payload-whole, payload-outcome, payload-all-ink, payload-consumed}
-
--- before the payload there is no drawing
-pub no-drawing : (t : Phase) → Before t → drawingOf t ≡ none
-unfolding drawingOf
-no-drawing start h = refl
-no-drawing introduced h = refl
-no-drawing (header bs) h = refl
-no-drawing (within r) h = absurd h
-no-drawing (afterEscape r) h = absurd h
-no-drawing (over e r) h = absurd h
 
 -- ---- at the start
 
@@ -46,7 +37,7 @@ begun-shown s o p opening e = ap (λ (t : Phase). shown (s .setting .stride) (dr
 -- before the payload nothing is written
 pub before-shown : (s : Session Phase) (opening : List ℕ) → Before (s .state) → dcsShown s opening ≡ opening
 unfolding dcsShown
-before-shown s opening h = ap (λ (d : Option Drawing). shown (s .setting .stride) d opening) (no-drawing (s .state) h)
+before-shown s opening h = ap (λ (d : Option Drawing). shown (s .setting .stride) d opening) (before-drawing (s .state) h)
 
 -- a call that came to the end did not stop
 ended-going : {h : How} → h ≡ halted → h ≡ stopped → ⊥

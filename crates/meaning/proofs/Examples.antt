@@ -7,7 +7,7 @@ use mathlib.Core.List.{List, [], _∷_, _++_, map}
 use Rattle.meaning.specs.Payload.{byRaster, leftToP1}
 use Rattle.meaning.specs.Sessions.{complete, cancelled, interrupted}
 use Rattle.meaning.specs.Calls.{needsMore, stoppedForInk, ended, told, refused}
-use Rattle.meaning.proofs.Trials.{Row, limited, onCanvas, row, under, dcs, once, size, extent, ink, shows, ratio, transparent, opaque, refusal, ends, goesOn, leaves, rowsHold, Calls, houseCalls, calls, feeding, finishing, fed, sized, declined, heard, computed}
+use Rattle.meaning.proofs.Trials.{Row, limited, onCanvas, row, under, partly, dcs, once, size, extent, ink, shows, ratio, transparent, opaque, refusal, ends, goesOn, leaves, rowsHold, Calls, houseCalls, calls, feeding, finishing, fed, sized, declined, heard, computed}
 
 -- document 01's bench examples, and the program's
 bench : List Row
@@ -108,6 +108,23 @@ rasters =
     ∷ under (onCanvas 24 4 6) "!5~" (refusal 6 ∷ [])
     ∷ []
 
+-- what has been drawn once the bytes are read: a pending command is not yet carried out, and neither is its refusal; the byte that ends it, or
+-- the payload, does both
+pending : List Row
+pending =
+    partly "" (size 1 1 ∷ leaves "" ∷ [])
+    ∷ partly "!8~$!8\"1;1;8;12" (size 8 6 ∷ ink 48 ∷ ratio (leftToP1 none) ∷ leaves "" ∷ [])
+    ∷ partly "!8~$!8\"1;1;8;12~" (size 8 12 ∷ ink 96 ∷ ratio (byRaster 1) ∷ leaves "" ∷ [])
+    ∷ row "!8~$!8\"1;1;8;12" (size 8 12 ∷ ink 48 ∷ ratio (byRaster 1) ∷ leaves "" ∷ [])
+    ∷ partly "\"1;1;3;4\n" (size 1 1 ∷ [])
+    ∷ partly "\"1;1;3;4 " (size 3 4 ∷ [])
+    ∷ partly "\"1;1;3;4\u{18}~" (size 3 4 ∷ leaves "\u{18}~" ∷ [])
+    ∷ partly "~!1025" (size 1 6 ∷ ink 6 ∷ leaves "" ∷ [])
+    ∷ partly "~!1025$" (refusal 4 ∷ ink 6 ∷ [])
+    ∷ partly "~!1025\u{9c}" (refusal 4 ∷ ink 6 ∷ [])
+    ∷ row "~!1025" (refusal 4 ∷ ink 6 ∷ [])
+    ∷ []
+
 -- introducer, header and ends of a DCS sequence
 sequences : List Row
 sequences =
@@ -117,6 +134,24 @@ sequences =
     ∷ dcs "\u{90}q~\u{85}X" (ends (interrupted 0x85) ∷ leaves "\u{85}X" ∷ size 1 6 ∷ [])
     ∷ dcs "\u{90}q~\u{1b}\0\\" (ends (interrupted 0x1B) ∷ leaves "\0\\" ∷ [])
     ∷ dcs "\u{90}q~\u{1b}" (goesOn ∷ leaves "" ∷ refusal 8 ∷ [])
+    -- the byte after that 1B is no end of its own
+    ∷ dcs "\u{90}q~\u{1b}\u{9c}" (ends (interrupted 0x1B) ∷ leaves "\u{9c}" ∷ size 1 6 ∷ [])
+    ∷ dcs "\u{90}q~\u{1b}\u{1b}\\" (ends (interrupted 0x1B) ∷ leaves "\u{1b}\\" ∷ [])
+    -- the first and the last C1 byte, and an introducer within the payload
+    ∷ dcs "\u{90}q~\u{80}" (ends (interrupted 0x80) ∷ leaves "\u{80}" ∷ [])
+    ∷ dcs "\u{90}q~\u{9f}X" (ends (interrupted 0x9F) ∷ leaves "\u{9f}X" ∷ [])
+    ∷ dcs "\u{1b}Pq~\u{90}q~\u{9c}" (ends (interrupted 0x90) ∷ leaves "\u{90}q~\u{9c}" ∷ size 1 6 ∷ [])
+    -- after an end nothing is read, whatever comes
+    ∷ dcs "\u{90}q~\u{9c}\u{90}q~~\u{9c}" (ends complete ∷ leaves "\u{90}q~~\u{9c}" ∷ size 1 6 ∷ ink 6 ∷ [])
+    ∷ dcs "\u{1b}Pq~\u{1b}\\\u{1b}\\" (ends complete ∷ leaves "\u{1b}\\" ∷ size 1 6 ∷ [])
+    ∷ dcs "\u{90}q~\u{18}\u{9c}" (ends (cancelled 0x18) ∷ leaves "\u{9c}" ∷ [])
+    ∷ dcs "\u{90}q\u{9c}" (ends complete ∷ leaves "" ∷ size 1 1 ∷ ink 0 ∷ [])
+    -- before its end, or before its payload, all is read
+    ∷ dcs "" (goesOn ∷ leaves "" ∷ refusal 8 ∷ [])
+    ∷ dcs "\u{1b}" (goesOn ∷ leaves "" ∷ refusal 8 ∷ [])
+    ∷ dcs "\u{1b}P1;2" (goesOn ∷ leaves "" ∷ refusal 8 ∷ ink 0 ∷ [])
+    ∷ dcs "\u{90}q" (goesOn ∷ leaves "" ∷ refusal 8 ∷ shows 0 0 0x000000FF ∷ [])
+    ∷ dcs "\u{90}q~!1025" (goesOn ∷ leaves "" ∷ refusal 8 ∷ ink 6 ∷ [])
     ∷ dcs "\u{90}q!5\u{9c}~" (ends complete ∷ leaves "~" ∷ size 1 1 ∷ [])
     ∷ dcs "\u{90}q!1025\u{9c}" (refusal 4 ∷ [])
     ∷ dcs "\u{90}7;1;5q@\u{9c}" (ratio (leftToP1 (some 7)) ∷ transparent ∷ shows 0 0 0x000000FF ∷ shows 0 1 0 ∷ [])
@@ -146,8 +181,8 @@ shots =
 
 -- all of them
 pub table : List Row
-unfolding bench slips commands colours rasters sequences shots
-table = bench ++ (slips ++ (commands ++ (colours ++ (rasters ++ (sequences ++ shots)))))
+unfolding bench slips commands colours rasters pending sequences shots
+table = bench ++ (slips ++ (commands ++ (colours ++ (rasters ++ (pending ++ (sequences ++ shots))))))
 
 -- document 01's examples and all the others are read as their rows say
 pub table-holds : rowsHold table ≡ true

@@ -6,8 +6,10 @@ use mathlib.Core.Bool.{true, false, cond}
 use mathlib.Core.List.{List, [], _∷_, _++_, map}
 use lib.Dec.{leb}
 use lib.ListN.{drop}
-use Rattle.meaning.specs.Reader.{Step, next, How, readAll, stopped, halted, refusedBy, isAll, isRefused, Run, still, after, continued, follow, readFrom, call, Turn, pieceOf, allowanceOf, stream, Caller, ranBy, ready, mayCall, having, turn, turns, proper, RestLaw, HaltLaw}
-use Rattle.meaning.specs.Histories.{Item, byte, mark, readItems, itemsOf, goingOn, resumed, Ask, anyCalls, history, asksOf}
+use Rattle.meaning.specs.Reader.{Step, next, How, readAll, stopped, halted, refusedBy, isAll, isRefused, Run, still, after, continued, follow, readFrom, call, Turn, pieceOf, allowanceOf, stream, Caller, ranBy, ready, mayCall, having, turn, turns, proper}
+use Rattle.meaning.specs.Callers.{Ask}
+use Rattle.meaning.proofs.ReaderAsks.{RestLaw, HaltLaw}
+use Rattle.meaning.proofs.Histories.{Item, byte, mark, readItems, itemsOf, goingOn, resumed, anyCalls, history, asksOf}
 use Rattle.meaning.proofs.RunLaws.{same-counts, after-zero, after-continued, follow-continued, continued-same}
 use Rattle.meaning.proofs.CallLaws.{Called, nothing, goes, stops, halts, refuses, drop-one-more, take-one-more, called}
 use Rattle.meaning.proofs.CallerLaws.{not-refused, proper-parts, calls-outcome}

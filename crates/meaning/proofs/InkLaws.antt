@@ -8,17 +8,18 @@ use mathlib.Core.Bool.{Bool, true, cond}
 use mathlib.Core.Option.{Option, none, some}
 use mathlib.Core.List.{List, [], _∷_, _++_, append-nil}
 use lib.Dec.{leb}
+use lib.ListN.{length, drop}
 use Rattle.numbers.specs.Bytes.{sixel}
 use Rattle.colours.specs.declared.Palette.{Palette}
 use Rattle.canvas.specs.Picture.{Stroke}
 use Rattle.meaning.specs.Commands.{Begun, Scanned, closed, scanByte}
-use Rattle.meaning.specs.Drawing.{Setting, Drawing, blank, Outcome, drawAll, inkOfAll}
+use Rattle.meaning.specs.Drawing.{Setting, Drawing, blank, Outcome, drawAll, inkOfAll, strokesSince}
 use Rattle.meaning.specs.Reader.{Step, next, halt, refuse, stopped, Run, still, after, follow, readFrom, call}
 use Rattle.meaning.specs.Sessions.{Reading, opened, settled, rested, endedAt, wentOn, readByte, payloadStep, Phase, start, introduced, header, within, afterEscape, over, endStep, withinStep, dcsStep, dcsRested}
 use Rattle.meaning.specs.Calls.{drawingOf}
 use Rattle.meaning.proofs.AreaLaws.{cond-case, option-case, drawOn-none, drawOn-some, AllQuiet, quiet-strokes, OnStep, payload-case, Before, DcsDoes, advances, begins, turns, reads, refuses, escapes, closes, breaks, completes, lapses, remains, dcs-does}
 unfoldable pub use Rattle.meaning.proofs.SixelLaws.{sixelOutcome}
-pub use Rattle.meaning.proofs.SixelLaws.{ink-append, sixel-range, ones-sixel, scan-sixel, scan-quiet, settled-strokes, sixelAt, readByte-case, Drew, outcome-case, drew-ink}
+pub use Rattle.meaning.proofs.SixelLaws.{ink-append, since-appended, since-adds, since-same, sixel-range, ones-sixel, scan-sixel, scan-quiet, settled-strokes, sixelAt, readByte-case, Drew, outcome-case, drew-ink}
 use Rattle.meaning.proofs.SixelLaws.{sixel-ends, sixel-outcome, sixel-begun}
 
 -- ---- ink adds up
@@ -36,8 +37,7 @@ wentOn-adds : (r : Reading) (c : Scanned) (out : Outcome) (more : List Stroke) �
     → ((n : ℕ) → out .refusal ≡ some n → out .drawing .strokes ≡ r .drawing .strokes) → Adds inkDrawn r (wentOn r c out)
 unfolding wentOn
 wentOn-adds r c out more e h =
-    let sum : inkOfAll (out .drawing .strokes) ≡ inkDrawn r + inkOfAll more = ap inkOfAll e ∙ ink-append (r .drawing .strokes) more in
-    option-case (Adds inkDrawn r) (out .refusal) (λ _. omega arith) (λ n q. ap inkOfAll (h n q))
+    option-case (Adds inkDrawn r) (out .refusal) (λ _. since-adds (r .drawing) (out .drawing) more e) (λ n q. ap inkOfAll (h n q))
 
 -- the end of a payload adds no ink
 ended-adds : (s : Setting) (r : Reading) (b : ℕ) → Adds inkDrawn r (endedAt b r (settled s r))
@@ -83,8 +83,8 @@ payload-refuse s r b e = subst (Adds inkDrawn r) e (payload-adds s r b)
 abbrev pub Inks : {S : Type 0} → (ℕ → Type 0) → Step S → Type 0
 Inks P = OnStep (λ u i. P i) (λ u. Unit {0}) (λ u n. Unit {0})
 
--- only a step that reads a byte has ink, and this is what its strokes have more
-wentOn-inks : (P : ℕ → Type 0) (r : Reading) (c : Scanned) (out : Outcome) → P (inkOfAll (out .drawing .strokes) - inkDrawn r)
+-- only a step that reads a byte has ink, and this is that of its strokes
+wentOn-inks : (P : ℕ → Type 0) (r : Reading) (c : Scanned) (out : Outcome) → P (inkOfAll (strokesSince (r .drawing) (out .drawing)))
     → Inks P (wentOn r c out)
 unfolding wentOn
 wentOn-inks P r c out h = option-case (Inks P) (out .refusal) (λ _. h) (λ _ _. tt)
@@ -93,24 +93,20 @@ ended-inks : (P : ℕ → Type 0) (b : ℕ) (r : Reading) (out : Outcome) → In
 unfolding endedAt
 ended-inks P b r out = option-case (Inks P) (out .refusal) (λ _. tt) (λ _ _. tt)
 
--- strokes that are the same have no more ink
-no-more : (r : Reading) (ks : List Stroke) → ks ≡ r .drawing .strokes → inkOfAll ks - inkDrawn r ≡ 0
-no-more r ks e = let q : inkOfAll ks ≡ inkOfAll (r .drawing .strokes) = ap inkOfAll e in omega arith
-
 -- a sixel's ink is at most 6W
 sixel-cap : (s : Setting) (r : Reading) (b : ℕ) (c : Scanned) → sixel b ≡ true
     → Inks (λ i. i ≤ 6 * s .limits .width) (wentOn r c (sixelOutcome s r b))
 sixel-cap s r b c e =
     outcome-case (λ out. Inks (λ i. i ≤ 6 * s .limits .width) (wentOn r c out)) s r b
-    (λ n. wentOn-inks _ r c _ (let none-more = no-more r _ (settled-strokes s r) in omega arith))
-    (λ f drew. wentOn-inks _ r c _ (let most = drew-ink e drew in omega arith))
+    (λ n. wentOn-inks _ r c _ (let none-more = since-same (r .drawing) (settled s r .drawing) (settled-strokes s r) in omega arith))
+    (λ f drew. wentOn-inks _ r c _ (drew-ink e drew))
 
 -- a byte's ink is at most 6W, whatever it is
 payload-capped : (s : Setting) (r : Reading) (b : ℕ) → Inks (λ i. i ≤ 6 * s .limits .width) (payloadStep s r b)
 payload-capped s r b =
     payload-case Capped s r b
     (λ _. readByte-case Capped s r b (ended-inks _ b r _)
-    (λ c q. wentOn-inks _ r c _ (let none-more = no-more r _ (quiet-strokes s (c .ended) (r .drawing) q) in omega arith))
+    (λ c q. wentOn-inks _ r c _ (let none-more = since-same (r .drawing) (drawAll s (c .ended) (r .drawing) .drawing) (quiet-strokes s (c .ended) (r .drawing) q) in omega arith))
     (λ c _ e. sixel-cap s r b c e))
     (λ _. tt)
   where
@@ -142,15 +138,15 @@ inked-none y (refuse u n) e = tt
 -- after the begun command was carried out a byte goes on as it would have before
 pub wentOn-rested : (s : Setting) (r : Reading) (c k : Scanned) (out : Outcome) → k .begun ≡ c .begun
     → wentOn (rested s r) k out ≡ wentOn r c out
-unfolding wentOn rested
-wentOn-rested s r c k out e = ap₂ went e (ap inkOfAll (settled-strokes s r))
+unfolding wentOn rested strokesSince
+wentOn-rested s r c k out e = ap₂ went e (settled-strokes s r)
   where
-    went : Option Begun → ℕ → Step Reading
+    went : Option Begun → List Stroke → Step Reading
     went begun old =
         elim (out .refusal) [
           | none ↦
               next (record { parameters = r .parameters; passed = suc (r .passed); begun = begun; drawing = out .drawing; over = none })
-              (inkOfAll (out .drawing .strokes) - old)
+              (inkOfAll (drop (length old) (out .drawing .strokes)))
           | some n ↦ refuse (record { parameters = r .parameters; passed = r .passed; begun = none; drawing = out .drawing; over = none }) n
         ]
 
@@ -197,7 +193,7 @@ sixel-again s r b c o h e = go (settled s r .refusal) refl
         let kept : sixelOutcome s r b .drawing .strokes ≡ r .drawing .strokes =
         ap (λ (out : Outcome). out .drawing .strokes) (sixel-refused s r b q) ∙ settled-strokes s r in
         inked-none (payloadStep s (rested s r) b) (wentOn r c (sixelOutcome s r b))
-        (wentOn-inks (λ i. i ≡ 0) r c (sixelOutcome s r b) (no-more r _ kept))
+        (wentOn-inks (λ i. i ≡ 0) r c (sixelOutcome s r b) (since-same (r .drawing) _ kept))
 
 -- a byte with ink does the same after a stop before it
 pub payload-rest : (s : Setting) (r : Reading) (b : ℕ) {t : Reading} {i : ℕ} → payloadStep s r b ≡ next t i → 0 < i
@@ -215,7 +211,7 @@ payload-rest s r b e =
     quiet : (c : Scanned) → AllQuiet (c .ended) → Again (wentOn r c (drawAll s (c .ended) (r .drawing)))
     quiet c q =
         inked-none (payloadStep s (rested s r) b) (wentOn r c (drawAll s (c .ended) (r .drawing)))
-        (wentOn-inks (λ i. i ≡ 0) r c (drawAll s (c .ended) (r .drawing)) (no-more r _ (quiet-strokes s (c .ended) (r .drawing) q)))
+        (wentOn-inks (λ i. i ≡ 0) r c (drawAll s (c .ended) (r .drawing)) (since-same (r .drawing) _ (quiet-strokes s (c .ended) (r .drawing) q)))
 
 -- where a byte with ink is read, the begun command before it is not refused
 pub inked-settled : (s : Setting) (r : Reading) (b : ℕ) {t : Reading} {i : ℕ} → payloadStep s r b ≡ next t i → 0 < i
@@ -226,7 +222,7 @@ inked-settled s r b e = subst (Inks Fine) e (payload-case (Inks Fine) s r b (λ 
     Fine i = 0 < i → settled s r .refusal ≡ none
 
     dry : (c : Scanned) (out : Outcome) → out .drawing .strokes ≡ r .drawing .strokes → Inks Fine (wentOn r c out)
-    dry c out same = wentOn-inks Fine r c out (λ some-ink. let none-more = no-more r _ same in absurd (omega arith))
+    dry c out same = wentOn-inks Fine r c out (λ some-ink. let none-more = since-same (r .drawing) (out .drawing) same in absurd (omega arith))
 
     ended : Inks Fine (endedAt b r (settled s r))
     ended = ended-inks Fine b r (settled s r)

@@ -1,7 +1,9 @@
 pub mod Cases
+pub mod ReaderAsks
 pub mod RunLaws
 pub mod CallLaws
 pub mod CallerLaws
+pub mod Histories
 pub mod HistoryLaws
 pub mod ToldLaws
 pub mod FeedingLaws
@@ -14,8 +16,11 @@ pub mod AreaLaws
 pub mod SixelLaws
 pub mod InkLaws
 pub mod PayloadLaws
+pub mod WholeLaws
+pub mod Framing
 pub mod DcsParts
 pub mod DcsLaws
+pub mod SequenceLaws
 pub mod Demand3
 pub mod EachCall
 pub mod DcsEnds

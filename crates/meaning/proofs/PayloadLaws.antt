@@ -51,16 +51,16 @@ unfolding commandsFrom
 payloadFrom s r bs = drawAll s (commandsFrom r bs) (r .drawing)
 
 -- a payload that has not ended reads the byte
-unended : (s : Setting) (r : Reading) (b : ℕ) → r .over ≡ none → payloadStep s r b ≡ readByte s r b
+pub unended : (s : Setting) (r : Reading) (b : ℕ) → r .over ≡ none → payloadStep s r b ≡ readByte s r b
 unfolding payloadStep
 unended s r b e = ap (λ (o : Option ℕ). elim o as (λ _. Step Reading) [ none ↦ readByte s r b | some n ↦ halt r ]) e
 
 -- an outcome with a known refusal
-known : (out : Outcome) {o : Option ℕ} → out .refusal ≡ o → _≡_ {A = Outcome} (record { drawing = out .drawing; refusal = o }) out
+pub known : (out : Outcome) {o : Option ℕ} → out .refusal ≡ o → _≡_ {A = Outcome} (record { drawing = out .drawing; refusal = o }) out
 known out e = ap (λ (o : Option ℕ). record { drawing = out .drawing; refusal = o }) (sym e)
 
 -- reading goes on after a byte
-go-on : Setting → List ℕ → Reading → ℕ → Run Reading
+unfoldable pub go-on : Setting → List ℕ → Reading → ℕ → Run Reading
 go-on s bs t i = after 1 i (readFrom (payloadStep s) t bs)
 
 module _ (s : Setting) (r : Reading) (b : ℕ) (bs : List ℕ) where

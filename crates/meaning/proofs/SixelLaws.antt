@@ -5,14 +5,16 @@ use native.Mathlib.Omega.{arith}
 use mathlib.Core.Path.{_≡_, refl, sym, ap, _∙_, subst}
 use mathlib.Core.Bool.{Bool, true, false, _||_, true≢false}
 use mathlib.Core.Option.{Option, none, some}
-use mathlib.Core.List.{List, [], _∷_, _++_}
+use mathlib.Core.List.{List, [], _∷_, _++_, append-nil}
 use borrow.Author.Tests.{leb-true, le-leb, lt-leb, ne-eqb}
 use lib.Count.{ones, ones-le}
 use lib.Dec.{leb, eqb}
+use lib.ListN.{length, drop}
+use lib.Seq.{drop-append-seam}
 use Rattle.numbers.specs.Bytes.{skipped, digit, sixel, ends, semicolon, bang, quote, hash, dollar, dash}
 use Rattle.canvas.specs.Picture.{Stroke}
 use Rattle.meaning.specs.Commands.{Kind, repeat, colour, raster, Command, return, line, draw, Placed, Begun, lengthens, taken, Scanned, closed, does, own, scanByte}
-use Rattle.meaning.specs.Drawing.{Setting, Drawing, strokeOf, stroked, sixelled, drawCommand, Outcome, andThen, drawAll, inkOf, inkOfAll}
+use Rattle.meaning.specs.Drawing.{Setting, Drawing, strokeOf, stroked, sixelled, drawCommand, Outcome, andThen, drawAll, inkOf, inkOfAll, strokesSince}
 use Rattle.meaning.specs.Reader.{Step}
 use Rattle.meaning.specs.Sessions.{Reading, settled, endedAt, wentOn, readByte}
 use Rattle.meaning.proofs.AreaLaws.{both, cond-case, option-case, drawOn, drawAll-append, unless-case, Quiet, AllQuiet, quiet-strokes}
@@ -24,6 +26,23 @@ pub ink-append : (xs ys : List Stroke) → inkOfAll (xs ++ ys) ≡ inkOfAll xs +
 unfolding inkOfAll
 ink-append [] ys = sym (zero-add _)
 ink-append (k ∷ xs) ys = rw (ink-append xs ys) (sym (add-assoc (inkOf k) (inkOfAll xs) (inkOfAll ys)))
+
+-- the strokes since an earlier drawing are those that were appended to its own
+pub since-appended : (before now : Drawing) (more : List Stroke) → now .strokes ≡ before .strokes ++ more → strokesSince before now ≡ more
+unfolding strokesSince
+since-appended before now more e = ap (drop (length (before .strokes))) e ∙ drop-append-seam (before .strokes) more
+
+-- and their ink is added to its own
+pub since-adds : (before now : Drawing) (more : List Stroke) → now .strokes ≡ before .strokes ++ more
+    → inkOfAll (now .strokes) ≡ inkOfAll (before .strokes) + inkOfAll (strokesSince before now)
+since-adds before now more e =
+    ap inkOfAll e ∙ ink-append (before .strokes) more
+    ∙ ap (λ (ks : List Stroke). inkOfAll (before .strokes) + inkOfAll ks) (sym (since-appended before now more e))
+
+-- without a stroke more there is no ink
+pub since-same : (before now : Drawing) → now .strokes ≡ before .strokes → inkOfAll (strokesSince before now) ≡ 0
+unfolding inkOfAll
+since-same before now e = ap inkOfAll (since-appended before now [] (e ∙ sym (append-nil _)))
 
 -- ---- sixels among the bytes
 
@@ -199,11 +218,10 @@ outcome-case P s r b stop go = option-case P (settled s r .refusal) (λ _. drawi
 
 -- its ink is at most 6W
 pub drew-ink : {s : Setting} {r : Reading} {b : ℕ} {e : Drawing} → sixel b ≡ true → Drew s r b e
-    → inkOfAll (e .strokes) ≤ inkOfAll (r .drawing .strokes) + 6 * s .limits .width
+    → inkOfAll (strokesSince (r .drawing) e) ≤ 6 * s .limits .width
 unfolding inkOfAll strokeOf
 drew-ink {s} {r} {b} {e} x drew =
     let k : Stroke = strokeOf (b - 63) (settled s r .drawing) in
-    let sum : inkOfAll (e .strokes) ≡ inkOfAll (r .drawing .strokes) + (k .repeat * ones (b - 63) + 0) =
-    ap inkOfAll (drew .strokes) ∙ ink-append (r .drawing .strokes) (k ∷ []) in
+    let own : inkOfAll (strokesSince (r .drawing) e) ≡ k .repeat * ones (b - 63) + 0 = ap inkOfAll (since-appended (r .drawing) e (k ∷ []) (drew .strokes)) in
     let most : k .repeat * ones (b - 63) ≤ s .limits .width * 6 = mul-le-mul (drew .repeats) (ones-sixel b x) in
     omega arith

@@ -9,7 +9,8 @@ use borrow.Author.Tests.{le-leb}
 use lib.Dec.{leb}
 use lib.ListN.{length, take, drop, take-append-drop}
 use lib.Seq.{take-at, drop-length}
-use Rattle.meaning.specs.Reader.{Step, next, halt, refuse, How, readAll, stopped, halted, refusedBy, isRefused, isOngoing, Run, still, after, continued, follow, readFrom, thenRead, call, Turn, pieceOf, allowanceOf, stream, Caller, ready, having, turn, turns, proper, RestLaw, HaltLaw, CapLaw}
+use Rattle.meaning.specs.Reader.{Step, next, halt, refuse, How, readAll, stopped, halted, refusedBy, isRefused, isOngoing, Run, still, after, continued, follow, readFrom, thenRead, call, Turn, pieceOf, allowanceOf, stream, Caller, ready, having, turn, turns, proper}
+use Rattle.meaning.proofs.ReaderAsks.{RestLaw, HaltLaw, CapLaw}
 use Rattle.meaning.proofs.RunLaws.{read-append, read-as, read-all}
 use Rattle.meaning.proofs.CallLaws.{take-one-more, called, StoppedAt, call-plain, call-reads, call-stopped-at}
 use Rattle.meaning.proofs.CallerLaws.{not-refused, proper-parts}

@@ -4,14 +4,13 @@ use native.Mathlib.Omega.{arith}
 use mathlib.Core.Bool.{true, false, true≢false}
 use mathlib.Core.Option.{Option, none, some}
 use mathlib.Core.List.{List, [], _∷_, _++_, map}
-use mathlib.Core.Path.{_≡_, refl, ap, ap₂}
+use mathlib.Core.Path.{_≡_, refl, sym, ap, ap₂, _∙_}
 use borrow.Author.Tests.{le-leb, leb-true}
 use lib.Dec.{leb}
 use lib.ListN.{drop}
-use Rattle.meaning.specs.Calls.{ended, Answer, told, Session, Fed, atEnd, sessionAfter, tells, answered}
-use Rattle.meaning.specs.Callers.{Feed, Past, fedAll, howTold, consumedTold, inkTold, afterFeed, called, callsOf, properCalls}
-use Rattle.meaning.specs.Histories.{Ask}
-use Rattle.meaning.specs.Reader.{Step, How, readAll, stopped, halted, refusedBy, isRefused, Run, Turn, fresh, again, allowanceOf, Caller, mayCall, having, turn, turns, proper}
+use Rattle.meaning.specs.Calls.{Status, ended, Answer, told, Session, Fed, atEnd, sessionAfter, tells, answered}
+use Rattle.meaning.specs.Callers.{Ask, Feed, Past, fedAll, howTold, consumedTold, inkTold, statusTold, afterFeed, called, callsOf, lastStatus, properCalls}
+use Rattle.meaning.specs.Reader.{Step, How, readAll, stopped, halted, refusedBy, isRefused, Run, Turn, fresh, again, pieceOf, allowanceOf, Caller, mayCall, having, turn, turns, proper}
 use Rattle.meaning.proofs.Cases.{both, and-both}
 
 -- ---- any calls
@@ -228,3 +227,36 @@ module _ {H E : Type 0} (feed : Feed H (Answer E)) where
         let there = may c k h t (parts .1) in
         let later = calls-stand (one c k h t (parts .0) there) ts (parts .2) in
         (later .0, and-both _ _ (le-leb A (allowanceOf t) (parts .0)) (and-both _ _ there (later .1)))
+
+    -- where each such call that neither stops nor is refused tells whether the end has come, so does the last of any, after a status told before
+    module _ (end : S → Option E)
+        (tells : (c : Caller H) (k : Caller S) → Stands c k → (t : Turn) → A ≤ allowanceOf t → mayCall t (k .how) ≡ true → (x : Status E)
+        → (called feed c t .how ≡ stopped → ⊥) → isRefused (called feed c t .how) ≡ false
+        → statusTold x (feed (c .state) (c .unread ++ pieceOf t) (allowanceOf t) .1) ≡ atEnd (end (turn step rest k t .state))) where
+      pub status-stands : {c : Caller H} {k : Caller S} → Stands c k → (x : Status E)
+          → ((c .how ≡ stopped → ⊥) → isRefused (c .how) ≡ false → x ≡ atEnd (end (k .state)))
+          → (ts : List Turn) → properCalls feed A c ts ≡ true → (callsOf feed c ts .how ≡ stopped → ⊥) → isRefused (callsOf feed c ts .how) ≡ false
+          → lastStatus feed x c ts ≡ atEnd (end (turns step rest k ts .state))
+      unfolding callsOf turns lastStatus
+      status-stands h x before [] ok going fine = before going fine
+      status-stands {c} {k} h x before (t ∷ ts) ok going fine =
+          let parts = proper-parts A c t ts ok in
+          let there = may c k h t (parts .1) in
+          status-stands (one c k h t (parts .0) there) (statusTold x (feed (c .state) (c .unread ++ pieceOf t) (allowanceOf t) .1))
+          (tells c k h t (parts .0) there x) ts (parts .2) going fine
+
+-- ---- the status that an answer tells
+
+-- an answered call that neither stopped nor was refused tells whether the end has come
+pub answer-status : {S E : Type 0} (end : S → Option E) (m : Session S) (q : Run S) (x : Status E) {y : Answer E} → y ≡ answered end m q .answer
+    → (howTold y ≡ stopped → ⊥) → isRefused (howTold y) ≡ false → statusTold x y ≡ atEnd (end (q .state))
+unfolding answered tells statusTold isRefused howTold ending
+answer-status {S} {E} end m q x e going fine =
+    ap (statusTold x) e ∙ each (q .how) (λ z. going (ap howTold e ∙ z)) (sym (ap (λ (y : Answer E). isRefused (howTold y)) e) ∙ fine)
+  where
+    each : (h : How) → (howTold (ending end m q h (end (q .state)) .answer) ≡ stopped → ⊥) → isRefused (howTold (ending end m q h (end (q .state)) .answer)) ≡ false
+        → statusTold x (ending end m q h (end (q .state)) .answer) ≡ atEnd (end (q .state))
+    each readAll going fine = refl
+    each stopped going fine = absurd (going refl)
+    each halted going fine = refl
+    each (refusedBy n) going fine = absurd (true≢false fine)

@@ -1,5 +1,5 @@
 -- How a worked example is computed: an input is read, and what a row says of the outcome is tested.
-use Prim.Native.Nat.{ℕ, _+_, _*_}
+use Prim.Native.Nat.{ℕ, _+_, _-_, _*_}
 use Prim.Native.Char.{code}
 use Prim.Native.String.{String, [] as nil, _∷_ as cons}
 use mathlib.Core.Bool.{Bool, true, false, not, _&&_}
@@ -8,7 +8,7 @@ use mathlib.Core.List.{List, [], _∷_}
 use lib.Count.{ones}
 use lib.Dec.{eqb}
 use lib.Ieee as Ieee
-use lib.ListN.{drop, getD}
+use lib.ListN.{length, drop, getD}
 use Rattle.numbers.specs.Bytes as Bytes
 use Rattle.numbers.specs.Values as Values
 use Rattle.hls.specs.Hls as Hls
@@ -22,11 +22,12 @@ use Rattle.canvas.specs.Picture as Picture
 use Rattle.canvas.specs.Picture.{Area, shownColour}
 use Rattle.meaning.specs.Commands as Commands
 use Rattle.meaning.specs.Drawing as Strokes
-use Rattle.meaning.specs.Drawing.{Limits, Setting, Drawing, Outcome, inkOfAll, blank}
-use Rattle.meaning.specs.Payload.{Parameters, Ratio, byRaster, leftToP1, Report, Finished, finished, turnedDown, payload, finish}
+use Rattle.meaning.specs.Drawing.{houseLimits, Limits, Setting, Drawing, Outcome, inkOfAll, blank}
+use Rattle.meaning.specs.Payload.{Parameters, Ratio, byRaster, leftToP1, Report, Finished, finished, turnedDown, payload, drawnSoFar, payloadInk, reported, finish}
 use Rattle.meaning.specs.Reader.{Run, How, readAll, stopped, halted, refusedBy, readFrom, call}
 use Rattle.meaning.specs.Sessions.{Reading, opened, payloadStep, rested, End, complete, cancelled, interrupted, Phase, start, dcsStep, finishDcs}
-use Rattle.meaning.specs.OneShot.{Found, found, missing, findPayload, partOf, oneShot}
+use Rattle.meaning.specs.OneShot.{Found, found, lacking, refusedWith, findPayload, partOf, oneShot}
+use Rattle.meaning.specs.Sequence.{sequenceEnd, sequenceConsumed, sequenceRefusal, sequenceDrawn, sequenceFinish, sequenceInk}
 use Rattle.meaning.specs.Calls.{drawingOf, dcsEnd, Session, Opened, isOpen, notOpened, Answer, Fed, openPayload, feedPayload, finishPayload}
 
 -- ---- rows
@@ -36,9 +37,9 @@ unfoldable pub bytes : String → List ℕ
 bytes nil = []
 bytes (cons c cs) = code c ∷ bytes cs
 
--- how an input is read: as a payload, as a DCS sequence, or all at once
+-- how an input is read: as a payload, to its finish or no further than its bytes; as a DCS sequence; or all at once
 pub data Way : Type 0 where
-  asPayload asDcs atOnce : Way
+  asPayload soFar asDcs atOnce : Way
 
 -- what a row says: the size's or the extent's width and height; ink; the pixel at a column and a row, as RRGGBBAA; the ratio; the background;
 -- a refusal's number; that a DCS sequence has come to an end, or has not; and what stays unread, or is the part handed back
@@ -65,19 +66,26 @@ limited w h r m =
     record { limits = record { width = w; height = h; repeats = r; pixels = m }; stride = 1024; rows = 768 }
 
 abbrev pub house : Setting
-house = limited 1024 768 1024 786432
+house = record { limits = houseLimits; stride = 1024; rows = 768 }
 
 -- house limits but for M, on a canvas of another stride and other rows
 abbrev pub onCanvas : ℕ → ℕ → ℕ → Setting
 onCanvas m stride rows =
-    record { limits = record { width = 1024; height = 768; repeats = 1024; pixels = m }; stride = stride; rows = rows }
+    record {
+      limits = record { width = houseLimits .width; height = houseLimits .height; repeats = houseLimits .repeats; pixels = m };
+      stride = stride;
+      rows = rows;
+    }
 
--- a payload under house limits, or under others; a DCS sequence; an input read at once
+-- a payload under house limits, or under others; what has been drawn of one; a DCS sequence; an input read at once
 abbrev pub row : String → List Says → Row
 row t says = record { way = asPayload; setting = house; input = t; says = says }
 
 abbrev pub under : Setting → String → List Says → Row
 under s t says = record { way = asPayload; setting = s; input = t; says = says }
+
+abbrev pub partly : String → List Says → Row
+partly t says = record { way = soFar; setting = house; input = t; says = says }
 
 abbrev pub dcs : String → List Says → Row
 dcs t says = record { way = asDcs; setting = house; input = t; says = says }
@@ -87,28 +95,37 @@ once t says = record { way = atOnce; setting = house; input = t; says = says }
 
 -- ---- the outcome of a row
 
+-- `presented` is the length of the input; what stays unread is `left`
 pub record Result : Type 0 where
   pub answer : Finished
   pub drawing : Drawing
   pub ink : ℕ
   pub end : Option End
+  pub presented : ℕ
+  pub consumed : ℕ
   pub left : List ℕ
+
+-- an answer, a drawing and its ink, an end, and so many bytes consumed of an input
+unfoldable pub resulting : Finished → Drawing → ℕ → Option End → ℕ → List ℕ → Result
+resulting f d i e n bs = record { answer = f; drawing = d; ink = i; end = e; presented = length bs; consumed = n; left = drop n bs }
 
 abbrev pub noParameters : Parameters
 noParameters = record { p1 = none; p2 = none }
 
 -- the payload as a whole, and byte by byte for its ink and what stays unread
 unfoldable pub payloadResult : Setting → List ℕ → Result
+unfolding resulting
 payloadResult s bs =
     let out : Outcome = payload s noParameters standard bs in
     let run : Run Reading = readFrom (payloadStep s) (opened noParameters standard) bs in
-    record {
-      answer = finish s noParameters out;
-      drawing = out .drawing;
-      ink = run .ink;
-      end = none;
-      left = drop (run .consumed) bs;
-    }
+    resulting (finish s noParameters out) (out .drawing) (run .ink) none (run .consumed) bs
+
+-- all of it as a whole
+unfoldable pub payloadMeant : Setting → List ℕ → Result
+unfolding resulting payloadInk Commands.body
+payloadMeant s bs =
+    let out : Outcome = payload s noParameters standard bs in
+    resulting (finish s noParameters out) (out .drawing) (payloadInk s noParameters standard bs) none (length (Commands.body bs)) bs
 
 -- a drawing, blank where there is none
 unfoldable pub orBlank : Option Drawing → Drawing
@@ -122,22 +139,45 @@ refusalOr stopped f = f
 refusalOr halted f = f
 refusalOr (refusedBy n) f = turnedDown n
 
+-- the refusal that reading comes to, or else what finishing answers
+unfoldable pub refusedOr : Option ℕ → Finished → Finished
+refusedOr none f = f
+refusedOr (some n) f = turnedDown n
+
+-- what has been drawn of a payload, byte by byte; its size is the visible area then
+unfoldable pub soFarResult : Setting → List ℕ → Result
+unfolding resulting refusalOr reported
+soFarResult s bs =
+    let run : Run Reading = readFrom (payloadStep s) (opened noParameters standard) bs in
+    resulting (refusalOr (run .how) (reported s noParameters (run .state .drawing))) (run .state .drawing) (run .ink) none (run .consumed) bs
+
+-- and as a whole
+unfoldable pub soFarMeant : Setting → List ℕ → Result
+unfolding resulting drawnSoFar Commands.endedCommands Commands.body
+soFarMeant s bs =
+    let out : Outcome = drawnSoFar s noParameters standard bs in
+    resulting (finish s noParameters out) (out .drawing) (inkOfAll (out .drawing .strokes)) none (length (Commands.body bs)) bs
+
+-- a DCS sequence byte by byte
 unfoldable pub dcsResult : Setting → List ℕ → Result
-unfolding orBlank refusalOr
+unfolding resulting orBlank refusalOr
 dcsResult s bs =
     let run : Run Phase = readFrom (dcsStep s standard) start bs in
-    record {
-      answer = refusalOr (run .how) (finishDcs s (run .state));
-      drawing = orBlank (drawingOf (run .state));
-      ink = run .ink;
-      end = dcsEnd (run .state);
-      left = drop (run .consumed) bs;
-    }
+    resulting (refusalOr (run .how) (finishDcs s (run .state))) (orBlank (drawingOf (run .state))) (run .ink) (dcsEnd (run .state)) (run .consumed) bs
+
+-- and as a whole
+unfoldable pub dcsMeant : Setting → List ℕ → Result
+unfolding resulting orBlank refusedOr sequenceEnd sequenceConsumed sequenceRefusal sequenceDrawn sequenceFinish sequenceInk Commands.endedCommands
+dcsMeant s bs =
+    resulting (refusedOr (sequenceRefusal s standard bs) (sequenceFinish s standard bs)) (orBlank (sequenceDrawn s standard bs))
+    (sequenceInk s standard bs) (sequenceEnd bs) (sequenceConsumed bs) bs
 
 unfoldable pub foundDrawing : Setting → Found → Drawing
 foundDrawing s (found o part) = payload s o standard part .drawing
-foundDrawing s (missing n) = blank standard none
+foundDrawing s lacking = blank standard none
+foundDrawing s (refusedWith n) = blank standard none
 
+-- what is left is the part handed back
 unfoldable pub atOnceResult : Setting → List ℕ → Result
 unfolding foundDrawing
 atOnceResult s bs =
@@ -147,14 +187,18 @@ atOnceResult s bs =
       drawing = d;
       ink = inkOfAll (d .strokes);
       end = none;
+      presented = length bs;
+      consumed = length bs - length (partOf (findPayload bs));
       left = partOf (findPayload bs);
     }
 
-unfoldable pub resultOf : Way → Setting → List ℕ → Result
-unfolding payloadResult dcsResult atOnceResult
-resultOf asPayload s bs = payloadResult s bs
-resultOf asDcs s bs = dcsResult s bs
-resultOf atOnce s bs = atOnceResult s bs
+-- a payload and a sequence come to two results, byte by byte and as a whole, and a row must say what is so of each
+unfoldable pub resultsOf : Way → Setting → List ℕ → List Result
+unfolding payloadResult payloadMeant soFarResult soFarMeant dcsResult dcsMeant atOnceResult
+resultsOf asPayload s bs = payloadResult s bs ∷ payloadMeant s bs ∷ []
+resultsOf soFar s bs = soFarResult s bs ∷ soFarMeant s bs ∷ []
+resultsOf asDcs s bs = dcsResult s bs ∷ dcsMeant s bs ∷ []
+resultsOf atOnce s bs = atOnceResult s bs ∷ []
 
 -- ---- the test of a row
 
@@ -212,7 +256,7 @@ unfoldable pub unended : Option End → Bool
 unended none = true
 unended (some d) = false
 
--- what is said is so; ink is both that of the strokes and that of the bytes
+-- what is said is so; ink is both that of the strokes and that of the bytes, and all but what is left was consumed
 unfoldable pub isSo : Result → Says → Bool
 unfolding sameBytes sameArea sameRatio asNumber reports refuses endsBy unended bytes
 isSo r (size w h) = reports (r .answer) (λ a. sameArea (a .size) w h)
@@ -225,16 +269,21 @@ isSo r opaque = reports (r .answer) (λ a. not (a .clear))
 isSo r (refusal n) = refuses (r .answer) n
 isSo r (ends e) = endsBy (r .end) e
 isSo r goesOn = unended (r .end)
-isSo r (leaves t) = sameBytes (r .left) (bytes t)
+isSo r (leaves t) = sameBytes (r .left) (bytes t) && eqb (r .consumed) (r .presented - length (bytes t))
 
 unfoldable pub allSo : Result → List Says → Bool
 unfolding isSo
 allSo r [] = true
 allSo r (x ∷ xs) = elim (isSo r x) [ true ↦ allSo r xs | false ↦ false ]
 
+unfoldable pub allResults : List Result → List Says → Bool
+unfolding allSo
+allResults [] xs = true
+allResults (r ∷ rs) xs = elim (allSo r xs) [ true ↦ allResults rs xs | false ↦ false ]
+
 unfoldable pub rowHolds : Row → Bool
-unfolding allSo resultOf
-rowHolds w = let r : Result = resultOf (w .way) (w .setting) (bytes (w .input)) in allSo r (w .says)
+unfolding allResults resultsOf
+rowHolds w = allResults (resultsOf (w .way) (w .setting) (bytes (w .input))) (w .says)
 
 -- the test of a table
 unfoldable pub rowsHold : List Row → Bool
@@ -310,7 +359,7 @@ heard c = openedHeard (openPayload (c .limits) (c .stride) (c .length) noParamet
 -- to unfold this is to unfold every operation below
 unfoldable pub computed : Bool
 unfolding payload finish finishDcs oneShot findPayload partOf readFrom call payloadStep rested dcsStep dcsEnd drawingOf opened blank
-    openPayload feedPayload finishPayload inkOfAll shownColour standard Commands.commands Strokes.drawAll Strokes.extentOf
+    openPayload feedPayload finishPayload inkOfAll Strokes.strokesSince shownColour standard Commands.commands Strokes.drawAll Strokes.extentOf
     Bytes.ends Bytes.skipped Bytes.sixel Bytes.digit Values.decimal Values.values Values.held16
     Picture.reach Picture.grownTo Picture.rowsOf Picture.fits Picture.colourAt Picture.lastStroke Picture.orHere Picture.covers Picture.inSixel
     Picture.span Picture.bit

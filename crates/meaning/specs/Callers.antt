@@ -6,14 +6,18 @@ use mathlib.Core.List.{List, [], _∷_, _++_}
 use lib.Dec.{leb}
 use lib.ListN.{drop}
 use Rattle.meaning.specs.Reader.{How, readAll, stopped, halted, refusedBy, Turn, pieceOf, allowanceOf, Caller, mayCall}
-use Rattle.meaning.specs.Histories.{Ask}
-use Rattle.meaning.specs.Calls.{needsMore, stoppedForInk, ended, Answer, told, refused}
+use Rattle.meaning.specs.Calls.{Status, needsMore, stoppedForInk, ended, Answer, told, refused}
 
 -- a feed: of what is held, some bytes and an allowance it makes what is held then, and an answer
 abbrev pub Feed : Type 0 → Type 0 → Type 0
 Feed H A = H → List ℕ → ℕ → H × A
 
 -- ---- any calls, what was left given back each time as it was
+
+-- a call of a session: an allowance and any bytes
+pub record Ask : Type 0 where
+  pub allowance : ℕ
+  pub bytes : List ℕ
 
 -- the answers, and what is held after them
 pub record Past (H A : Type 0) : Type 0 where
@@ -46,6 +50,11 @@ unfoldable pub inkTold : {E : Type 0} → Answer E → ℕ
 inkTold (told consumed ink status) = ink
 inkTold (refused n) = 0
 
+-- its status; a refusal tells none, and what was told before it stays
+unfoldable pub statusTold : {E : Type 0} → Status E → Answer E → Status E
+statusTold before (told consumed ink status) = status
+statusTold before (refused n) = before
+
 -- ---- a caller that presents what was left unread, and knows what the answers tell
 
 -- where it stands after a feed of what it presented
@@ -72,6 +81,13 @@ module _ {H E : Type 0} (feed : Feed H (Answer E)) where
   unfolding called
   callsOf c [] = c
   callsOf c (t ∷ ts) = callsOf (called c t) ts
+
+  -- the status that their last answer told, after one that was told before them
+  unfoldable pub lastStatus : Status E → Caller H → List Turn → Status E
+  unfolding called statusTold
+  lastStatus before c [] = before
+  lastStatus before c (t ∷ ts) =
+      lastStatus (statusTold before (feed (c .state) (c .unread ++ pieceOf t) (allowanceOf t) .1)) (called c t) ts
 
   -- each call is one that may be made after the answer before it, with an allowance of at least A
   unfoldable pub properCalls : ℕ → Caller H → List Turn → Bool

@@ -2,7 +2,7 @@
 -- Said once for a payload and a DCS session: `S` is what the session reads with, `E` how it can end.
 use Prim.Native.Nat.{ℕ, _*_, _^_}
 use mathlib.Core.Bool.{Bool, true, false, cond, not, _&&_, _||_}
-use mathlib.Core.Option.{Option, none, some}
+use mathlib.Core.Option.{Option, none, some, Option·map}
 use mathlib.Core.List.{List, [], _∷_}
 use lib.Dec.{leb, ltb, eqb}
 use Rattle.colours.specs.declared.Palette.{Palette}
@@ -10,7 +10,7 @@ use Rattle.canvas.specs.Picture.{Area, rowsOf, fits, picture}
 use Rattle.meaning.specs.Drawing.{Limits, Setting, Drawing}
 use Rattle.meaning.specs.Payload.{Parameters, payload, Finished, turnedDown}
 use Rattle.meaning.specs.Reader.{Step, readAll, stopped, halted, refusedBy, Run, call, Turn, Caller, ready, turns, proper}
-use Rattle.meaning.specs.OneShot.{Found, found, missing, findPayload, partOf, oneShot}
+use Rattle.meaning.specs.OneShot.{Found, found, lacking, refusedWith, findPayload, partOf, oneShot}
 use Rattle.meaning.specs.Sessions.{Reading, opened, settled, payloadStep, rested, finishReading, End, Phase, start, introduced, header, within, afterEscape, over, dcsStep, dcsRested, finishDcs}
 
 -- ---- opening
@@ -139,14 +139,38 @@ module _ {S : Type 0} (areaOf : S → Area) where
 
 -- ---- the two kinds
 
--- the drawing of a DCS sequence, once its payload has begun
+-- how a DCS sequence ended
+unfoldable pub dcsEnd : Phase → Option End
+dcsEnd start = none
+dcsEnd introduced = none
+dcsEnd (header bs) = none
+dcsEnd (within r) = none
+dcsEnd (afterEscape r) = none
+dcsEnd (over e r) = some e
+
+-- where the payload of a DCS sequence stands, once it has begun
+unfoldable pub readingOf : Phase → Option Reading
+readingOf start = none
+readingOf introduced = none
+readingOf (header bs) = none
+readingOf (within r) = some r
+readingOf (afterEscape r) = some r
+readingOf (over e r) = some r
+
+-- what has been drawn
 unfoldable pub drawingOf : Phase → Option Drawing
-drawingOf start = none
-drawingOf introduced = none
-drawingOf (header bs) = none
-drawingOf (within r) = some (r .drawing)
-drawingOf (afterEscape r) = some (r .drawing)
-drawingOf (over e r) = some (r .drawing)
+unfolding readingOf
+drawingOf t = Option·map (λ r. r .drawing) (readingOf t)
+
+-- the same with the pending command carried out
+unfoldable pub drawingSettled : Setting → Phase → Option Drawing
+unfolding readingOf
+drawingSettled s t = Option·map (λ r. settled s r .drawing) (readingOf t)
+
+-- what finishing leaves: at an end the pending command is carried out, and before it, which is 8, it is not
+unfoldable pub drawingAtFinish : Setting → Phase → Option Drawing
+unfolding dcsEnd drawingOf drawingSettled
+drawingAtFinish s t = elim (dcsEnd t) [ none ↦ drawingOf t | some e ↦ drawingSettled s t ]
 
 -- the visible area; before the payload there is none
 unfoldable pub visibleArea : Option Drawing → Area
@@ -158,27 +182,9 @@ unfoldable pub shown : ℕ → Option Drawing → List ℕ → List ℕ
 shown stride none opening = opening
 shown stride (some d) opening = picture stride (d .area) (d .background) (d .strokes) opening
 
--- the drawing that finishing leaves: the pending command has been carried out
-unfoldable pub drawingAtFinish : Setting → Phase → Option Drawing
-drawingAtFinish s start = none
-drawingAtFinish s introduced = none
-drawingAtFinish s (header bs) = none
-drawingAtFinish s (within r) = some (r .drawing)
-drawingAtFinish s (afterEscape r) = some (r .drawing)
-drawingAtFinish s (over e r) = some (settled s r .drawing)
-
--- the drawing of a DCS sequence with its pending command carried out, wherever it stands
-unfoldable pub drawingSettled : Setting → Phase → Option Drawing
-drawingSettled s start = none
-drawingSettled s introduced = none
-drawingSettled s (header bs) = none
-drawingSettled s (within r) = some (settled s r .drawing)
-drawingSettled s (afterEscape r) = some (settled s r .drawing)
-drawingSettled s (over e r) = some (settled s r .drawing)
-
 -- After an opening and after every call the canvas shows the drawing of the session's state; a payload session opens with the blank drawing,
 -- which is pixel (0,0) in the background, and a DCS session has none before `q`.
--- After a call that read all its bytes the pending command is not yet carried out; after a stop or an end it is.
+-- After a call that read all its bytes the pending command is not yet carried out; after a stop (`call` of Reader) or an end it is.
 unfoldable pub payloadShown : Session Reading → List ℕ → List ℕ
 unfolding shown
 payloadShown s opening = shown (s .setting .stride) (some (s .state .drawing)) opening
@@ -201,22 +207,14 @@ dcsShownAtFinish s opening = shown (s .setting .stride) (drawingAtFinish (s .set
 -- a one-shot's drawing is its payload's
 unfoldable pub drawingFound : Setting → Palette → Found → Option Drawing
 drawingFound s p (found o part) = some (payload s o p part .drawing)
-drawingFound s p (missing n) = none
+drawingFound s p lacking = none
+drawingFound s p (refusedWith n) = none
 
 -- after a one-shot the canvas shows that; where there is no payload, and on 11, nothing is written
 unfoldable pub oneShotShown : Limits → ℕ → ℕ → Palette → List ℕ → List ℕ → List ℕ
 unfolding opens settingFor drawingFound shown
 oneShotShown l stride length p bs opening =
     cond (opens l stride length) (shown stride (drawingFound (settingFor l stride length) p (findPayload bs)) opening) opening
-
--- how a DCS sequence ended
-unfoldable pub dcsEnd : Phase → Option End
-dcsEnd start = none
-dcsEnd introduced = none
-dcsEnd (header bs) = none
-dcsEnd (within r) = none
-dcsEnd (afterEscape r) = none
-dcsEnd (over e r) = some e
 
 unfoldable pub openPayload : Limits → ℕ → ℕ → Parameters → Palette → Opened Reading
 unfolding openWith

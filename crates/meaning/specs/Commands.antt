@@ -19,11 +19,13 @@ pub data Command : Type 0 where
   draw : ℕ → Command
 
 pub record Placed : Type 0 where
+  -- no answer reads it yet
   pub place : ℕ
   pub command : Command
 
 -- a command that has begun and not ended: its argument so far
 pub record Begun : Type 0 where
+  -- no answer reads it yet
   pub place : ℕ
   pub kind : Kind
   pub argument : List ℕ
@@ -111,3 +113,8 @@ endOf (b ∷ bs) = cond (ends b) (some b) (endOf bs)
 unfoldable pub commands : List ℕ → List Placed
 unfolding scan body closed
 commands bs = let s : Scanned = scan 0 none (body bs) in s .ended ++ closed (s .begun)
+
+-- the commands that have ended among some bytes: one that is still pending is not yet among them, and the payload's end ends it too
+unfoldable pub endedCommands : List ℕ → List Placed
+unfolding scan endOf commands
+endedCommands bs = elim (endOf bs) [ none ↦ scan 0 none bs .ended | some b ↦ commands bs ]

@@ -7,7 +7,7 @@ use mathlib.Core.List.{List, [], _∷_, _++_}
 use lib.Dec.{leb, ltb, eqb}
 use lib.Count.{ones}
 use lib.IntN.{pos}
-use lib.ListN.{length, getD}
+use lib.ListN.{length, getD, drop}
 use Rattle.numbers.specs.Values.{decimal, values}
 use Rattle.colours.specs.declared.Palette.{Palette}
 use Rattle.colours.specs.Palette.{registerOf, setRgb, setHls}
@@ -20,6 +20,13 @@ pub record Limits : Type 0 where
   pub height : ℕ
   pub repeats : ℕ
   pub pixels : ℕ
+
+-- the house's own limits, and those that the Rust has built in
+abbrev pub houseLimits : Limits
+houseLimits = record { width = 1024; height = 768; repeats = 1024; pixels = 786432 }
+
+abbrev pub crateLimits : Limits
+crateLimits = record { width = 1000000; height = 1000000; repeats = 65535; pixels = 67108864 }
 
 -- what a session was opened with: its limits, and the canvas's stride and whole rows
 pub record Setting : Type 0 where
@@ -185,7 +192,7 @@ rastered s r d = cond (eqb (r .width + r .height) 0) (drawn (withRaster d r (d .
 
 -- ---- sixel
 
--- the stroke that a sixel's bits make at the pen
+-- the stroke that a sixel's bits make at the pen; no answer reads its register yet
 unfoldable pub strokeOf : ℕ → Drawing → Stroke
 strokeOf bits d =
     record {
@@ -252,6 +259,10 @@ unfoldable pub inkOfAll : List Stroke → ℕ
 unfolding inkOf
 inkOfAll [] = 0
 inkOfAll (k ∷ ks) = inkOf k + inkOfAll ks
+
+-- the strokes that a drawing has beyond an earlier one; a byte draws one at most
+unfoldable pub strokesSince : Drawing → Drawing → List Stroke
+strokesSince before now = drop (length (before .strokes)) (now .strokes)
 
 -- the rightmost column that any sixel reached, blank or not, plus 1
 unfoldable pub columnsReached : List Stroke → ℕ

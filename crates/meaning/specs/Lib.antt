@@ -2,9 +2,9 @@ pub mod Commands
 pub mod Drawing
 pub mod Payload
 pub mod Reader
-pub mod Histories
 pub mod Sessions
 pub mod OneShot
 pub mod Sequence
 pub mod Calls
 pub mod Callers
+pub mod Demands

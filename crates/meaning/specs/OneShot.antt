@@ -16,16 +16,18 @@ afterIntroducer [] = none
 afterIntroducer (b ∷ bs) =
     cond (eqb b 0x90) (some bs) (cond (eqb b escape && eqb (getD bs 0 0) 0x50) (some (drop 1 bs)) (afterIntroducer bs))
 
--- what an input has: parameters and the part that is its payload, or a refusal's number
+-- what an input has: parameters and the part that is its payload; or bytes are missing, as a whole introducer or `q`; or its introducer or header
+-- is refused with a number
 pub data Found : Type 0 where
   found : Parameters → List ℕ → Found
-  missing : ℕ → Found
+  lacking : Found
+  refusedWith : ℕ → Found
 
--- a header, with its digits and `;` so far: the part begins after `q`, and without one it is 8
+-- a header, with its digits and `;` so far: the part begins after `q`
 unfoldable pub headerFrom : List ℕ → List ℕ → Found
-headerFrom got [] = missing 8
+headerFrom got [] = lacking
 headerFrom got (b ∷ bs) =
-    elim (headerByte got b) [ goesOn more ↦ headerFrom more bs | settles o ↦ found o bs | wrong n ↦ missing n ]
+    elim (headerByte got b) [ goesOn more ↦ headerFrom more bs | settles o ↦ found o bs | wrong n ↦ refusedWith n ]
 
 -- without an introducer the whole input is payload, with no parameters
 unfoldable pub findPayload : List ℕ → Found
@@ -36,12 +38,14 @@ findPayload bs =
 -- the part handed back: on 2, 3 and 8 an empty one
 unfoldable pub partOf : Found → List ℕ
 partOf (found o part) = part
-partOf (missing n) = []
+partOf lacking = []
+partOf (refusedWith n) = []
 
--- the answer: the refusal of the header, or what finishing the payload gives
+-- the answer: what finishing the payload gives; 8 where bytes are missing; or the refusal of the header
 unfoldable pub answerOf : Setting → Palette → Found → Finished
 answerOf s p (found o part) = finish s o (payload s o p part)
-answerOf s p (missing n) = turnedDown n
+answerOf s p lacking = turnedDown 8
+answerOf s p (refusedWith n) = turnedDown n
 
 unfoldable pub oneShot : Setting → Palette → List ℕ → Finished
 unfolding findPayload answerOf

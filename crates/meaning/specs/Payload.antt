@@ -6,7 +6,7 @@ use mathlib.Core.List.{List}
 use lib.Dec.{ltb}
 use Rattle.colours.specs.declared.Palette.{Palette}
 use Rattle.canvas.specs.Picture.{Area}
-use Rattle.meaning.specs.Commands.{commands}
+use Rattle.meaning.specs.Commands.{commands, endedCommands}
 use Rattle.meaning.specs.Drawing.{Setting, Drawing, Outcome, transparent, blank, drawAll, inkOfAll, extentOf, pixelsOf}
 
 -- P1 and P2, each a 16-bit number or none
@@ -14,9 +14,14 @@ pub record Parameters : Type 0 where
   pub p1 : Option ℕ
   pub p2 : Option ℕ
 
--- the drawing of a payload from its first byte to its end, or to its first refusal
+-- The drawing of a payload from its first byte to its end, or to its first refusal. This is the payload as a whole; Sessions says it byte by
+-- byte (`payloadStep`), and the two are one: the law `reading-is-payload` of proofs/PayloadLaws.
 unfoldable pub payload : Setting → Parameters → Palette → List ℕ → Outcome
 payload s o p bs = drawAll s (commands bs) (blank p (o .p2))
+
+-- what has been drawn once its bytes are read: a pending command is not yet carried out; with the refusal, if reading them comes to one
+unfoldable pub drawnSoFar : Setting → Parameters → Palette → List ℕ → Outcome
+drawnSoFar s o p bs = drawAll s (endedCommands bs) (blank p (o .p2))
 
 -- the ink of all that it draws, before a refusal too
 unfoldable pub payloadInk : Setting → Parameters → Palette → List ℕ → ℕ

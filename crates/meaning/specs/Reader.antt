@@ -1,7 +1,6 @@
 -- Any reader that goes byte by byte, and what a call of it with an ink allowance does (document 01, 'Ink').
 -- Nothing of SIXEL stands here: a reader is a step for each byte, and what a stop leaves.
-use Prim.Native.Nat.{ℕ, suc, _+_, _-_, _≤_, _<_}
-use mathlib.Core.Path.{_≡_}
+use Prim.Native.Nat.{ℕ, suc, _+_, _-_}
 use mathlib.Core.Bool.{Bool, true, false, cond, _&&_}
 use mathlib.Core.List.{List, [], _∷_, _++_}
 use lib.Dec.{leb}
@@ -78,7 +77,8 @@ module _ {S : Type 0} (step : S → ℕ → Step S) where
   unfolding continued readFrom
   thenRead r ys = continued r (λ t. readFrom t ys)
 
-  -- a call with an allowance: it stops before the first byte whose ink exceeds what is left
+  -- A call with an allowance. It stops exactly when the next byte is one that is read, so not refused, and its ink exceeds what is left. That
+  -- byte stays unread. What is pending before it has taken effect: `rest` says what a stop leaves.
   module _ (rest : S → S) where
     unfoldable pub call : ℕ → S → List ℕ → Run S
     unfolding still after follow
@@ -165,17 +165,3 @@ module _ {S : Type 0} (step : S → ℕ → Step S) (rest : S → S) where
   unfolding turn mayCall
   proper A c [] = true
   proper A c (t ∷ ts) = leb A (allowanceOf t) && (mayCall t (c .how) && proper A (turn c t) ts)
-
--- ---- what the laws of calls ask of a reader
-
--- a stop leaves a byte that has ink as it was
-abbrev pub RestLaw : {S : Type 0} → (S → ℕ → Step S) → (S → S) → Type 0
-RestLaw {S} step rest = (s t : S) (b i : ℕ) → step s b ≡ next t i → 0 < i → step (rest s) b ≡ next t i
-
--- where the end has come it stays
-abbrev pub HaltLaw : {S : Type 0} → (S → ℕ → Step S) → Type 0
-HaltLaw {S} step = (s t : S) (b : ℕ) → step s b ≡ halt t → step t b ≡ halt t
-
--- no byte has more ink than the cap
-abbrev pub CapLaw : {S : Type 0} → (S → ℕ → Step S) → ℕ → Type 0
-CapLaw {S} step cap = (s t : S) (b i : ℕ) → step s b ≡ next t i → i ≤ cap

@@ -1,62 +1,94 @@
--- A DCS sequence as a whole (document 01, 'DCS framing and one-shot'): where its payload stands, and the ink of it.
-use Prim.Native.Nat.{ℕ}
-use mathlib.Core.Bool.{cond}
+-- A DCS sequence as a whole (document 01, 'DCS framing and one-shot'): where its payload stands, how it ends, and what it comes to.
+-- Sessions says it byte by byte (`dcsStep`), and the two are one: proofs/SequenceLaws.
+use Prim.Native.Nat.{ℕ, _+_, _-_}
+use mathlib.Core.Bool.{cond, _||_}
+use mathlib.Core.Option.{Option, none, some}
 use mathlib.Core.List.{List, [], _∷_}
 use lib.Dec.{eqb}
-use lib.ListN.{drop}
+use lib.ListN.{length}
+use Rattle.numbers.specs.Bytes.{ends}
 use Rattle.colours.specs.declared.Palette.{Palette}
-use Rattle.meaning.specs.Drawing.{Setting}
-use Rattle.meaning.specs.Payload.{payloadInk}
-use Rattle.meaning.specs.Reader.{How, readAll, stopped, halted, refusedBy, Run, still, after, follow, readFrom}
-use Rattle.meaning.specs.Sessions.{escape, Reading, Phase, within, endStep, dcsStep}
-use Rattle.meaning.specs.OneShot.{Found, found, missing, headerFrom}
-
--- the two introducers: 90, and 1B `P`
-pub data Introducer : List ℕ → Type 0 where
-  c1 : Introducer (0x90 ∷ [])
-  escaped : Introducer (escape ∷ 0x50 ∷ [])
+use Rattle.meaning.specs.Commands.{body}
+use Rattle.meaning.specs.Drawing.{Setting, Drawing}
+use Rattle.meaning.specs.Payload.{Finished, turnedDown, drawnSoFar, payloadInk}
+use Rattle.meaning.specs.Sessions.{escape, End, complete, cancelled, interrupted}
+use Rattle.meaning.specs.OneShot.{Found, found, lacking, refusedWith, headerFrom, answerOf}
 
 -- after the 1B of an introducer comes `P`; another byte is 1
 unfoldable pub afterFirstEscape : List ℕ → Found
 unfolding headerFrom
-afterFirstEscape [] = missing 8
-afterFirstEscape (b ∷ bs) = cond (eqb b 0x50) (headerFrom [] bs) (missing 1)
+afterFirstEscape [] = lacking
+afterFirstEscape (b ∷ bs) = cond (eqb b 0x50) (headerFrom [] bs) (refusedWith 1)
 
--- the introducer, 90 or 1B `P`, is at the very start, and then comes the header; without a whole introducer, as without `q`, it is 8
+-- the introducer, 90 or 1B `P`, is at the very start, and then comes the header; another first byte is 1
 unfoldable pub sequencePayload : List ℕ → Found
 unfolding afterFirstEscape headerFrom
-sequencePayload [] = missing 8
-sequencePayload (b ∷ bs) = cond (eqb b escape) (afterFirstEscape bs) (cond (eqb b 0x90) (headerFrom [] bs) (missing 1))
+sequencePayload [] = lacking
+sequencePayload (b ∷ bs) = cond (eqb b escape) (afterFirstEscape bs) (cond (eqb b 0x90) (headerFrom [] bs) (refusedWith 1))
+
+-- ---- its end
+
+-- how a sequence ends, if it does, and how many bytes of that end are consumed
+pub record Closing : Type 0 where
+  pub end : Option End
+  pub consumed : ℕ
+
+-- after the 1B that ended the payload, `\` completes and is consumed; another byte means interrupted by 1B and stays unread
+unfoldable pub closedAfterEscape : List ℕ → Closing
+closedAfterEscape [] = record { end = none; consumed = 1 }
+closedAfterEscape (b ∷ bs) =
+    cond (eqb b 0x5C) (record { end = some complete; consumed = 2 }) (record { end = some (interrupted escape); consumed = 1 })
+
+-- from the byte on that ends the payload: 9C is complete, 18 or 1A is cancelled, another C1 byte means interrupted and stays unread
+unfoldable pub closing : List ℕ → Closing
+unfolding closedAfterEscape
+closing [] = record { end = none; consumed = 0 }
+closing (b ∷ bs) =
+    cond (eqb b escape) (closedAfterEscape bs)
+    (cond (eqb b 0x9C) (record { end = some complete; consumed = 1 })
+    (cond (eqb b 0x18 || eqb b 0x1A) (record { end = some (cancelled b); consumed = 1 })
+    (record { end = some (interrupted b); consumed = 0 })))
+
+-- the bytes from the first on that ends the payload
+unfoldable pub afterBody : List ℕ → List ℕ
+afterBody [] = []
+afterBody (b ∷ bs) = cond (ends b) (b ∷ bs) (afterBody bs)
+
+-- where nothing is refused: complete; cancelled, or interrupted, by which byte; or not ended
+unfoldable pub sequenceEnd : List ℕ → Option End
+unfolding sequencePayload closing afterBody
+sequenceEnd bs = elim (sequencePayload bs) [ found o part ↦ closing (afterBody part) .end | lacking ↦ none | refusedWith n ↦ none ]
+
+-- and the bytes consumed then: those before the payload, the payload's, and those of its end; without a payload all
+unfoldable pub sequenceConsumed : List ℕ → ℕ
+unfolding sequencePayload closing afterBody body
+sequenceConsumed bs =
+    elim (sequencePayload bs) [
+      | found o part ↦ (length bs - length part) + (length (body part) + closing (afterBody part) .consumed)
+      | lacking ↦ length bs
+      | refusedWith n ↦ length bs
+    ]
+
+-- ---- what it comes to
+
+-- the refusal that reading it comes to: that of introducer or header, or of its payload; bytes that are missing are none
+unfoldable pub sequenceRefusal : Setting → Palette → List ℕ → Option ℕ
+unfolding sequencePayload drawnSoFar
+sequenceRefusal s p bs =
+    elim (sequencePayload bs) [ found o part ↦ drawnSoFar s o p part .refusal | lacking ↦ none | refusedWith n ↦ some n ]
+
+-- what has been drawn once its bytes are read; before `q` there is nothing
+unfoldable pub sequenceDrawn : Setting → Palette → List ℕ → Option Drawing
+unfolding sequencePayload drawnSoFar
+sequenceDrawn s p bs =
+    elim (sequencePayload bs) [ found o part ↦ some (drawnSoFar s o p part .drawing) | lacking ↦ none | refusedWith n ↦ none ]
+
+-- finishing it then: 8 before its end, and from then on what finishing its payload answers
+unfoldable pub sequenceFinish : Setting → Palette → List ℕ → Finished
+unfolding sequenceEnd
+sequenceFinish s p bs = elim (sequenceEnd bs) [ none ↦ turnedDown 8 | some e ↦ answerOf s p (sequencePayload bs) ]
 
 -- the ink of all that the payload draws, before a refusal too; a sequence with no payload draws nothing
 unfoldable pub sequenceInk : Setting → Palette → List ℕ → ℕ
 unfolding sequencePayload payloadInk
-sequenceInk s p bs = elim (sequencePayload bs) [ found o part ↦ payloadInk s o p part | missing n ↦ 0 ]
-
--- ---- reading it
-
--- how reading comes to its end where there is no payload: 8 says that bytes are missing, another number refuses
-unfoldable pub howWithout : ℕ → How
-howWithout n = cond (eqb n 8) readAll (refusedBy n)
-
--- a payload's run, as that of a sequence which is in its payload
-unfoldable pub inPayload : Run Reading → Run Phase
-inPayload q = record { state = within (q .state); consumed = q .consumed; ink = q .ink; how = q .how }
-
-module _ (s : Setting) (p : Palette) where
-  -- the byte that ended the payload is read as an end, and what comes after it
-  unfoldable pub readEnd : Reading → List ℕ → Run Phase
-  unfolding still follow after readFrom endStep
-  readEnd t [] = still (within t) readAll
-  readEnd t (b ∷ bs) = follow (endStep t b) (λ u i. after 1 i (readFrom (dcsStep s p) u bs))
-
-  -- what a sequence makes of its payload's run over some bytes: where the payload has ended its end is read, and else it is that run
-  unfoldable pub framed : Run Reading → List ℕ → Run Phase
-  unfolding inPayload readEnd
-  framed q bs =
-      elim (q .how) [
-        | readAll ↦ inPayload q
-        | stopped ↦ inPayload q
-        | halted ↦ after (q .consumed) (q .ink) (readEnd (q .state) (drop (q .consumed) bs))
-        | refusedBy n ↦ inPayload q
-      ]
+sequenceInk s p bs = elim (sequencePayload bs) [ found o part ↦ payloadInk s o p part | lacking ↦ 0 | refusedWith n ↦ 0 ]

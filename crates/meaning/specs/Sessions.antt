@@ -1,5 +1,5 @@
 -- A payload read byte by byte, and a DCS sequence around it (document 01, 'Reading the payload', 'DCS framing and one-shot').
-use Prim.Native.Nat.{ℕ, suc, _-_}
+use Prim.Native.Nat.{ℕ, suc}
 use mathlib.Core.Bool.{cond, _||_}
 use mathlib.Core.Option.{Option, none, some, Option·map}
 use mathlib.Core.List.{List, [], _∷_, _++_}
@@ -9,7 +9,7 @@ use Rattle.numbers.specs.Bytes.{skipped, ends}
 use Rattle.numbers.specs.Values.{values, held16}
 use Rattle.colours.specs.declared.Palette.{Palette}
 use Rattle.meaning.specs.Commands.{Begun, Scanned, ofValues, closed, scanByte}
-use Rattle.meaning.specs.Drawing.{Setting, Drawing, Outcome, blank, drawAll, inkOfAll}
+use Rattle.meaning.specs.Drawing.{Setting, Drawing, Outcome, blank, drawAll, inkOfAll, strokesSince}
 use Rattle.meaning.specs.Payload.{Parameters, Finished, turnedDown, finish}
 use Rattle.meaning.specs.Reader.{Step, next, halt, refuse, readAll, stopped, halted, refusedBy, Run}
 
@@ -19,6 +19,7 @@ use Rattle.meaning.specs.Reader.{Step, next, halt, refuse, readAll, stop
 -- payload
 pub record Reading : Type 0 where
   pub parameters : Parameters
+  -- no answer reads it yet
   pub passed : ℕ
   pub begun : Option Begun
   pub drawing : Drawing
@@ -31,7 +32,7 @@ opened o p = record { parameters = o; passed = 0; begun = none; drawing = blank 
 unfoldable pub settled : Setting → Reading → Outcome
 settled s r = drawAll s (closed (r .begun)) (r .drawing)
 
--- what a stop for ink leaves: a command pending before the unread sixel has taken effect
+-- what a stop leaves (`call` of Reader): the begun command is carried out
 unfoldable pub rested : Setting → Reading → Reading
 unfolding settled
 rested s r = record { parameters = r .parameters; passed = r .passed; begun = none; drawing = settled s r .drawing; over = r .over }
@@ -44,16 +45,18 @@ endedAt b r out =
       | some n ↦ refuse (record { parameters = r .parameters; passed = r .passed; begun = none; drawing = out .drawing; over = none }) n
     ]
 
--- another byte: the commands that it ends or is are carried out, and its ink is what they add
+-- another byte: the commands that it ends or is are carried out, and its ink is that of the strokes that they draw
 unfoldable pub wentOn : Reading → Scanned → Outcome → Step Reading
 wentOn r c out =
     elim (out .refusal) [
       | none ↦
           next (record { parameters = r .parameters; passed = suc (r .passed); begun = c .begun; drawing = out .drawing; over = none })
-          (inkOfAll (out .drawing .strokes) - inkOfAll (r .drawing .strokes))
+          (inkOfAll (strokesSince (r .drawing) (out .drawing)))
       | some n ↦ refuse (record { parameters = r .parameters; passed = r .passed; begun = none; drawing = out .drawing; over = none }) n
     ]
 
+-- One byte of a payload. Payload says it of the whole (`payload`), here it is said byte by byte, and the two are one: the law
+-- `reading-is-payload` of proofs/PayloadLaws.
 unfoldable pub readByte : Setting → Reading → ℕ → Step Reading
 unfolding settled endedAt wentOn
 readByte s r b =
@@ -159,7 +162,8 @@ withinStep s r b =
 unfoldable pub escapeStep : Reading → ℕ → Step Phase
 escapeStep r b = cond (eqb b 0x5C) (next (over complete r) 0) (halt (over (interrupted escape) r))
 
--- the palette is the one that the owner has as the payload begins
+-- One byte of a DCS sequence; the palette is the one that the session was opened with. Sequence says it of the whole, and the two are one:
+-- proofs/SequenceLaws, and of its finish `sequence-finish` of proofs/DcsLaws.
 unfoldable pub dcsStep : Setting → Palette → Phase → ℕ → Step Phase
 unfolding startStep introducedStep headerStep withinStep escapeStep
 dcsStep s p start b = startStep b
@@ -169,7 +173,7 @@ dcsStep s p (within r) b = withinStep s r b
 dcsStep s p (afterEscape r) b = escapeStep r b
 dcsStep s p (over e r) b = halt (over e r)
 
--- what a stop for ink leaves
+-- what a stop leaves
 unfoldable pub dcsRested : Setting → Phase → Phase
 unfolding rested
 dcsRested s start = start

@@ -20,7 +20,8 @@ use Rattle.payload.specs.declared.Answer.{Answer}
 use Rattle.payload.specs.declared.Answer.the-variants as answers
 use Rattle.payload.specs.declared.Fed.{Fed}
 use Rattle.payload.specs.declared.Session.{Session}
-use Rattle.payload.specs.History.{answerMeant, Stands}
+use Rattle.payload.specs.History.{Stands}
+use Rattle.payload.specs.Meant.{answerMeant}
 use Rattle.payload.specs.Session.{fedBy}
 use Rattle.oneshot.specs.OneShot.{pieceEnd}
 use Rattle.oneshot.proofs.StandLaws.{sessionIn, Lives, Ran, read-on, stopped-on, ran, stop-consumes}

@@ -19,17 +19,19 @@ use Rattle.numbers.proofs.Laws.{cond-yes}
 use Rattle.numbers.proofs.Reading.{read-none, read-push, read-skipped, read-count, read-value}
 use Rattle.canvas.proofs.Covers.{and-right, by-test}
 use Rattle.frame.specs.Numbers.{numberOf}
+use Rattle.frame.specs.declared.Refusal.{Refusal}
 use Rattle.meaning.specs.Commands.{ofValues}
 use Rattle.meaning.specs.OneShot as meaning
 use Rattle.meaning.specs.OneShot.{afterIntroducer, findPayload}
 use Rattle.meaning.specs.Sessions.{HeaderByte, goesOn, settles, wrong, headerByte, parametersOf}
+use Rattle.meaning.proofs.AreaLaws.{cond-case}
 use Rattle.payload.specs.declared.Given.the-variants.{Nothing, Number}
 use Rattle.payload.specs.declared.Settings.{Settings}
 use Rattle.oneshot.specs.declared.search.Found.{Found}
 use Rattle.oneshot.specs.declared.search.Found.the-variants.{Payload, Refused}
 use Rattle.oneshot.specs.declared.search.Start.{Start}
 use Rattle.oneshot.specs.declared.search.Start.the-variants.{At, Nowhere}
-use Rattle.payload.specs.History.{givenMeant, parametersMeant}
+use Rattle.payload.specs.Meant.{givenMeant, parametersMeant}
 use Rattle.oneshot.specs.OneShot.{foundMeant}
 use Rattle.oneshot.specs.Search.{introducerAt, startFrom, givenAt, settingsOf, inHeader, headerEnd, headerRest, headerFrom, foundAt, foundIn}
 
@@ -87,9 +89,9 @@ skipped-leaves b h r = read-push b r .same ∙ sym (read-skipped b h r .same)
 module _ (got : List ℕ) (b : ℕ) where
   -- what the rest of a header comes to after a byte
   after-byte : (bs : List ℕ) {x : HeaderByte} → headerByte got b ≡ x
-      → meaning.headerFrom got (b ∷ bs) ≡ elim x [ goesOn more ↦ meaning.headerFrom more bs | settles o ↦ meaning.found o bs | wrong n ↦ meaning.missing n ]
+      → meaning.headerFrom got (b ∷ bs) ≡ elim x [ goesOn more ↦ meaning.headerFrom more bs | settles o ↦ meaning.found o bs | wrong n ↦ meaning.refusedWith n ]
   unfolding meaning.headerFrom
-  after-byte bs e = ap (λ (y : HeaderByte). elim y as (λ _. meaning.Found) [ goesOn more ↦ meaning.headerFrom more bs | settles o ↦ meaning.found o bs | wrong n ↦ meaning.missing n ]) e
+  after-byte bs e = ap (λ (y : HeaderByte). elim y as (λ _. meaning.Found) [ goesOn more ↦ meaning.headerFrom more bs | settles o ↦ meaning.found o bs | wrong n ↦ meaning.refusedWith n ]) e
 
   byte-skipped : skipped b ≡ true → headerByte got b ≡ goesOn got
   unfolding headerByte
@@ -135,6 +137,11 @@ start-found : (l : List ℕ) (s : Start) (o : Option (List ℕ)) → startMeant 
 unfolding startMeant foundMeant foundAt headerFrom parametersMeant
 start-found l (At n) o e = rw (← e) (header-meant l n (drop n l) [] (opened 3) refl (read-none 3))
 start-found l Nowhere o e = rw (← e) refl
+
+-- a refusal hands back no part
+pub refused-part : (l : List ℕ) (n : Refusal) → meaning.partOf (foundMeant l (Refused n)) ≡ []
+unfolding foundMeant meaning.partOf
+refused-part l n = cond-case (λ (f : meaning.Found). meaning.partOf f ≡ []) (eqb (numberOf n) 8) (λ _. refl) (λ _. refl)
 
 -- what the search finds is the definition's: the part from its place on, its parameters, or the refusal's number
 pub found-meant : (l : List ℕ) → foundMeant l (foundIn l) ≡ findPayload l

@@ -16,10 +16,10 @@ use Rattle.payload.specs.Judge.{openable}
 pub use Rattle.payload.proofs.Openings.{opens-meant}
 use Rattle.oneshot.specs.declared.search.Found.{Found}
 use Rattle.oneshot.specs.declared.search.Found.the-variants.{Payload, Refused}
-use Rattle.payload.specs.History.{limitsMeant}
+use Rattle.payload.specs.Meant.{limitsMeant}
 use Rattle.oneshot.specs.OneShot.{foundMeant}
 use Rattle.oneshot.specs.Search.{foundIn}
-use Rattle.oneshot.proofs.FoundLaws.{found-meant, payload-within}
+use Rattle.oneshot.proofs.FoundLaws.{refused-part, found-meant, payload-within}
 
 module _ {t : Bool} (l : Limits) (stride size : ℕ) (bytes : List ℕ) (e : t ≡ openable l stride size) where
   pub part-closed : t ≡ false → [] ≡ partHandedBack (limitsMeant l) stride size bytes
@@ -42,7 +42,6 @@ module _ {t : Bool} (l : Limits) (stride size : ℕ) (bytes : List ℕ) (e : t �
         ∙ part-open
 
     pub part-refused : {n : Refusal} → f ≡ Refused n → [] ≡ partHandedBack (limitsMeant l) stride size bytes
-    unfolding partOf foundMeant
-    part-refused m = ap (λ (x : Found). partOf (foundMeant bytes x)) (sym m) ∙ part-open
+    part-refused {n} m = sym (refused-part bytes n) ∙ ap (λ (x : Found). partOf (foundMeant bytes x)) (sym m) ∙ part-open
 
 pub ruleset parts = (payload-within, part-closed, part-found, part-refused)

@@ -30,14 +30,15 @@ use Rattle.payload.specs.declared.Finishing.the-variants as finishes
 use Rattle.payload.specs.declared.Opened.{Opened}
 use Rattle.payload.specs.declared.Session.{Session}
 use Rattle.payload.specs.declared.Settings.{Settings}
-use Rattle.payload.specs.History.{parametersMeant, limitsMeant, settingMeant, answerMeant, reportMeant, Stands, Finishes, pictures, declines}
+use Rattle.payload.specs.History.{Stands, Finishes, pictures, declines}
+use Rattle.payload.specs.Meant.{parametersMeant, limitsMeant, settingMeant, answerMeant, reportMeant, finishMeant}
 use Rattle.payload.specs.Judge.{openable}
 use Rattle.payload.specs.Session.{backgroundFor, sessionFor, openedBy, fedBy, finishedBy}
 use Rattle.payload.proofs.Answer as AnswerType
 use Rattle.payload.proofs.Finishings.{finish-stands}
 use Rattle.payload.proofs.Judgements.{stands-shows}
 use Rattle.payload.proofs.Openings.{ready-stands}
-use Rattle.oneshot.specs.OneShot.{pieceEnd, paletteAfter, readOutcome, readPart, finishMeant, readMeant}
+use Rattle.oneshot.specs.OneShot.{pieceEnd, paletteAfter, readOutcome, readPart, readMeant}
 use Rattle.oneshot.proofs.StandLaws.{sessionIn, Lives, finish-lives}
 use Rattle.payload.specs.declared.Life.the-variants as life
 use Rattle.payload.specs.declared.Opening.the-variants as openings

@@ -19,7 +19,8 @@ use Rattle.meaning.proofs.FeedingLaws.{finish-answers}
 use Rattle.meaning.proofs.ToldLaws.{proper-one}
 use Rattle.payload.specs.declared.Fed.{Fed}
 use Rattle.payload.specs.declared.Session.{Session}
-use Rattle.payload.specs.History.{answerMeant, Stands, Held, tellWith, callsOf, properCalls}
+use Rattle.payload.specs.History.{Stands, Held, tellWith, callsOf, properCalls}
+use Rattle.payload.specs.Meant.{answerMeant}
 use Rattle.payload.specs.Session.{fedBy}
 use Rattle.payload.proofs.Callers.{CallerStands, calls-stand}
 use Rattle.payload.proofs.Judgements.{stands-long, stands-fit}

@@ -4,6 +4,8 @@ use mathlib.Core.Bool.{Bool, true, false, cond}
 use mathlib.Core.List.{List, []}
 use mathlib.Core.Path.{_≡_, refl, sym, ap, _∙_}
 use native.Mathlib.Omega.{arith}
+use borrow.Author.Tests.{eqb-true}
+use lib.Dec.{eqb}
 use lib.ListN.{length, take, drop}
 use Rattle.colours.specs.declared.Palette.{Palette}
 use Rattle.frame.specs.Numbers.{numberOf}
@@ -16,15 +18,16 @@ use Rattle.meaning.specs.Drawing as drawing
 use Rattle.meaning.specs.Drawing.{Setting}
 use Rattle.meaning.specs.OneShot as meaning
 use Rattle.meaning.specs.Payload as meant
+use Rattle.meaning.proofs.AreaLaws.{cond-case}
 use Rattle.payload.specs.declared.Finished.{Finished}
 use Rattle.payload.specs.declared.Finishing.the-variants as finishes
 use Rattle.payload.specs.declared.Settings.{Settings}
-use Rattle.payload.specs.History.{parametersMeant, limitsMeant, settingMeant}
+use Rattle.payload.specs.Meant.{parametersMeant, limitsMeant, settingMeant, finishMeant}
 use Rattle.payload.specs.Judge.{openable}
 use Rattle.payload.proofs.Openings.{opens-meant}
 use Rattle.oneshot.specs.declared.search.Found.{Found}
 use Rattle.oneshot.specs.declared.search.Found.the-variants.{Payload, Refused}
-use Rattle.oneshot.specs.OneShot.{foundMeant, Read, paletteAfter, readWhole, readOutcome, readPart, finishMeant, readMeant}
+use Rattle.oneshot.specs.OneShot.{unfoundMeant, foundMeant, Read, paletteAfter, readWhole, readOutcome, readPart, readMeant}
 use Rattle.oneshot.specs.Search.{foundIn}
 use Rattle.oneshot.proofs.FoundLaws.{found-meant, payload-within}
 use Rattle.oneshot.proofs.FeedLaws.{rest-all}
@@ -37,6 +40,16 @@ foundRead s p canvas f =
       palette = paletteAfter (meaning.answerOf s p f) p;
       canvas = shown (s .stride) (drawingFound s p f) canvas;
     }
+
+-- a refusal, read: its number, and palette and canvas are as they were
+unfound-read : (s : Setting) (p : Palette) (canvas : List ℕ) (n : ℕ)
+    → foundRead s p canvas (unfoundMeant n) ≡ record { answer = meant.turnedDown n; palette = p; canvas = canvas }
+unfolding foundRead unfoundMeant meaning.answerOf drawingFound shown paletteAfter
+unfound-read s p canvas n =
+    cond-case (λ (f : meaning.Found). foundRead s p canvas f ≡ left n) (eqb n 8) (λ e. ap left (sym (eqb-true n 8 e))) (λ _. refl)
+  where
+    left : ℕ → Read
+    left m = record { answer = meant.turnedDown m; palette = p; canvas = canvas }
 
 -- where no session can be opened
 notOpened : Palette → List ℕ → Read
@@ -84,7 +97,15 @@ module _ (l : drawing.Limits) (stride : ℕ) (p : Palette) (canvas bytes : List 
   )
 
   -- where none is, or no session can be opened, the part is empty, the answer is the refusal, and palette and canvas are as they were
-  pub part-missing : {n : ℕ} → opens l stride (length canvas) ≡ true → meaning.findPayload bytes ≡ meaning.missing n
+  pub part-lacking : opens l stride (length canvas) ≡ true → meaning.findPayload bytes ≡ meaning.lacking
+      → (partHandedBack l stride (length canvas) bytes ≡ []) × (readWhole l stride p canvas bytes ≡ record { answer = meant.turnedDown 8; palette = p; canvas = canvas })
+  unfolding foundRead paletteAfter shown meaning.answerOf meaning.partOf drawingFound
+  part-lacking e f = (
+    sym (handed l stride p canvas bytes e) ∙ ap meaning.partOf f,
+    sym (by-opening l stride p canvas bytes e) ∙ ap (foundRead (settingFor l stride (length canvas)) p canvas) f,
+  )
+
+  pub part-missing : {n : ℕ} → opens l stride (length canvas) ≡ true → meaning.findPayload bytes ≡ meaning.refusedWith n
       → (partHandedBack l stride (length canvas) bytes ≡ []) × (readWhole l stride p canvas bytes ≡ record { answer = meant.turnedDown n; palette = p; canvas = canvas })
   unfolding foundRead paletteAfter shown meaning.answerOf meaning.partOf drawingFound
   part-missing e f = (
@@ -134,9 +155,10 @@ module _ {t : Bool} (l : Limits) (stride : ℕ) (p : Palette) (canvas bytes : Li
     -- 2, 3 or 8
     pub whole-refused : {n : Refusal} {r : Finished} → f ≡ Refused n → r ≡ record { answer = finishes.Refused n; palette = p }
         → readMeant r canvas ≡ readWhole (limitsMeant l) stride p canvas bytes
-    unfolding readMeant finishMeant foundRead foundMeant meaning.answerOf drawingFound shown paletteAfter
-    whole-refused k m =
+    unfolding readMeant finishMeant foundMeant
+    whole-refused {n} k m =
         ap (λ (z : Finished). readMeant z canvas) m
+        ∙ sym (unfound-read (settingMeant l stride (length canvas)) p canvas (numberOf n))
         ∙ ap (λ (x : Found). foundRead (settingMeant l stride (length canvas)) p canvas (foundMeant bytes x)) (sym k)
         ∙ found-whole
 

@@ -1,4 +1,4 @@
--- What the code's answers mean, and the whole outcome of reading all at once, in document 01's terms.
+-- What the code finds, and the whole outcome of reading all at once, in document 01's terms.
 use Prim.Native.Nat.{ℕ, _+_, _-_}
 use mathlib.Core.Bool.{cond}
 use mathlib.Core.List.{List}
@@ -12,16 +12,19 @@ use Rattle.meaning.specs.Drawing.{Limits, Setting, Outcome}
 use Rattle.meaning.specs.OneShot as meaning
 use Rattle.meaning.specs.Payload as meant
 use Rattle.payload.specs.declared.Finished.{Finished}
-use Rattle.payload.specs.declared.Finishing.{Finishing}
-use Rattle.payload.specs.declared.Finishing.the-variants as finishes
-use Rattle.payload.specs.History.{parametersMeant, reportMeant}
+use Rattle.payload.specs.Meant.{parametersMeant, finishMeant}
 use Rattle.oneshot.specs.declared.search.Found.{Found}
 use Rattle.oneshot.specs.declared.search.Found.the-variants.{Payload, Refused}
 
+-- without a payload: 8 says that bytes are missing, another number refuses
+unfoldable pub unfoundMeant : ℕ → meaning.Found
+unfoundMeant n = cond (eqb n 8) meaning.lacking (meaning.refusedWith n)
+
 -- what was found in some bytes: parameters and the part from a place on, or a refusal's number
 unfoldable pub foundMeant : List ℕ → Found → meaning.Found
+unfolding unfoundMeant
 foundMeant bs (Payload from o) = meaning.found (parametersMeant o) (drop from bs)
-foundMeant bs (Refused n) = meaning.missing (numberOf n)
+foundMeant bs (Refused n) = unfoundMeant (numberOf n)
 
 -- the whole outcome of a reading: its answer, the owner's palette after it, and every byte of the canvas
 pub record Read : Type 0 where
@@ -56,11 +59,6 @@ readPart s o p canvas part = readOutcome s o p canvas (meant.payload s o p part)
 -- where a piece that begins at a place ends: so many bytes on, or at the end of all where fewer are left or that number is 0
 unfoldable pub pieceEnd : ℕ → ℕ → ℕ → ℕ
 pieceEnd at size chunk = cond (eqb chunk 0) size (cond (leb (size - at) chunk) size (at + chunk))
-
--- an answer of the code, with the palette beside it: a report, or a refusal's number
-unfoldable pub finishMeant : Finishing → Palette → meant.Finished
-finishMeant (finishes.Picture r) p = meant.finished (reportMeant r p)
-finishMeant (finishes.Refused n) p = meant.turnedDown (numberOf n)
 
 -- what the code answers, with the canvas after it
 unfoldable pub readMeant : Finished → List ℕ → Read

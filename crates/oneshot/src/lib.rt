@@ -7,7 +7,7 @@ ghost use mathlib.Core.Path.{_≡_};
 ghost use Prim.Native.Nat.{_*_, _≤_};
 ghost use lib.ListN.{length};
 ghost use Rattle.meaning.specs.Calls.{partHandedBack};
-ghost use Rattle.payload.specs.History.{parametersMeant, limitsMeant, settingMeant};
+ghost use Rattle.payload.specs.Meant.{parametersMeant, limitsMeant, settingMeant};
 ghost use Rattle.payload.specs.Judge.{openable};
 ghost use Rattle.oneshot.specs.OneShot.{pieceEnd, readWhole, readPart, readMeant};
 use colours::Palette;

@@ -10,7 +10,7 @@ use Rattle.frame.specs.declared.Ground.{Ground}
 use Rattle.bytewise.specs.Feed.{Reached}
 use Rattle.meaning.specs.Calls as calls
 use Rattle.meaning.specs.Callers as callers
-use Rattle.meaning.specs.Callers.{afterFeed}
+use Rattle.meaning.specs.Callers.{statusTold, afterFeed}
 use Rattle.meaning.specs.Drawing.{Setting}
 use Rattle.meaning.specs.Payload.{Parameters}
 use Rattle.meaning.specs.Reader.{How, readAll, stopped, halted, refusedBy, isRefused, Run, still, call, Turn, pieceOf, allowanceOf, Caller, mayCall, having, turn, turns, proper}
@@ -21,11 +21,12 @@ use Rattle.meaning.proofs.Demand3.{payload-halts}
 use Rattle.meaning.proofs.FeedingLaws.{feed-answers}
 use Rattle.meaning.proofs.HistoryLaws.{StaysHalted, halts-again}
 use Rattle.meaning.proofs.ToldLaws as toldLaws
-use Rattle.meaning.proofs.ToldLaws.{endTold, Tells, answered-tells, answered-leaves, Learned, learned-more}
+use Rattle.meaning.proofs.ToldLaws.{endTold, Tells, answered-tells, answered-leaves, Learned, learned-more, answer-status}
 use Rattle.agreement.proofs.Feed.{EndsAlike, allRead, stoppedEarly, atEnd, turnedDown}
 use Rattle.payload.specs.declared.Fed.{Fed}
 use Rattle.payload.specs.Session.{fedBy}
-use Rattle.payload.specs.History.{answerMeant, Stands, Feeds, Held, tellWith, called, callsOf, properCalls}
+use Rattle.payload.specs.History.{Stands, Feeds, Held, tellWith, called, callsOf, properCalls}
+use Rattle.payload.specs.Meant.{answerMeant}
 use Rattle.payload.proofs.Judgements.{stands-long, stands-fit}
 use Rattle.payload.proofs.Feedings.{call-parameters, live-agrees, feed-stands}
 
@@ -135,8 +136,30 @@ module _ {opening : List ℕ} {s : Setting} {o : Parameters} (A : ℕ) (enough :
   unfolding callers.called turn run presented
   turn-stands c k h t allowed may = after-stands h (allowanceOf t) (pieceOf t) (not-refused t (k .how) may) (omega arith)
 
+  -- the same calls may be made
+  may-there : (c : Caller Held) (k : Caller Reading) → CallerStands opening s o c k → (t : Turn) → mayCall t (c .how) ≡ true → mayCall t (k .how) ≡ true
+  may-there c k h t may = sym (ap (mayCall t) (h .learned .how)) ∙ may
+
   -- any calls that may be made come to the same, and may be made of the definition too
   pub calls-stand : {c : Caller Held} {k : Caller Reading} → CallerStands opening s o c k → (ts : List Turn) → properCalls A c ts ≡ true
       → CallerStands opening s o (callsOf c ts) (turns (payloadStep s) (rested s) k ts) × (proper (payloadStep s) (rested s) A k ts ≡ true)
   calls-stand =
-      toldLaws.calls-stand (tellWith fedBy) (payloadStep s) (rested s) (CallerStands opening s o) A (λ c k h t may. sym (ap (mayCall t) (h .learned .how)) ∙ may) turn-stands
+      toldLaws.calls-stand (tellWith fedBy) (payloadStep s) (rested s) (CallerStands opening s o) A may-there turn-stands
+
+  -- a call that neither stopped nor was refused tells whether the end has come
+  turn-tells : (c : Caller Held) (k : Caller Reading) → CallerStands opening s o c k → (t : Turn) → A ≤ allowanceOf t → mayCall t (k .how) ≡ true → (x : calls.Status ℕ)
+      → (called c t .how ≡ stopped → ⊥) → isRefused (called c t .how) ≡ false
+      → statusTold x (tellWith fedBy (c .state) (c .unread ++ pieceOf t) (allowanceOf t) .1) ≡ calls.atEnd (turn (payloadStep s) (rested s) k t .state .over)
+  unfolding callers.called afterFeed turn having run presented
+  turn-tells c k h t allowed may x =
+      answer-status (λ (r : Reading). r .over) (m h (allowanceOf t) (pieceOf t) (not-refused t (k .how) may) (omega arith))
+      (run h (allowanceOf t) (pieceOf t) (not-refused t (k .how) may) (omega arith)) x
+      (fed-feeds h (allowanceOf t) (pieceOf t) (not-refused t (k .how) may) (omega arith) .answer)
+
+  -- and so does the last of any calls
+  pub status-stands : {c : Caller Held} {k : Caller Reading} → CallerStands opening s o c k → (x : calls.Status ℕ)
+      → ((c .how ≡ stopped → ⊥) → isRefused (c .how) ≡ false → x ≡ calls.atEnd (k .state .over))
+      → (ts : List Turn) → properCalls A c ts ≡ true → (callsOf c ts .how ≡ stopped → ⊥) → isRefused (callsOf c ts .how) ≡ false
+      → callers.lastStatus (tellWith fedBy) x c ts ≡ calls.atEnd (turns (payloadStep s) (rested s) k ts .state .over)
+  status-stands =
+      toldLaws.status-stands (tellWith fedBy) (payloadStep s) (rested s) (CallerStands opening s o) A may-there turn-stands (λ (r : Reading). r .over) turn-tells

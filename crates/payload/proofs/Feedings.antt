@@ -33,7 +33,8 @@ use Rattle.payload.specs.declared.judge.Judged.the-variants as judged
 use Rattle.payload.specs.Judge.{isFailed, feedJudged}
 use Rattle.payload.specs.Session.{sessionWith, answeredIn, answeredBy, fedLive, fedIn, fedAs, fedBy}
 use Rattle.payload.proofs.JudgeLaws.{passes}
-use Rattle.payload.specs.History.{answerMeant, SameLife, Stands, Feeds}
+use Rattle.payload.specs.History.{SameLife, Stands, Feeds}
+use Rattle.payload.specs.Meant.{answerMeant}
 use Rattle.payload.proofs.Judgements.{judgedMeant, feed-judged}
 
 -- the parameters stay

@@ -36,7 +36,8 @@ use Rattle.payload.specs.declared.judge.Judged.the-variants as judged
 use Rattle.payload.specs.Judge.{isFailed, finishJudged, oversize, finalJudged}
 use Rattle.payload.specs.Session.{ratioFor, reportedAs, turnedAway, pictured, finishedIf, finishedIn, finishedLive, finishedAs, finishedBy}
 use Rattle.payload.proofs.JudgeLaws.{passes}
-use Rattle.payload.specs.History.{givenMeant, parametersMeant, ratioMeant, reportMeant, Stands, Finishes, pictures, declines}
+use Rattle.payload.specs.History.{Stands, Finishes, pictures, declines}
+use Rattle.payload.specs.Meant.{givenMeant, parametersMeant, ratioMeant, reportMeant}
 use Rattle.payload.proofs.Openings.{clear-meant}
 use Rattle.payload.proofs.Judgements.{judgedMeant, misfit, failed-test, finish-judged}
 

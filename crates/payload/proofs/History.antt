@@ -3,33 +3,36 @@ use Prim.Native.Nat.{ℕ, _+_, _-_, _*_, _/_, _≤_}
 use mathlib.Core.Bool.{true, false}
 use mathlib.Core.Option.{some}
 use mathlib.Core.List.{List}
+use mathlib.Core.Logic.{_↔_, Iff·trans}
 use mathlib.Core.Path.{_≡_, refl, sym, ap, ap₂, _∙_, subst}
 use lib.ListN.{length, take}
 use Rattle.colours.specs.declared.Palette.{Palette}
 use Rattle.frame.specs.declared.Limits.{Limits}
 use Rattle.meaning.specs.Calls as calls
-use Rattle.meaning.specs.Commands.{body}
+use Rattle.meaning.specs.Callers.{Ask, lastStatus}
+use Rattle.meaning.specs.Commands.{body, endOf}
 use Rattle.meaning.specs.Drawing.{Setting, Drawing, Outcome}
-use Rattle.meaning.specs.Histories.{Ask}
 use Rattle.meaning.specs.Payload as meant
-use Rattle.meaning.specs.Reader.{stopped, refusedBy, isAll, isRefused, Turn, stream, pieces, Caller, ranBy, ready}
+use Rattle.meaning.specs.Reader.{stopped, refusedBy, isAll, isRefused, Run, Turn, stream, pieces, Caller, ranBy, ready}
 use Rattle.meaning.specs.Sessions.{Reading, opened, settled, finishReading}
-use Rattle.meaning.proofs.Demand3.{payload-calls, payload-outcome, payload-refused, payload-all-ink, payload-consumed}
+use Rattle.meaning.proofs.Demand3.{payload-calls, payload-whole, payload-outcome, payload-refused, payload-all-ink, payload-consumed}
 use Rattle.meaning.proofs.EachCall.{payload-so-far, payload-drawn-so-far, payload-ink-so-far}
 use Rattle.meaning.proofs.FeedingLaws.{finish-answers}
-use Rattle.meaning.proofs.PayloadLaws.{outcome-settled}
+use Rattle.meaning.proofs.PayloadLaws.{outcome-settled, readPayload, reading-over}
 use Rattle.meaning.proofs.ToldLaws as toldLaws
 use Rattle.meaning.proofs.ToldLaws.{all-pass}
+use Rattle.meaning.proofs.WholeLaws.{reading-drawn, reading-refusal}
 use Rattle.payload.specs.declared.Session.{Session}
 use Rattle.payload.specs.declared.Settings.{Settings}
 use Rattle.payload.specs.Judge.{openable}
 use Rattle.payload.specs.Session.{openedBy, fedBy, finishedBy}
-use Rattle.payload.specs.History.{parametersMeant, limitsMeant, settingMeant, answerMeant, Stands, Feeds, Finishes, Held, feedWith, feedMeant, Past, fedAll, PastMeant, fedAllMeant, callsOf, properCalls}
+use Rattle.payload.specs.History.{Stands, Feeds, Finishes, Held, feedWith, tellWith, feedMeant, Past, fedAll, PastMeant, fedAllMeant, callsOf, properCalls}
+use Rattle.payload.specs.Meant.{parametersMeant, limitsMeant, settingMeant, answerMeant}
 use Rattle.payload.proofs.Openings.{opened-stands}
 use Rattle.payload.proofs.Judgements.{stands-shows, stands-long, stands-fit}
 use Rattle.payload.proofs.Feedings.{feed-stands}
 use Rattle.payload.proofs.Finishings.{finish-stands}
-use Rattle.payload.proofs.Callers.{sessionAt, CallerStands, calls-stand}
+use Rattle.payload.proofs.Callers.{sessionAt, CallerStands, calls-stand, status-stands}
 
 -- ---- any calls
 
@@ -157,6 +160,10 @@ module _ (l : Limits) (stride : ℕ) (o : Settings) (p : Palette) (opening : Lis
         (payload-drawn-so-far setting given p A ts roomy proper-there (sym (ap isAll (stood .learned .how)) ∙ left) (fine-there fine)
         ∙ ap (λ (n : ℕ). meant.payload setting given p (take n (stream ts)) .drawing) (sym (stood .learned .consumed (fine-there fine))))
 
+    -- Unless the last call stopped, the definition's caller has come to what reading the whole stream comes to.
+    all-read : (now .how ≡ stopped → ⊥) → readPayload setting given p (stream ts) ≡ ranBy there
+    all-read going = payload-whole setting given p A ts proper-there (going-there going)
+
     -- The ink that the calls told is that of the bytes consumed so far.
     pub so-far-ink : isRefused (now .how) ≡ false → now .ink ≡ meant.payloadInk setting given p (take (now .consumed) (stream ts))
     so-far-ink fine =
@@ -208,3 +215,26 @@ module _ (l : Limits) (stride : ℕ) (o : Settings) (p : Palette) (opening : Lis
     pub whole-consumed : (now .how ≡ stopped → ⊥) → isRefused (now .how) ≡ false → now .consumed ≡ length (body (stream ts))
     whole-consumed going fine =
         stood .learned .consumed (fine-there fine) ∙ payload-consumed setting given p A ts proper-there (going-there going) (fine-there fine)
+
+    -- A refusal is given exactly when reading the whole stream comes to it.
+    pub whole-refusal : (now .how ≡ stopped → ⊥) → (n : ℕ) → (now .how ≡ refusedBy n) ↔ (meant.drawnSoFar setting given p (stream ts) .refusal ≡ some n)
+    unfolding ranBy
+    whole-refusal going n =
+        let same : now .how ≡ readPayload setting given p (stream ts) .how = stood .learned .how ∙ ap (λ (q : Run Reading). q .how) (sym (all-read going)) in
+        Iff·trans (λ e. sym same ∙ e, λ e. same ∙ e) (reading-refusal setting given p (stream ts) n)
+
+    -- The canvas shows the commands that have ended in the whole stream, up to the first that is refused.
+    pub whole-drawn : (now .how ≡ stopped → ⊥) → canvas ≡ shownOf (meant.drawnSoFar setting given p (stream ts) .drawing)
+    unfolding calls.payloadShown settingMeant calls.settingFor ranBy
+    whole-drawn going =
+        stands-shows (stood .session)
+        ∙ ap shownOf (sym (ap (λ (q : Run Reading). q .state .drawing) (all-read going)) ∙ reading-drawn setting given p (stream ts))
+
+    -- And the last call told whether the whole stream's end has come, and by which byte.
+    pub whole-status : (now .how ≡ stopped → ⊥) → isRefused (now .how) ≡ false
+        → lastStatus (tellWith fedBy) calls.needsMore atStart ts ≡ calls.atEnd (endOf (stream ts))
+    unfolding ranBy ready opened calls.atEnd
+    whole-status going fine =
+        let unrefused : isRefused (readPayload setting given p (stream ts) .how) ≡ false = ap (λ (q : Run Reading). isRefused (q .how)) (all-read going) ∙ fine-there fine in
+        status-stands A roomy start-stands calls.needsMore (λ g f. refl) ts ok going fine
+        ∙ ap calls.atEnd (sym (ap (λ (q : Run Reading). q .state .over) (all-read going)) ∙ reading-over setting given p (stream ts) unrefused)

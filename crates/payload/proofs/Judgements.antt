@@ -26,7 +26,8 @@ use Rattle.payload.specs.declared.Session.{Session}
 use Rattle.payload.specs.declared.judge.Judged.{Judged}
 use Rattle.payload.specs.declared.judge.Judged.the-variants as judged
 use Rattle.payload.specs.Judge.{isFailed, fitting, misfitting, feedJudged, finishJudged}
-use Rattle.payload.specs.History.{settingMeant, SameLife, Stands}
+use Rattle.payload.specs.History.{SameLife, Stands}
+use Rattle.payload.specs.Meant.{settingMeant}
 
 module _ {opening : List ℕ} {s : Session} {l : List ℕ} {m : calls.Session Reading} (k : Stands opening s l m) where
   -- the canvas shows the drawing of its state on the bytes of the opening

@@ -30,7 +30,8 @@ use Rattle.payload.specs.declared.Opening.the-variants as openings
 use Rattle.payload.specs.declared.Settings.{Settings}
 use Rattle.payload.specs.Judge.{inRange, limitsFit, openable}
 use Rattle.payload.specs.Session.{clearFor, backgroundFor, blankFrame, groundFor, sessionFor, openedBy}
-use Rattle.payload.specs.History.{givenMeant, parametersMeant, limitsMeant, settingMeant, Stands, Opens, isReady, isRefused}
+use Rattle.payload.specs.History.{Stands, Opens, isReady, isRefused}
+use Rattle.payload.specs.Meant.{givenMeant, parametersMeant, limitsMeant, settingMeant}
 
 pub clear-meant : (g : Given) → clearFor g ≡ drawing.transparent (givenMeant g)
 unfolding clearFor drawing.transparent givenMeant

@@ -1,82 +1,31 @@
--- What the code's values mean, and when a session and its canvas stand for a session of the definition.
+-- When a session of the code and its canvas stand for a session of the definition, and its callers.
 use Prim.Native.Nat.{ℕ}
 use mathlib.Core.Bool.{Bool, true, false}
 use mathlib.Core.Option.{Option, none, some}
 use mathlib.Core.List.{List}
 use mathlib.Core.Path.{_≡_}
 use Rattle.colours.specs.declared.Palette.{Palette}
-use Rattle.canvas.specs.Picture.{areaOf}
-use Rattle.frame.specs.declared.Limits.{Limits}
 use Rattle.frame.specs.declared.Refusal.{Refusal}
 use Rattle.frame.specs.Numbers.{numberOf}
 use Rattle.meaning.specs.Calls as calls
 use Rattle.meaning.specs.Callers as callers
-use Rattle.meaning.specs.Drawing as drawing
-use Rattle.meaning.specs.Histories.{Ask}
+use Rattle.meaning.specs.Callers.{Ask}
 use Rattle.meaning.specs.Payload as meant
 use Rattle.meaning.specs.Reader.{Turn, Caller}
 use Rattle.meaning.specs.Sessions.{Reading}
 use Rattle.agreement.specs.Same.{SameDrawing, SameBegun}
 use Rattle.payload.specs.declared.Answer.{Answer}
-use Rattle.payload.specs.declared.Answer.the-variants as answers
 use Rattle.payload.specs.declared.Fed.{Fed}
 use Rattle.payload.specs.declared.Finished.{Finished}
 use Rattle.payload.specs.declared.Finishing.the-variants as finishes
-use Rattle.payload.specs.declared.Given.{Given}
-use Rattle.payload.specs.declared.Given.the-variants as givens
 use Rattle.payload.specs.declared.Life.{Life}
 use Rattle.payload.specs.declared.Life.the-variants as lives
 use Rattle.payload.specs.declared.Opened.{Opened}
 use Rattle.payload.specs.declared.Opening.the-variants as openings
-use Rattle.payload.specs.declared.Ratio.{Ratio}
-use Rattle.payload.specs.declared.Ratio.the-variants as ratios
 use Rattle.payload.specs.declared.Report.{Report}
 use Rattle.payload.specs.declared.Session.{Session}
-use Rattle.payload.specs.declared.Settings.{Settings}
 use Rattle.payload.specs.Session.{fedBy}
-
--- ---- what the code's values mean
-
--- a parameter: some number, or none
-unfoldable pub givenMeant : Given → Option ℕ
-givenMeant givens.Nothing = none
-givenMeant (givens.Number n) = some n
-
-unfoldable pub parametersMeant : Settings → meant.Parameters
-unfolding givenMeant
-parametersMeant o = record { p1 = givenMeant (o .p1); p2 = givenMeant (o .p2) }
-
-unfoldable pub limitsMeant : Limits → drawing.Limits
-limitsMeant l = record { width = l .width; height = l .height; repeats = l .repeats; pixels = l .pixels }
-
--- what a session is opened with, on a canvas of so many bytes
-unfoldable pub settingMeant : Limits → ℕ → ℕ → drawing.Setting
-unfolding limitsMeant
-settingMeant l stride size = calls.settingFor (limitsMeant l) stride size
-
--- a feed's answer: counts and a status, or a refusal's number
-unfoldable pub answerMeant : Answer → calls.Answer ℕ
-answerMeant (answers.More consumed ink) = calls.told consumed ink calls.needsMore
-answerMeant (answers.Stopped consumed ink) = calls.told consumed ink calls.stoppedForInk
-answerMeant (answers.Ended consumed ink b) = calls.told consumed ink (calls.ended b)
-answerMeant (answers.Refused n) = calls.refused (numberOf n)
-
-unfoldable pub ratioMeant : Ratio → meant.Ratio
-unfolding givenMeant
-ratioMeant (ratios.Raster n) = meant.byRaster n
-ratioMeant (ratios.LeftToP1 p1) = meant.leftToP1 (givenMeant p1)
-
--- a report, with the palette that is handed back beside it
-unfoldable pub reportMeant : Report → Palette → meant.Report
-unfolding ratioMeant
-reportMeant r p =
-    record {
-      size = areaOf (r .width) (r .height);
-      ratio = ratioMeant (r .ratio);
-      clear = r .transparent;
-      extent = areaOf (r .right) (r .bottom);
-      palette = p;
-    }
+use Rattle.payload.specs.Meant.{parametersMeant, settingMeant, answerMeant, reportMeant}
 
 -- ---- a session and its canvas stand for a session of the definition
 

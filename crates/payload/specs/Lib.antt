@@ -1,5 +1,6 @@
 pub mod Judge
 pub mod Session
+pub mod Meant
 pub mod History
 pub mod Begin
 pub mod Codes

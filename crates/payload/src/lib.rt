@@ -13,6 +13,8 @@ ghost use lib.ListN.{length};
 ghost use Rattle.colours.specs.Palette.{ofTable};
 ghost use Rattle.bytewise.specs.Step.{Fits};
 ghost use Rattle.bytewise.specs.Feed.{Reached};
+ghost use Rattle.meaning.specs.Drawing.{houseLimits, crateLimits};
+ghost use Rattle.payload.specs.Meant.{limitsCoded};
 ghost use Rattle.payload.specs.Session.{clearFor, backgroundFor, blankFrame, sessionFor, openingFor, firstLife, openedIf, firstPainted, openedBy, sessionWith, answerOf, lifeAfter, answeredBy, fedLive, fedBy, ratioFor, reportedAs, finishedLive, finishedBy};
 use colours::Palette;
 use frame::Command;
@@ -125,7 +127,7 @@ pub struct Finished {
 
 // The house's limits.
 pub fn house_limits() -> Limits
-    ensures { λ r. ⌜ r ≡ record { width = 1024; height = 768; repeats = 1024; pixels = 786432 } ⌝ }
+    ensures { λ r. ⌜ r ≡ limitsCoded houseLimits ⌝ }
 {
     Limits {
         width: 1_024,
@@ -137,7 +139,7 @@ pub fn house_limits() -> Limits
 
 // The limits that the Rust has built in.
 pub fn crate_limits() -> Limits
-    ensures { λ r. ⌜ r ≡ record { width = 1000000; height = 1000000; repeats = 65535; pixels = 67108864 } ⌝ }
+    ensures { λ r. ⌜ r ≡ limitsCoded crateLimits ⌝ }
 {
     Limits {
         width: 1_000_000,

@@ -10,7 +10,7 @@ use Rattle.dcs.specs.declared.Answer.{Answer}
 use Rattle.dcs.specs.declared.Answer.the-variants as answers
 use Rattle.dcs.specs.declared.Ending.{Ending}
 use Rattle.dcs.specs.declared.Session.{Session}
-use Rattle.dcs.specs.History.{answerMeant}
+use Rattle.dcs.specs.Meant.{answerMeant}
 use Rattle.pieces.specs.declared.Reader.{Reader}
 use Rattle.pieces.specs.declared.Standing.{Standing}
 use Rattle.pieces.specs.declared.Standing.the-variants as standings
@@ -39,6 +39,10 @@ pieces-append (again a ∷ ts) us = omega (arith, pieces-append ts us)
 pub length-more : (ts : List Turn) (t : Turn) → length (ts ++ t ∷ []) ≡ length ts + 1
 length-more [] t = refl
 length-more (u ∷ ts) t = omega (arith, length-more ts t)
+
+pub length-and : (ts us : List Turn) → length (ts ++ us) ≡ length ts + length us
+length-and [] us = omega arith
+length-and (t ∷ ts) us = omega (arith, length-and ts us)
 
 -- ---- counts
 

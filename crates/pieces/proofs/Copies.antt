@@ -16,14 +16,15 @@ use Rattle.frame.specs.declared.Refusal.{Refusal}
 use Rattle.frame.specs.Numbers.{numberOf}
 use Rattle.meaning.specs.Calls as calls
 use Rattle.meaning.specs.Drawing.{Setting, Drawing}
-use Rattle.meaning.specs.OneShot.{Found, found, missing, findPayload, answerOf, oneShot}
+use Rattle.meaning.specs.OneShot.{Found, found, lacking, refusedWith, findPayload, answerOf, oneShot}
 use Rattle.meaning.specs.Payload as meant
 use Rattle.meaning.proofs.AreaLaws.{Roomy, payload-sound, payload-reports}
 use Rattle.meaning.proofs.CommandLaws.{Fits}
 use Rattle.payload.specs.declared.Finished.{Finished}
 use Rattle.payload.specs.declared.Finishing.the-variants as finishes
 use Rattle.payload.specs.declared.Report.{Report}
-use Rattle.payload.specs.History.{reportMeant, Finishes, pictures, declines}
+use Rattle.payload.specs.History.{Finishes, pictures, declines}
+use Rattle.payload.specs.Meant.{reportMeant}
 
 -- a finish that is refused with a number leaves the owner's palette and the canvas
 pub record Declined (lent : List ℕ) (owner : Palette) (number : ℕ) (y : Finished × List ℕ) : Type 0 where
@@ -66,7 +67,8 @@ report-fits s p bs {r} roomy e = go (findPayload bs) e
 
     go : (f : Found) → answerOf s p f ≡ meant.finished r → Fits s (r .size)
     go (found o part) h = at o part (meant.payload s o p part .refusal) refl h
-    go (missing n) h = absurd (let never : _≡_ {A = ℕ} 0 1 = cc in omega arith)
+    go lacking h = absurd (let never : _≡_ {A = ℕ} 0 1 = cc in omega arith)
+    go (refusedWith n) h = absurd (let never : _≡_ {A = ℕ} 0 1 = cc in omega arith)
 
 -- and so it is copied without gaps, where the other buffer has room
 pub copy-rows : (s : Setting) {a : Area} (canvas : List ℕ) → Roomy s → Fits s a → s .rows ≡ calls.settingFor (s .limits) (s .stride) (length canvas) .rows

@@ -8,14 +8,14 @@ use Rattle.numbers.proofs.Laws.{cond-no}
 use Rattle.colours.specs.declared.Palette.{Palette}
 use Rattle.meaning.specs.Calls as calls
 use Rattle.meaning.specs.Drawing.{Setting, Outcome}
-use Rattle.meaning.specs.OneShot.{Found, found, missing, findPayload, answerOf, oneShot}
+use Rattle.meaning.specs.OneShot.{Found, found, lacking, refusedWith, findPayload, answerOf, oneShot}
 use Rattle.meaning.specs.Payload as meant
 use Rattle.meaning.specs.Reader.{readAll, stopped, refusedBy, isAll, isRefused, Run, still, after, continued, follow, readFrom, thenRead}
 use Rattle.meaning.specs.Sequence.{sequencePayload, sequenceInk}
 use Rattle.meaning.specs.Sessions.{End, Phase, start, introduced, header, within, afterEscape, over, dcsStep, finishDcs}
 use Rattle.meaning.proofs.AreaLaws.{Roomy, payload-reports}
 use Rattle.meaning.proofs.Cases.{cond-case}
-use Rattle.meaning.proofs.DcsLaws.{sequence-over, sequence-missing, sequence-finish, sequence-ink, sequence-refused, sequence-turned-down}
+use Rattle.meaning.proofs.DcsLaws.{sequence-over, sequence-lacking, sequence-refused-before, sequence-finish, sequence-ink, sequence-refused, sequence-turned-down}
 use Rattle.meaning.proofs.DcsParts.{Agrees, sequence-agrees, before-open, no-end}
 use Rattle.meaning.proofs.DcsSoFar.{sequence-finish-drawing}
 use Rattle.meaning.proofs.PayloadLaws.{readPayload, reading-settled, settled-none, halted-settled}
@@ -47,7 +47,8 @@ ended-reports s p bs {e} roomy z = go (sequencePayload bs) refl (sequence-agrees
         ap (λ (out : Outcome). out .refusal)
         (sym (reading-settled s o p part (ap isRefused (over-there .0))) ∙ settled-none s (readPayload s o p part .state) (halted-settled s o p part (over-there .0))) in
         (_, ap (answerOf s p) same ∙ payload-reports roomy o p part fine)
-    go (missing n) q same = absurd (no-end (sym (before-open _ (sequence-missing s p bs q .0)) ∙ z))
+    go lacking q same = absurd (no-end (sym (before-open _ (sequence-lacking s p bs q .0)) ∙ z))
+    go (refusedWith n) q same = absurd (no-end (sym (before-open _ (sequence-refused-before s p bs q .0)) ∙ z))
 
 -- ---- bytes after an end or a refusal make no difference
 
@@ -114,7 +115,7 @@ module _ (s : Setting) (p : Palette) where
 
     -- a refusal is what introducer and header are refused with, or what reading the whole at once answers
     pub refused-answer : {n : ℕ} → readFrom (dcsStep s p) start xs .how ≡ refusedBy n
-        → (n ≤ 3 → sequencePayload (xs ++ ys) ≡ missing n) × (2 ≤ n → oneShot s p (xs ++ ys) ≡ meant.turnedDown n)
+        → (n ≤ 3 → sequencePayload (xs ++ ys) ≡ refusedWith n) × (2 ≤ n → oneShot s p (xs ++ ys) ≡ meant.turnedDown n)
     refused-answer {n} h =
         let all : readFrom (dcsStep s p) start (xs ++ ys) .how ≡ refusedBy n = ap (λ (q : Run Phase). q .how) (refused-more h) ∙ h in
         (λ small. sequence-refused s p (xs ++ ys) n small .0 all, λ low. sequence-turned-down s p (xs ++ ys) low all)

@@ -17,7 +17,7 @@ use Rattle.frame.specs.declared.Refusal.{Refusal}
 use Rattle.frame.specs.Numbers.{numberOf}
 use Rattle.meaning.specs.Calls as calls
 use Rattle.meaning.specs.Drawing.{Setting, Drawing}
-use Rattle.meaning.specs.OneShot.{missing, findPayload, oneShot}
+use Rattle.meaning.specs.OneShot.{refusedWith, findPayload, oneShot}
 use Rattle.meaning.specs.Payload as meant
 use Rattle.meaning.specs.Reader.{readAll, stopped, halted, refusedBy, isRefused, Run, readFrom, Turn, stream, pieces, Caller, ranBy}
 use Rattle.meaning.specs.Sequence.{sequencePayload, sequenceInk}
@@ -26,13 +26,15 @@ use Rattle.meaning.proofs.AreaLaws.{Roomy, opens-roomy}
 use Rattle.meaning.proofs.ToldLaws.{refused-told, told-refusal}
 use Rattle.payload.specs.declared.Finished.{Finished}
 use Rattle.payload.specs.declared.Report.{Report}
-use Rattle.payload.specs.History.{settingMeant, limitsMeant, reportMeant, Finishes}
+use Rattle.payload.specs.History.{Finishes}
+use Rattle.payload.specs.Meant.{settingMeant, limitsMeant, reportMeant}
 use Rattle.payload.specs.Judge.{openable}
 use Rattle.payload.specs.Session.{turnedAway}
 use Rattle.payload.proofs.Openings.{opens-meant}
 use Rattle.dcs.specs.declared.Ending.{Ending}
 use Rattle.dcs.specs.declared.Session.{Session}
-use Rattle.dcs.specs.History.{endMeant, Held, properCalls}
+use Rattle.dcs.specs.History.{Held, properCalls}
+use Rattle.dcs.specs.Meant.{endMeant}
 use Rattle.dcs.specs.Session as dcs
 use Rattle.dcs.proofs.Callers.{CallerStands}
 use Rattle.dcs.proofs.History as history
@@ -41,7 +43,7 @@ use Rattle.pieces.specs.declared.Reader.{Reader}
 use Rattle.pieces.specs.declared.Standing.{Standing}
 use Rattle.pieces.specs.declared.Standing.the-variants as standings
 use Rattle.pieces.specs.Pieces.{openedBy, held, finishedAs, finishedBy}
-use Rattle.pieces.specs.Stream.{joined, takenAll, howStood}
+use Rattle.pieces.specs.Stream.{joined, takenAll, callsOfAll, howStood}
 use Rattle.pieces.proofs.Copies.{Declined, declined, Reported, reported, report-fits, copy-rows, length-shown}
 use Rattle.pieces.proofs.Ends.{stood-going, ended-reports, ended-ink, ended-state, ended-consumed, ended-answer, ended-drawing, refused-ink, refused-state, refused-answer}
 use Rattle.pieces.proofs.Taking.{joined-append, length-append, start-follows, Taken, taken-all}
@@ -62,9 +64,13 @@ module _ (l : Limits) (stride : ℕ) (p : Palette) (opening : List ℕ) (opens :
   abbrev pub canvas : List ℕ
   canvas = takenAll (openedBy l stride p (length opening)) opening zs .1
 
+  -- the calls that were made
+  abbrev pub made : ℕ
+  made = callsOfAll (openedBy l stride p (length opening)) opening zs
+
   -- ---- the caller that it is
 
-  all : Taken l stride p opening opens [] zs (takenAll (openedBy l stride p (length opening)) opening zs)
+  all : Taken l stride p opening opens [] zs (takenAll (openedBy l stride p (length opening)) opening zs) made
   all = taken-all l stride p opening opens zs (start-follows l stride p opening opens)
 
   abbrev turns : List Turn
@@ -155,16 +161,25 @@ module _ (l : Limits) (stride : ℕ) (p : Palette) (opening : List ℕ) (opens :
       ∙ ap (λ (t : Phase). calls.shown stride (calls.drawingOf t) opening) (sym (ap (λ (q : Run Phase). q .state) ran) ∙ state-taken)
 
   -- Demand 3, its first sentence: the calls are at most the pieces and I, the ink of the whole stream.
-  pub calls-few : reader .counts .calls ≤ length zs + sequenceInk setting p bytes
-  unfolding held pieces
-  calls-few =
+  pub calls-bounded : made ≤ length zs + sequenceInk setting p bytes
+  unfolding pieces
+  calls-bounded =
       let one : 6 * l .width - 6 * l .width + 1 ≡ 1 = omega arith in
       let bound : length turns ≤ pieces turns + sequenceInk setting p (stream turns) / (6 * l .width - 6 * l .width + 1) =
       history.calls-bounded l stride p opening opens (6 * l .width) turns enough ok in
       let ink : sequenceInk setting p (stream turns) / (6 * l .width - 6 * l .width + 1) ≡ sequenceInk setting p bytes =
       ap (λ (n : ℕ). sequenceInk setting p (stream turns) / n) one ∙ div-one _ ∙ ap (sequenceInk setting p) whole ∙ ink-taken in
       let some-taken : length zs ≡ length (all .taken) + length (all .later) = ap length (all .split) ∙ length-append (all .taken) (all .later) in
-      omega (arith, follows .keeps .calls, all .count)
+      omega (arith, all .calls, all .count)
+
+  -- The reader's count is the number of calls, held.
+  pub calls-counted : reader .counts .calls ≡ held made
+  calls-counted = let same : length turns ≡ made = omega (arith, all .calls) in follows .keeps .calls ∙ ap held same
+
+  -- So that is at most as many, too.
+  pub calls-few : reader .counts .calls ≤ length zs + sequenceInk setting p bytes
+  unfolding held
+  calls-few = omega (arith, calls-bounded, calls-counted)
 
   -- Its third sentence: without a refusal the ink is I, held.
   pub ink-whole : isRefused (howStood (reader .standing)) ≡ false → reader .counts .ink ≡ held (sequenceInk setting p bytes)
@@ -174,10 +189,10 @@ module _ (l : Limits) (stride : ℕ) (p : Palette) (opening : List ℕ) (opens :
 
   -- A refusal is what introducer and header are refused with, or what reading the whole at once answers.
   pub refusal-whole : {n : Refusal} → reader .standing ≡ standings.Refused n
-      → (numberOf n ≤ 3 → sequencePayload bytes ≡ missing (numberOf n)) × (2 ≤ numberOf n → oneShot setting p bytes ≡ meant.turnedDown (numberOf n))
+      → (numberOf n ≤ 3 → sequencePayload bytes ≡ refusedWith (numberOf n)) × (2 ≤ numberOf n → oneShot setting p bytes ≡ meant.turnedDown (numberOf n))
   refusal-whole {n} h =
       subst
-      (λ (bs : List ℕ). (numberOf n ≤ 3 → sequencePayload bs ≡ missing (numberOf n)) × (2 ≤ numberOf n → oneShot setting p bs ≡ meant.turnedDown (numberOf n)))
+      (λ (bs : List ℕ). (numberOf n ≤ 3 → sequencePayload bs ≡ refusedWith (numberOf n)) × (2 ≤ numberOf n → oneShot setting p bs ≡ meant.turnedDown (numberOf n)))
       (sym split) (refused-answer setting p taken (joined (all .later)) (refusal-taken h))
 
   -- A finish repeats it, writes nothing and leaves the owner's palette.
@@ -293,7 +308,8 @@ module _ (l : Limits) (stride : ℕ) (p : Palette) (opening : List ℕ) (opens :
 
     -- what is promised of a stream that was taken to its end, finished with an owner's palette and copied to another buffer
     pub record Kept (owner : Palette) (out : List ℕ) : Type 0 where
-      pub few : reader .counts .calls ≤ length zs + sequenceInk setting p bytes
+      pub few : made ≤ length zs + sequenceInk setting p bytes
+      pub counted : reader .counts .calls ≡ held made
       pub ink : reader .counts .ink ≡ held (sequenceInk setting p bytes)
       pub consumed : reader .counts .consumed ≡ held (readFrom (dcsStep setting p) start bytes .consumed)
       pub end : calls.dcsEnd (readFrom (dcsStep setting p) start bytes .state) ≡ some (endMeant e)
@@ -306,7 +322,8 @@ module _ (l : Limits) (stride : ℕ) (p : Palette) (opening : List ℕ) (opens :
     pub promise : (owner : Palette) (out : List ℕ) → Kept owner out
     promise owner out =
         record {
-          few = calls-few;
+          few = calls-bounded;
+          counted = calls-counted;
           ink = ink-whole answered;
           consumed = consumed-whole;
           end = end-whole;

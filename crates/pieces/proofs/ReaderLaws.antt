@@ -14,7 +14,7 @@ use Rattle.payload.specs.declared.Finished.{Finished}
 use Rattle.payload.specs.declared.Finishing.the-variants as finishes
 use Rattle.payload.specs.declared.Opening.{Opening}
 use Rattle.payload.specs.declared.Opening.the-variants as openings
-use Rattle.payload.specs.History.{limitsMeant}
+use Rattle.payload.specs.Meant.{limitsMeant}
 use Rattle.payload.specs.Judge.{openable}
 use Rattle.payload.specs.Session.{turnedAway}
 use Rattle.payload.proofs.Openings.{opens-meant}

@@ -22,6 +22,7 @@ use Rattle.pieces.specs.declared.Reader.{Reader}
 use Rattle.pieces.specs.declared.Standing.{Standing}
 use Rattle.pieces.specs.declared.Standing.the-variants as standings
 use Rattle.pieces.specs.Pieces.{calledAs, calledBy, takenFor, takenIn, takenAs, takenBy}
+use Rattle.pieces.specs.Stream.{callsFor}
 use Rattle.pieces.proofs.Standing as StandingType
 
 -- ---- a stop's count
@@ -52,6 +53,17 @@ pub taken-again : (n : ℕ) (r : Reader) (canvas bytes : List ℕ) → (calledBy
     ≡ takenFor n (calledBy r canvas bytes .0 .reader) (calledBy r canvas bytes .1) (drop (calledBy r canvas bytes .0 .stopped) bytes)
 unfolding takenFor
 taken-again n r canvas bytes e = cond-no _ _ (ne-eqb _ _ e)
+
+-- and so many calls are made
+pub calls-last : (n : ℕ) (r : Reader) (canvas bytes : List ℕ) → calledBy r canvas bytes .0 .stopped ≡ 0 → callsFor (suc n) r canvas bytes ≡ 1
+unfolding callsFor
+calls-last n r canvas bytes e = cond-yes _ _ (eq-eqb _ _ e)
+
+pub calls-again : (n : ℕ) (r : Reader) (canvas bytes : List ℕ) → (calledBy r canvas bytes .0 .stopped ≡ 0 → ⊥)
+    → callsFor (suc n) r canvas bytes
+    ≡ suc (callsFor n (calledBy r canvas bytes .0 .reader) (calledBy r canvas bytes .1) (drop (calledBy r canvas bytes .0 .stopped) bytes))
+unfolding callsFor
+calls-again n r canvas bytes e = cond-no _ _ (ne-eqb _ _ e)
 
 pub taken-enough : (n m : ℕ) (r : Reader) (canvas bytes : List ℕ) → length bytes < n → length bytes < m
     → takenFor n r canvas bytes ≡ takenFor m r canvas bytes

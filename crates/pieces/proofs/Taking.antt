@@ -3,7 +3,7 @@ use Prim.Native.Nat.{ℕ, suc, _+_, _*_}
 use native.Mathlib.Omega.{arith}
 use mathlib.Core.Bool.{true, false}
 use mathlib.Core.List.{List, [], _∷_, _++_, append-nil, append-assoc}
-use mathlib.Core.Path.{_≡_, refl, sym, ap, _∙_, subst}
+use mathlib.Core.Path.{_≡_, refl, sym, ap, ap₂, _∙_, subst}
 use lib.ListN.{length}
 use Rattle.colours.specs.declared.Palette.{Palette}
 use Rattle.frame.specs.declared.Limits.{Limits}
@@ -18,10 +18,10 @@ use Rattle.pieces.specs.declared.Reader.{Reader}
 use Rattle.pieces.specs.declared.Standing.{Standing}
 use Rattle.pieces.specs.declared.Standing.the-variants as standings
 use Rattle.pieces.specs.Pieces.{beganAs, openedAs, openedBy, held, takenIn, takenAs, takenBy, finishedAs, finishedBy}
-use Rattle.pieces.specs.Stream.{joined, takenAll, howStood}
+use Rattle.pieces.specs.Stream.{joined, takenAll, callsAs, callsOfPiece, callsOfAll, howStood}
 use Rattle.dcs.proofs.Openings.{open-ready, open-refused}
 use Rattle.dcs.proofs.Progress.{nothing-unread}
-use Rattle.pieces.proofs.Answered.{stream-append, pieces-append}
+use Rattle.pieces.proofs.Answered.{stream-append, pieces-append, length-and}
 use Rattle.pieces.proofs.Turns.{now, Follows, Took, took}
 
 -- the stream of more pieces
@@ -64,15 +64,36 @@ over-all r canvas [] h = refl
 over-all r canvas (z ∷ zs) h =
     ap (λ (x : Reader × List ℕ). takenAll (x .0) (x .1) zs) (over-stays r canvas z h) ∙ over-all r canvas zs h
 
--- An opening that fails: no piece is taken and nothing is written, and a finish is 11.
+-- and no call is made
+over-none : (r : Reader) (canvas z : List ℕ) → (r .standing ≡ standings.Reading → ⊥) → callsOfPiece r canvas z ≡ 0
+unfolding callsOfPiece callsAs
+over-none r canvas z h = go (r .standing) h
+  where
+    go : (t : Standing) → (t ≡ standings.Reading → ⊥) → callsAs t r canvas z ≡ 0
+    go standings.Reading h = absurd (h refl)
+    go (standings.Ended e) h = refl
+    go (standings.Refused n) h = refl
+
+over-no-calls : (r : Reader) (canvas : List ℕ) (zs : List (List ℕ)) → (r .standing ≡ standings.Reading → ⊥) → callsOfAll r canvas zs ≡ 0
+unfolding callsOfAll
+over-no-calls r canvas [] h = refl
+over-no-calls r canvas (z ∷ zs) h =
+    ap₂ _+_ (over-none r canvas z h)
+    (ap (λ (x : Reader × List ℕ). callsOfAll (x .0) (x .1) zs) (over-stays r canvas z h) ∙ over-no-calls r canvas zs h)
+
+-- An opening that fails: no piece is taken, no call is made and nothing is written, and a finish is 11.
 pub closed-whole : (l : Limits) (stride : ℕ) (p : Palette) (opening : List ℕ) → openable l stride (length opening) ≡ false → (zs : List (List ℕ)) (owner : Palette)
     → (takenAll (openedBy l stride p (length opening)) opening zs ≡ (openedBy l stride p (length opening), opening))
+    × (callsOfAll (openedBy l stride p (length opening)) opening zs ≡ 0)
     × (finishedBy (openedBy l stride p (length opening)) owner opening ≡ turnedAway owner refusals.Opening opening)
 unfolding finishedBy finishedAs
 closed-whole l stride p opening closed zs owner =
     let r : Reader = openedBy l stride p (length opening) in
-    let stands : r .standing ≡ standings.Refused refusals.Opening = refused-began l stride p (length opening) closed in (
-      over-all r opening zs (λ z. absurd (let other : standings.Reading ≡ standings.Refused refusals.Opening = sym z ∙ stands in let never : _≡_ {A = ℕ} 0 1 = cc in omega arith)),
+    let stands : r .standing ≡ standings.Refused refusals.Opening = refused-began l stride p (length opening) closed in
+    let over : r .standing ≡ standings.Reading → ⊥ =
+    λ z. absurd (let other : standings.Reading ≡ standings.Refused refusals.Opening = sym z ∙ stands in let never : _≡_ {A = ℕ} 0 1 = cc in omega arith) in (
+      over-all r opening zs over,
+      over-no-calls r opening zs over,
       ap (λ (t : Standing). finishedAs t r owner opening) stands,
     )
 
@@ -90,17 +111,17 @@ module _ (l : Limits) (stride : ℕ) (p : Palette) (opening : List ℕ) (opens :
 
   -- a piece is a new call and those after its stops
   pub piece-follows : {ts : List Turn} {r : Reader} {canvas : List ℕ} → Follows l stride p opening opens ts r canvas → r .standing ≡ standings.Reading
-      → (z : List ℕ) → Took l stride p opening opens ts (fresh z (6 * l .width)) (takenBy r canvas z)
-  unfolding takenBy takenAs takenIn mayCall pieceOf allowanceOf howStood
+      → (z : List ℕ) → Took l stride p opening opens ts (fresh z (6 * l .width)) (takenBy r canvas z) (callsOfPiece r canvas z)
+  unfolding takenBy takenAs takenIn callsOfPiece callsAs mayCall pieceOf allowanceOf howStood
   piece-follows {ts} {r} {canvas} f e z =
       let needs-more : now l stride p opening opens ts .how ≡ readAll = f .how ∙ ap howStood e in
       let all : now l stride p opening opens ts .unread ≡ [] = nothing-unread l stride p opening opens (6 * l .width) ts (omega arith) (f .keeps .proper) needs-more in
-      subst (Took l stride p opening opens ts (fresh z (6 * l .width))) (ap (λ (t : Standing). takenAs t r canvas z) (sym e))
+      subst (λ (t : Standing). Took l stride p opening opens ts (fresh z (6 * l .width)) (takenAs t r canvas z) (callsAs t r canvas z)) (sym e)
       (took l stride p opening opens (suc (length z)) (f .keeps) (fresh z (6 * l .width)) refl (ap (mayCall (fresh z (6 * l .width))) needs-more) z
       (ap (λ (us : List ℕ). us ++ z) all) (omega arith))
 
-  -- all pieces: those up to the end are taken and those after it are not
-  pub record Taken (ts : List Turn) (zs : List (List ℕ)) (x : Reader × List ℕ) : Type 0 where
+  -- all pieces, by so many calls: those up to the end are taken and those after it are not
+  pub record Taken (ts : List Turn) (zs : List (List ℕ)) (x : Reader × List ℕ) (made : ℕ) : Type 0 where
     pub taken : List (List ℕ)
     pub later : List (List ℕ)
     pub split : zs ≡ taken ++ later
@@ -108,23 +129,48 @@ module _ (l : Limits) (stride : ℕ) (p : Palette) (opening : List ℕ) (opens :
     pub turns : List Turn
     pub whole : stream turns ≡ stream ts ++ joined taken
     pub count : pieces turns ≡ pieces ts + length taken
+    pub calls : length turns ≡ length ts + made
     pub follows : Follows l stride p opening opens turns (x .0) (x .1)
 
   pub taken-all : (zs : List (List ℕ)) {ts : List Turn} {r : Reader} {canvas : List ℕ} → Follows l stride p opening opens ts r canvas
-      → Taken ts zs (takenAll r canvas zs)
-  unfolding takenAll joined stream pieceOf pieces
+      → Taken ts zs (takenAll r canvas zs) (callsOfAll r canvas zs)
+  unfolding takenAll callsOfAll joined stream pieceOf pieces
   taken-all [] {ts} f =
-      record { taken = []; later = []; split = refl; last = λ h. refl; turns = ts; whole = sym (append-nil (stream ts)); count = omega arith; follows = f }
+      record {
+        taken = [];
+        later = [];
+        split = refl;
+        last = λ h. refl;
+        turns = ts;
+        whole = sym (append-nil (stream ts));
+        count = omega arith;
+        calls = omega arith;
+        follows = f;
+      }
   taken-all (z ∷ zs) {ts} {r} {canvas} f = go (λ us x g. taken-all zs g) (r .standing) refl
     where
-      over : (r .standing ≡ standings.Reading → ⊥) → Taken ts (z ∷ zs) (takenAll r canvas (z ∷ zs))
-      over h =
-          subst (Taken ts (z ∷ zs)) (sym (over-all r canvas (z ∷ zs) h))
-          (record { taken = []; later = z ∷ zs; split = refl; last = λ e. absurd (h e); turns = ts; whole = sym (append-nil (stream ts)); count = omega arith; follows = f })
+      made : ℕ
+      made = callsOfAll r canvas (z ∷ zs)
 
-      further : (t : Took l stride p opening opens ts (fresh z (6 * l .width)) (takenBy r canvas z))
+      over : (r .standing ≡ standings.Reading → ⊥) → Taken ts (z ∷ zs) (takenAll r canvas (z ∷ zs)) made
+      over h =
+          subst (λ (x : Reader × List ℕ). Taken ts (z ∷ zs) x made) (sym (over-all r canvas (z ∷ zs) h))
+          (record {
+            taken = [];
+            later = z ∷ zs;
+            split = refl;
+            last = λ e. absurd (h e);
+            turns = ts;
+            whole = sym (append-nil (stream ts));
+            count = omega arith;
+            calls = omega (arith, over-no-calls r canvas (z ∷ zs) h);
+            follows = f;
+          })
+
+      further : (t : Took l stride p opening opens ts (fresh z (6 * l .width)) (takenBy r canvas z) (callsOfPiece r canvas z))
           → Taken (ts ++ fresh z (6 * l .width) ∷ t .others) zs (takenAll (takenBy r canvas z .0) (takenBy r canvas z .1) zs)
-          → Taken ts (z ∷ zs) (takenAll r canvas (z ∷ zs))
+          (callsOfAll (takenBy r canvas z .0) (takenBy r canvas z .1) zs)
+          → Taken ts (z ∷ zs) (takenAll r canvas (z ∷ zs)) made
       further t x =
           let us : List Turn = fresh z (6 * l .width) ∷ t .others in
           let one : pieces us ≡ suc (pieces (t .others)) = refl in
@@ -139,11 +185,13 @@ module _ (l : Limits) (stride : ℕ) (p : Palette) (opening : List ℕ) (opens :
                 ∙ ap (λ (bs : List ℕ). bs ++ joined (x .taken)) (stream-append ts us ∙ ap (λ (bs : List ℕ). stream ts ++ (z ++ bs)) (t .nothing) ∙ ap (λ (bs : List ℕ). stream ts ++ bs) (append-nil z))
                 ∙ append-assoc (stream ts) z (joined (x .taken));
             count = omega (arith, x .count, pieces-append ts us, t .none-fresh);
+            calls = omega (arith, x .calls, length-and ts us, t .calls);
             follows = x .follows;
           }
 
-      go : ((us : List Turn) (x : Reader × List ℕ) → Follows l stride p opening opens us (x .0) (x .1) → Taken us zs (takenAll (x .0) (x .1) zs))
-          → (t : Standing) → r .standing ≡ t → Taken ts (z ∷ zs) (takenAll r canvas (z ∷ zs))
+      go : ((us : List Turn) (x : Reader × List ℕ) → Follows l stride p opening opens us (x .0) (x .1)
+          → Taken us zs (takenAll (x .0) (x .1) zs) (callsOfAll (x .0) (x .1) zs))
+          → (t : Standing) → r .standing ≡ t → Taken ts (z ∷ zs) (takenAll r canvas (z ∷ zs)) made
       go later standings.Reading e = let t = piece-follows f e z in further t (later (ts ++ fresh z (6 * l .width) ∷ t .others) (takenBy r canvas z) (t .follows))
       go later (standings.Ended d) e = over (λ h. absurd (let never : _≡_ {A = ℕ} 0 1 = cc in omega arith))
       go later (standings.Refused n) e = over (λ h. absurd (let never : _≡_ {A = ℕ} 0 1 = cc in omega arith))

@@ -18,23 +18,24 @@ use Rattle.meaning.specs.Drawing.{Setting}
 use Rattle.meaning.specs.Reader.{stopped, Turn, again, pieceOf, allowanceOf, stream, pieces, Caller, mayCall}
 use Rattle.meaning.specs.Sessions.{Phase, dcsStep, dcsRested}
 use Rattle.meaning.proofs.ToldLaws.{calls-append, proper-append, proper-one}
-use Rattle.payload.specs.History.{settingMeant}
+use Rattle.payload.specs.Meant.{settingMeant}
 use Rattle.payload.specs.Judge.{openable}
 use Rattle.dcs.specs.declared.Answer.{Answer}
 use Rattle.dcs.specs.declared.Ending.{Ending}
 use Rattle.dcs.specs.declared.Fed.{Fed}
 use Rattle.dcs.specs.declared.Session.{Session}
 use Rattle.dcs.specs.Session.{fedBy}
-use Rattle.dcs.specs.History.{endMeant, answerMeant, Held, tellHeld, callsOf, properCalls}
+use Rattle.dcs.specs.History.{Held, tellHeld, callsOf, properCalls}
+use Rattle.dcs.specs.Meant.{endMeant, answerMeant}
 use Rattle.dcs.proofs.History as history
 use Rattle.dcs.proofs.Progress.{stop-consumes, end-told}
 use Rattle.pieces.specs.declared.Called.{Called}
 use Rattle.pieces.specs.declared.Reader.{Reader}
 use Rattle.pieces.specs.declared.Standing.the-variants as standings
 use Rattle.pieces.specs.Pieces.{held, countedAs, afterCall, calledAs, calledBy, takenFor}
-use Rattle.pieces.specs.Stream.{howStood}
+use Rattle.pieces.specs.Stream.{callsFor, howStood}
 use Rattle.pieces.proofs.Answered.{turns-append, length-more, held-sum, stoodAt, answered-reader, last-how, stop-how, ended-answer}
-use Rattle.pieces.proofs.TakeLaws.{call-within, taken-last, taken-again}
+use Rattle.pieces.proofs.TakeLaws.{call-within, taken-last, taken-again, calls-last, calls-again}
 
 module _ (l : Limits) (stride : ℕ) (p : Palette) (opening : List ℕ) (opens : openable l stride (length opening) ≡ true) where
   -- the smallest allowance
@@ -165,15 +166,17 @@ module _ (l : Limits) (stride : ℕ) (p : Palette) (opening : List ℕ) (opens :
 
   -- ---- a piece
 
-  -- the calls of a piece: the first, and others with nothing new
-  pub record Took (ts : List Turn) (t : Turn) (x : Reader × List ℕ) : Type 0 where
+  -- the calls of a piece, which are so many: the first, and others with nothing new
+  pub record Took (ts : List Turn) (t : Turn) (x : Reader × List ℕ) (made : ℕ) : Type 0 where
     pub others : List Turn
+    pub calls : made ≡ suc (length others)
     pub nothing : stream others ≡ []
     pub none-fresh : pieces others ≡ 0
     pub follows : Follows (ts ++ t ∷ others) (x .0) (x .1)
 
   pub took : (n : ℕ) {ts : List Turn} {r : Reader} {canvas : List ℕ} → Keeps ts r canvas → (t : Turn) → allowanceOf t ≡ smallest
-      → mayCall t (now ts .how) ≡ true → (bytes : List ℕ) → now ts .unread ++ pieceOf t ≡ bytes → length bytes < n → Took ts t (takenFor n r canvas bytes)
+      → mayCall t (now ts .how) ≡ true → (bytes : List ℕ) → now ts .unread ++ pieceOf t ≡ bytes → length bytes < n
+      → Took ts t (takenFor n r canvas bytes) (callsFor n r canvas bytes)
   unfolding mayCall pieceOf stream pieces allowanceOf
   took zero k t exact may bytes same h = absurd (omega arith)
   took (suc n) {ts} {r} {canvas} k t exact may bytes same h =
@@ -194,23 +197,27 @@ module _ (l : Limits) (stride : ℕ) (p : Palette) (opening : List ℕ) (opens :
       more : List Turn
       more = ts ++ t ∷ []
 
+      made : ℕ
+      made = callsFor (suc n) r canvas bytes
+
       go : (mayCall (again smallest) (now more .how) ≡ true → now more .unread ++ pieceOf (again smallest) ≡ rest → length rest < n
-          → Took more (again smallest) (takenFor n reader after rest))
-          → (q : Bool) → eqb count 0 ≡ q → Took ts t (takenFor (suc n) r canvas bytes)
+          → Took more (again smallest) (takenFor n reader after rest) (callsFor n reader after rest))
+          → (q : Bool) → eqb count 0 ≡ q → Took ts t (takenFor (suc n) r canvas bytes) made
       go later true e =
           let last : count ≡ 0 = eqb-true count 0 e in
-          subst (Took ts t) (sym (taken-last n r canvas bytes last))
-          (record { others = []; nothing = refl; none-fresh = refl; follows = last-follows k t exact may bytes same last })
+          subst (λ (x : Reader × List ℕ). Took ts t x made) (sym (taken-last n r canvas bytes last))
+          (record { others = []; calls = calls-last n r canvas bytes last; nothing = refl; none-fresh = refl; follows = last-follows k t exact may bytes same last })
       go later false e =
           let on : count ≡ 0 → ⊥ = eqb-false count 0 e in
           let s = stop-next k t exact may bytes same on in
           let within : count ≤ length bytes = call-within r canvas bytes in
           let left = length-drop count bytes in
-          let x : Took more (again smallest) (takenFor n reader after rest) =
+          let x : Took more (again smallest) (takenFor n reader after rest) (callsFor n reader after rest) =
           later (ap (mayCall (again smallest)) (s .0)) (append-nil _ ∙ s .1) (omega arith) in
-          subst (Took ts t) (sym (taken-again n r canvas bytes on))
+          subst (λ (x : Reader × List ℕ). Took ts t x made) (sym (taken-again n r canvas bytes on))
           (record {
             others = again smallest ∷ x .others;
+            calls = calls-again n r canvas bytes on ∙ ap suc (x .calls);
             nothing = x .nothing;
             none-fresh = x .none-fresh;
             follows =

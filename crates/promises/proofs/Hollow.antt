@@ -26,7 +26,9 @@ use Rattle.payload.specs.declared.Session.{Session}
 use Rattle.payload.specs.declared.Settings.{Settings}
 use Rattle.payload.specs.Judge.{inRange, limitsFit, openable}
 use Rattle.payload.specs.Session.{backgroundFor, sessionFor, fedBy}
-use Rattle.payload.specs.History.{givenMeant, parametersMeant, limitsMeant, settingMeant, answerMeant, Stands, Feeds}
+use Rattle.payload.specs.History.{Stands, Feeds}
+use Rattle.meaning.specs.Drawing.{houseLimits}
+use Rattle.payload.specs.Meant.{limitsCoded, givenMeant, parametersMeant, limitsMeant, settingMeant, answerMeant}
 use Rattle.payload.proofs.Openings.{ready-stands}
 use Rattle.payload.proofs.Judgements.{stands-shows, stands-long}
 use Rattle.payload.proofs.Feedings.{feed-stands}
@@ -54,6 +56,10 @@ module _ (f : Reader) (meets : Meets f) {opening : List ℕ} {s : Session} {l : 
   abbrev meant : calls.Fed Reading ℕ
   meant = calls.feedPayload m (length l) a bs
 
+  -- Each call's answer is fixed: it is the definition's.
+  pub answer-fixed : answerMeant (f s l bs a .0 .answer) ≡ meant .answer
+  answer-fixed = meets opening s l m k bs a .answer
+
   -- Each call's canvas is fixed: it shows the drawing that the definition has come to.
   pub canvas-fixed : f s l bs a .1 ≡ calls.payloadShown (meant .session) opening
   canvas-fixed = stands-shows (meets opening s l m k bs a .session)
@@ -69,8 +75,8 @@ module _ (f : Reader) (meets : Meets f) {opening : List ℕ} {s : Session} {l : 
 
 -- ---- the smallest example: house limits, a canvas of 1 x 6 pixels whose bytes are 1, the standard palette, and P2 is 1
 
-unfoldable pub house : Limits
-house = record { width = 1024; height = 768; repeats = 1024; pixels = 786432 }
+abbrev pub house : Limits
+house = limitsCoded houseLimits
 
 unfoldable pub clear : Settings
 clear = record { p1 = givens.Nothing; p2 = givens.Number 1 }
@@ -89,7 +95,7 @@ m₀ : calls.Session Reading
 m₀ = record { setting = settingMeant house 1 (length fresh); length = length fresh; state = opened (parametersMeant clear) standard; failed = false }
 
 k₀ : Stands fresh s₀ l₀ m₀
-unfolding s₀ l₀ m₀ openable limitsFit inRange house fresh pictures.rowsOf
+unfolding s₀ l₀ m₀ openable limitsFit inRange fresh pictures.rowsOf
 k₀ = ready-stands house 1 clear standard fresh refl
 
 -- what the definition makes of some bytes with an allowance of 6W
@@ -106,23 +112,23 @@ alpha₀ bs = getD (calls.payloadShown (fed₀ bs .session) fresh) 7 0
 
 -- `~` is read, with an ink of 6, and paints that pixel; no bytes are read with none, and leave it as it was at the opening
 empty-told : fed₀ [] .answer ≡ calls.told 0 0 calls.needsMore
-unfolding fed₀ computed m₀ house clear fresh settingMeant limitsMeant parametersMeant givenMeant calls.settingFor
+unfolding fed₀ computed m₀ clear fresh settingMeant limitsMeant parametersMeant givenMeant calls.settingFor
 empty-told = refl
 
 sixel-told : fed₀ (0x7E ∷ []) .answer ≡ calls.told 1 6 calls.needsMore
-unfolding fed₀ computed m₀ house clear fresh settingMeant limitsMeant parametersMeant givenMeant calls.settingFor
+unfolding fed₀ computed m₀ clear fresh settingMeant limitsMeant parametersMeant givenMeant calls.settingFor
 sixel-told = refl
 
 empty-alpha : alpha₀ [] ≡ 1
-unfolding alpha₀ fed₀ computed m₀ house clear fresh settingMeant limitsMeant parametersMeant givenMeant calls.settingFor calls.payloadShown calls.shown pictures.picture pictures.replaced pictures.grid pictures.visible
+unfolding alpha₀ fed₀ computed m₀ clear fresh settingMeant limitsMeant parametersMeant givenMeant calls.settingFor calls.payloadShown calls.shown pictures.picture pictures.replaced pictures.grid pictures.visible
 empty-alpha = refl
 
 sixel-alpha : alpha₀ (0x7E ∷ []) ≡ 255
-unfolding alpha₀ fed₀ computed m₀ house clear fresh settingMeant limitsMeant parametersMeant givenMeant calls.settingFor calls.payloadShown calls.shown pictures.picture pictures.replaced pictures.grid pictures.visible
+unfolding alpha₀ fed₀ computed m₀ clear fresh settingMeant limitsMeant parametersMeant givenMeant calls.settingFor calls.payloadShown calls.shown pictures.picture pictures.replaced pictures.grid pictures.visible
 sixel-alpha = refl
 
 opening-alpha : getD (calls.payloadShown m₀ fresh) 7 0 ≡ 1
-unfolding computed m₀ house clear fresh settingMeant limitsMeant parametersMeant givenMeant calls.settingFor calls.payloadShown calls.shown pictures.picture pictures.replaced pictures.grid pictures.visible
+unfolding computed m₀ clear fresh settingMeant limitsMeant parametersMeant givenMeant calls.settingFor calls.payloadShown calls.shown pictures.picture pictures.replaced pictures.grid pictures.visible
 opening-alpha = refl
 
 -- ---- the five

@@ -20,14 +20,15 @@ use Rattle.payload.specs.declared.Life.the-variants as lives
 use Rattle.payload.specs.Begin.{noSettings}
 use Rattle.payload.specs.Judge.{inRange, limitsFit, openable}
 use Rattle.payload.specs.Session.{sessionFor}
-use Rattle.payload.specs.History.{limitsMeant, settingMeant}
+use Rattle.payload.specs.Meant.{limitsMeant, settingMeant}
 use Rattle.dcs.specs.declared.Answer.the-variants as answers
 use Rattle.dcs.specs.declared.Fed.{Fed}
 use Rattle.dcs.specs.declared.Phase.the-variants as phases
 use Rattle.dcs.specs.declared.Session.{Session}
 use Rattle.dcs.specs.declared.lead.Place.the-variants as places
 use Rattle.dcs.specs.Session.{sessionOf}
-use Rattle.dcs.specs.History.{answerMeant, atStart, heldAt, Stands, before, Feeds}
+use Rattle.dcs.specs.History.{atStart, heldAt, Stands, before, Feeds}
+use Rattle.dcs.specs.Meant.{answerMeant}
 use Rattle.dcs.proofs.Standing.{stands-shows}
 use Rattle.promises.proofs.Hollow.{house, fresh}
 use Rattle.promises.proofs.StoppedCalls.{Worked, dcs-stop-works}
@@ -45,6 +46,10 @@ Meets f =
 
 module _ (f : Reader) (meets : Meets f) (l : Limits) (stride : ℕ) (p : Palette) (opening : List ℕ) {s : Session} {c : List ℕ} {m : calls.Session Phase}
     (k : Stands l stride p opening s c m) (bs : List ℕ) (a : ℕ) where
+  -- Each call's answer is fixed: it is the definition's.
+  pub dcs-answer-fixed : answerMeant (f s c bs a .0 .answer) ≡ calls.feedDcs p m (length c) a bs .answer
+  dcs-answer-fixed = meets l stride p opening s c m k bs a .answer
+
   -- Each call's canvas is fixed: it shows the drawing that the definition has come to.
   pub dcs-canvas-fixed : f s c bs a .1 ≡ calls.dcsShown (calls.feedDcs p m (length c) a bs .session) opening
   dcs-canvas-fixed = stands-shows l stride p opening (meets l stride p opening s c m k bs a .session)
@@ -74,7 +79,7 @@ m₀ : calls.Session Phase
 m₀ = heldAt house 1 (length fresh) start false
 
 k₀ : Stands house 1 standard fresh s₀ fresh m₀
-unfolding s₀ m₀ openable limitsFit inRange house fresh pictures.rowsOf
+unfolding s₀ m₀ openable limitsFit inRange fresh pictures.rowsOf
 k₀ = before refl (atStart (read-none 3))
 
 fed₀ : List ℕ → calls.Fed Phase End
@@ -85,19 +90,19 @@ alpha₀ : List ℕ → ℕ
 alpha₀ bs = getD (calls.dcsShown (fed₀ bs .session) fresh) 7 0
 
 empty-told : fed₀ [] .answer ≡ calls.told 0 0 calls.needsMore
-unfolding fed₀ computed calls.feedDcs calls.visibleArea m₀ house fresh settingMeant limitsMeant calls.settingFor
+unfolding fed₀ computed calls.feedDcs calls.visibleArea m₀ fresh settingMeant limitsMeant calls.settingFor
 empty-told = refl
 
 sixel-told : fed₀ sixel .answer ≡ calls.told 3 6 calls.needsMore
-unfolding fed₀ sixel computed calls.feedDcs calls.visibleArea m₀ house fresh settingMeant limitsMeant calls.settingFor
+unfolding fed₀ sixel computed calls.feedDcs calls.visibleArea m₀ fresh settingMeant limitsMeant calls.settingFor
 sixel-told = refl
 
 empty-alpha : alpha₀ [] ≡ 1
-unfolding alpha₀ fed₀ computed calls.feedDcs calls.visibleArea m₀ house fresh settingMeant limitsMeant calls.settingFor calls.dcsShown calls.shown pictures.picture pictures.replaced pictures.grid pictures.visible
+unfolding alpha₀ fed₀ computed calls.feedDcs calls.visibleArea m₀ fresh settingMeant limitsMeant calls.settingFor calls.dcsShown calls.shown pictures.picture pictures.replaced pictures.grid pictures.visible
 empty-alpha = refl
 
 sixel-alpha : alpha₀ sixel ≡ 255
-unfolding alpha₀ fed₀ sixel computed calls.feedDcs calls.visibleArea m₀ house fresh settingMeant limitsMeant calls.settingFor calls.dcsShown calls.shown pictures.picture pictures.replaced pictures.grid pictures.visible
+unfolding alpha₀ fed₀ sixel computed calls.feedDcs calls.visibleArea m₀ fresh settingMeant limitsMeant calls.settingFor calls.dcsShown calls.shown pictures.picture pictures.replaced pictures.grid pictures.visible
 sixel-alpha = refl
 
 module _ (f : Reader) (meets : Meets f) where

@@ -22,8 +22,8 @@ use Rattle.payload.specs.declared.Given.the-variants as givens
 use Rattle.payload.specs.declared.Ratio.{Ratio}
 use Rattle.payload.specs.declared.Ratio.the-variants as ratios
 use Rattle.payload.specs.declared.Report.{Report}
-use Rattle.payload.specs.History.{givenMeant, ratioMeant, reportMeant}
-use Rattle.oneshot.specs.OneShot.{Read, finishMeant, readMeant}
+use Rattle.payload.specs.Meant.{givenMeant, ratioMeant, reportMeant, finishMeant}
+use Rattle.oneshot.specs.OneShot.{Read, readMeant}
 
 -- with a way back, what is told is known
 pub known : {A B : Type 0} {f : A → B} (back : B → A) → ((x : A) → back (f x) ≡ x) → {x y : A} → f x ≡ f y → x ≡ y

@@ -27,6 +27,7 @@ use Rattle.payload.specs.Begin.{noSettings}
 use Rattle.payload.specs.Judge.{openable, isFailed, feedJudged, finishJudged}
 use Rattle.payload.specs.Session as coded
 use Rattle.payload.specs.History as payload
+use Rattle.payload.specs.Meant as payloadMeant
 use Rattle.payload.proofs.Openings.{ready-stands}
 use Rattle.payload.proofs.Judgements as judgements
 use Rattle.dcs.specs.declared.Answer.{Answer}
@@ -36,7 +37,8 @@ use Rattle.dcs.specs.declared.Phase.the-variants as phases
 use Rattle.dcs.specs.declared.Session.{Session}
 use Rattle.dcs.specs.declared.lead.Place.{Place}
 use Rattle.dcs.specs.Session.{openedBy, fedAs, fedBy, finishedIn, finishedAs, finishedBy}
-use Rattle.dcs.specs.History.{answerMeant, SamePlace, heldAt, Stands, before, refused, inside, escaped, ended}
+use Rattle.dcs.specs.History.{SamePlace, heldAt, Stands, before, refused, inside, escaped, ended}
+use Rattle.dcs.specs.Meant.{answerMeant}
 use Rattle.dcs.proofs.Standing.{feed-stands, finish-stands, stands-shows, stands-fit}
 use Rattle.dcs.proofs.Openings.{open-refused}
 use Rattle.promises.proofs.Choices.{tells-itself, tells-fails}
@@ -56,7 +58,7 @@ answer-known (answers.Refused y) x e = ap answers.Refused (refusal-known (cc))
 module _ (l : Limits) (stride : ℕ) (p : Palette) (opening : List ℕ) where
   -- before the payload the picture fits every canvas of the opening's length, begun or not
   waits-alike : openable l stride (length opening) ≡ true → {t : Place} {h : Parameters} {x : Phase} → SamePlace t h x → (size : ℕ)
-      → calls.misfits payloadArea (heldAt l stride (length opening) (opened (payload.parametersMeant noSettings) p) false) size
+      → calls.misfits payloadArea (heldAt l stride (length opening) (opened (payloadMeant.parametersMeant noSettings) p) false) size
       ≡ calls.misfits dcsArea (heldAt l stride (length opening) x false) size
   unfolding calls.misfits
   waits-alike opens {t} {h} {x} same size =
@@ -69,11 +71,11 @@ module _ (l : Limits) (stride : ℕ) (p : Palette) (opening : List ℕ) where
       (λ e. rw e refl)
     where
       begun : calls.Session Reading
-      begun = heldAt l stride (length opening) (opened (payload.parametersMeant noSettings) p) false
+      begun = heldAt l stride (length opening) (opened (payloadMeant.parametersMeant noSettings) p) false
 
-  judged-meant : {s : Session} {c : List ℕ} {m : calls.Session Phase} → Stands l stride p opening s c m → (size a : ℕ)
+  pub judged-meant : {s : Session} {c : List ℕ} {m : calls.Session Phase} → Stands l stride p opening s c m → (size a : ℕ)
       → judgements.judgedMeant (feedJudged (s .payload) size a) ≡ calls.feedRefusal dcsArea m size a
-  unfolding judgements.judgedMeant feedJudged isFailed coded.sessionFor numberOf calls.feedRefusal calls.firstOf calls.misfits calls.visibleArea calls.drawingOf payload.settingMeant payload.limitsMeant calls.settingFor
+  unfolding judgements.judgedMeant feedJudged isFailed coded.sessionFor numberOf calls.feedRefusal calls.firstOf calls.misfits calls.visibleArea calls.drawingOf payloadMeant.settingMeant payloadMeant.limitsMeant calls.settingFor
   judged-meant (before opens same) size a =
       judgements.feed-judged (ready-stands l stride noSettings p opening opens) size a
       ∙ ap
@@ -143,7 +145,7 @@ module _ (l : Limits) (stride : ℕ) (p : Palette) (opening : List ℕ) where
       → (finishedBy s owner c .0 .answer ≡ finishes.Refused x) ↔ (calls.finishDcsSession m (length c) ≡ meant.turnedDown (numberOf x))
   dcs-finish-exactly k owner = finishes-exactly (finish-stands l stride p opening owner k)
 
-  finish-meant : {s : Session} {c : List ℕ} {m : calls.Session Phase} → Stands l stride p opening s c m → (size : ℕ)
+  pub finish-meant : {s : Session} {c : List ℕ} {m : calls.Session Phase} → Stands l stride p opening s c m → (size : ℕ)
       → judgements.judgedMeant (finishJudged (s .payload) size)
       ≡ calls.firstOf (record { holds = m .failed; number = 9 } ∷ record { holds = calls.misfits dcsArea m size; number = 12 } ∷ [])
   unfolding judgements.judgedMeant judgements.misfit finishJudged isFailed coded.sessionFor numberOf calls.firstOf calls.misfits calls.visibleArea calls.drawingOf
@@ -179,7 +181,7 @@ module _ (l : Limits) (stride : ℕ) (p : Palette) (opening : List ℕ) where
   -- ---- opening
 
   -- The code's opening is 11 exactly when a number is out of its range or there is no whole row; it is lent no canvas, and writes nothing.
-  pub dcs-open-exactly : (openedBy l stride p (length opening) .answer ≡ openings.Refused Opening) ↔ (¬ Openable (payload.limitsMeant l) stride (length opening))
+  pub dcs-open-exactly : (openedBy l stride p (length opening) .answer ≡ openings.Refused Opening) ↔ (¬ Openable (payloadMeant.limitsMeant l) stride (length opening))
   dcs-open-exactly = Iff·trans (open-refused l stride p (length opening)) (tells-fails (tells-openable l stride (length opening)))
 
 module _ (s : Session) (owner : Palette) (canvas : List ℕ) where

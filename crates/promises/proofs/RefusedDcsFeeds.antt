@@ -10,7 +10,7 @@ use Rattle.colours.specs.declared.Palette.{Palette}
 use Rattle.frame.specs.Numbers.{numberOf}
 use Rattle.frame.specs.declared.Limits.{Limits}
 use Rattle.frame.specs.declared.Refusal.{Refusal}
-use Rattle.frame.specs.declared.Refusal.the-variants.{Introducer, HeaderEnded, HeaderByte, Repeat, Size, Pixels, Room, Failed, Canvas, Allowance}
+use Rattle.frame.specs.declared.Refusal.the-variants.{Introducer, HeaderEnded, HeaderByte, Repeat, Size, Pixels, Room}
 use Rattle.meaning.specs.Calls as calls
 use Rattle.meaning.specs.Commands.{Command}
 use Rattle.meaning.specs.Drawing.{Drawing, refused, drawCommand}
@@ -28,7 +28,7 @@ use Rattle.promises.proofs.RefusedDcsBytes.{NotIntroducing, InHeader, I
 use Rattle.promises.proofs.RefusedFeeds.{Strikes}
 use Rattle.promises.proofs.RefusedHeaders.{Cuts}
 use Rattle.promises.proofs.RefusedRuns.{RunRefused, MeetsByte, meets-exactly}
-use Rattle.promises.proofs.RefusedSessions.{dcsArea, dcsRan, dcs-nine, dcs-twelve, dcs-thirteen, dcs-bytes}
+use Rattle.promises.proofs.RefusedSessions.{dcsArea, dcsRan, dcs-bytes}
 use Rattle.promises.proofs.RefusedSizes.{AboveLimits, SixNotFive, SevenNotSix}
 
 module _ (l : Limits) (stride : ℕ) (p : Palette) (opening : List ℕ) {s : Session} {c : List ℕ} {m : calls.Session Phase} (k : Stands l stride p opening s c m) (bs : List ℕ) (a : ℕ) where
@@ -97,19 +97,3 @@ module _ (l : Limits) (stride : ℕ) (p : Palette) (opening : List ℕ) {s : Ses
   pub dcs-feed-seven : (fedBy s c bs a .0 .answer ≡ answers.Refused Room) ↔ ComesTo (λ d e. Asks (askedSize d e) (SevenNotSix (m .setting) (e .area)))
   unfolding numberOf
   dcs-feed-seven = comes-to Room (λ d e. Asks (askedSize d e) (SevenNotSix (m .setting) (e .area))) (omega arith) (omega arith) (seven-exactly (m .setting))
-
-  -- 9 is given exactly when the session has already been refused by 1-7.
-  pub dcs-feed-nine : (fedBy s c bs a .0 .answer ≡ answers.Refused Failed) ↔ (m .failed ≡ true)
-  unfolding numberOf
-  dcs-feed-nine = Iff·trans (dcs-feed-exactly l stride p opening k bs a Failed) (dcs-nine p m (length c) a bs)
-
-  -- 12 is given exactly when it has not, and the canvas length differs from the opening's or the picture does not fit it.
-  pub dcs-feed-twelve : (fedBy s c bs a .0 .answer ≡ answers.Refused Canvas) ↔ ((¬ (m .failed ≡ true)) × any.Misfits dcsArea m (length c))
-  unfolding numberOf
-  dcs-feed-twelve = Iff·trans (dcs-feed-exactly l stride p opening k bs a Canvas) (dcs-twelve p m (length c) a bs)
-
-  -- 13 is given exactly when neither holds, and the allowance is below 6W.
-  pub dcs-feed-thirteen : (fedBy s c bs a .0 .answer ≡ answers.Refused Allowance)
-      ↔ ((¬ (m .failed ≡ true)) × ((¬ any.Misfits dcsArea m (length c)) × (a < 6 * m .setting .limits .width)))
-  unfolding numberOf
-  dcs-feed-thirteen = Iff·trans (dcs-feed-exactly l stride p opening k bs a Allowance) (dcs-thirteen p m (length c) a bs)

@@ -10,17 +10,17 @@ use Rattle.frame.specs.Numbers.{numberOf}
 use Rattle.frame.specs.declared.Limits.{Limits}
 use Rattle.frame.specs.declared.Refusal.{Refusal}
 use Rattle.meaning.specs.Calls as calls
-use Rattle.meaning.specs.Callers.{fedAll}
-use Rattle.meaning.specs.Histories.{Ask}
+use Rattle.meaning.specs.Callers.{Ask, fedAll}
 use Rattle.meaning.specs.Sessions.{Reading, End, Phase, over}
 use Rattle.meaning.proofs.AreaLaws.{Sound}
 use Rattle.meaning.proofs.DcsEnds.{Settled, feed-settled, end-reports}
 use Rattle.payload.specs.declared.Finishing.the-variants as finishes
 use Rattle.payload.specs.Judge.{openable}
-use Rattle.payload.specs.History.{settingMeant}
+use Rattle.payload.specs.Meant.{settingMeant}
 use Rattle.dcs.specs.declared.Session.{Session}
 use Rattle.dcs.specs.Session.{finishedBy}
 use Rattle.dcs.specs.History.{atStart, atIntroduced, inHeader, Stands, before, refused, inside, escaped, ended, fedAllMeant}
+use Rattle.dcs.specs.History as coded
 use Rattle.dcs.proofs.History as history
 use Rattle.dcs.proofs.Openings.{opened-stands}
 use Rattle.promises.proofs.DcsDemands as demands
@@ -47,10 +47,14 @@ calls-settled p size m [] q = q
 calls-settled p size m (c ∷ cs) q =
     calls-settled p size (calls.feedDcs p m size (c .allowance) (c .bytes) .session) cs (feed-settled p m size (c .allowance) (c .bytes) q)
 
+-- what any calls of a session that was opened came to
+abbrev past : Limits → ℕ → Palette → List ℕ → List Ask → coded.Past
+past l stride p opening = coded.fedAll (demands.held l stride p opening .0) opening
+
 -- After any calls of a session that was opened, a finish is refused by no other number than 8, 9 and 12.
 pub dcs-end-few : (l : Limits) (stride : ℕ) (p : Palette) (opening : List ℕ) (opens : openable l stride (length opening) ≡ true) (cs : List Ask) (owner : Palette)
     (x : Refusal) → ¬ (numberOf x ≡ 8) → ¬ (numberOf x ≡ 9) → ¬ (numberOf x ≡ 12)
-    → ¬ (finishedBy (demands.past l stride p opening opens cs .state .0) owner (demands.past l stride p opening opens cs .state .1) .0 .answer ≡ finishes.Refused x)
+    → ¬ (finishedBy (past l stride p opening cs .state .0) owner (past l stride p opening cs .state .1) .0 .answer ≡ finishes.Refused x)
 dcs-end-few l stride p opening opens cs owner x a b c e =
     let k = history.history-stands l stride p opening (opened-stands l stride p opening opens) cs .state in
     let h = dcs-end-pending l stride p opening k owner x a b c .0 e .1 .1 in

@@ -11,7 +11,7 @@ use Rattle.colours.specs.declared.Palette.{Palette}
 use Rattle.frame.specs.Numbers.{numberOf}
 use Rattle.frame.specs.declared.Limits.{Limits}
 use Rattle.frame.specs.declared.Refusal.{Refusal}
-use Rattle.frame.specs.declared.Refusal.the-variants.{Repeat, Size, Pixels, Room, Unfinished, Failed, FinalSize, Canvas}
+use Rattle.frame.specs.declared.Refusal.the-variants.{Repeat, Size, Pixels, Room, FinalSize}
 use Rattle.meaning.specs.Calls as calls
 use Rattle.meaning.specs.Commands.{Command, argued, Placed, Begun, closed}
 use Rattle.meaning.specs.Drawing.{Setting, Drawing, Drawn, drawn, refused, drawCommand, Outcome, andThen, drawAll}
@@ -28,7 +28,7 @@ use Rattle.dcs.specs.Session as dcsCoded
 use Rattle.promises.proofs.RefusedCalls as any
 use Rattle.promises.proofs.RefusedCommands.{AboveRepeats, askedSize, Asks, RefusedAt, commands-exactly, four-exactly, five-exactly, six-exactly, seven-exactly}
 use Rattle.promises.proofs.RefusedDcs.{dcs-finish-exactly}
-use Rattle.promises.proofs.RefusedFinishes.{payload-finish-nine, payload-finish-twelve, payload-finish-pending, dcs-finish-nine, dcs-finish-twelve, dcs-finish-eight, AtEnd, dcs-finish-pending}
+use Rattle.promises.proofs.RefusedFinishes.{payload-finish-pending, AtEnd, dcs-finish-pending}
 use Rattle.promises.proofs.RefusedPayload.{payload-finish-exactly}
 use Rattle.promises.proofs.RefusedSessions.{payloadArea, dcsArea}
 use Rattle.promises.proofs.RefusedSizes.{AboveLimits, SixNotFive, SevenNotSix}
@@ -67,16 +67,6 @@ module _ (s : Setting) (d : Drawing) (n : ℕ) (P : Command → Drawing → Type
 -- ---- a payload session: 9, 12, the pending command's
 
 module _ {opening : List ℕ} {s : Session} {l : List ℕ} {m : calls.Session Reading} (k : Stands opening s l m) (owner : Palette) where
-  -- 9 is given exactly when the session has already been refused by 1-7.
-  pub payload-end-nine : (finishedBy s owner l .0 .answer ≡ finishes.Refused Failed) ↔ (m .failed ≡ true)
-  unfolding numberOf
-  payload-end-nine = Iff·trans (payload-finish-exactly k owner Failed) (payload-finish-nine m (length l))
-
-  -- 12 is given exactly when it has not, and the canvas length differs from the opening's or the picture does not fit it.
-  pub payload-end-twelve : (finishedBy s owner l .0 .answer ≡ finishes.Refused Canvas) ↔ ((¬ (m .failed ≡ true)) × any.Misfits payloadArea m (length l))
-  unfolding numberOf
-  payload-end-twelve = Iff·trans (payload-finish-exactly k owner Canvas) (payload-finish-twelve m (length l))
-
   -- neither holds, and of the pending command this does
   abbrev pub Ends : (Command → Drawing → Type 0) → Type 0
   Ends P = (¬ (m .failed ≡ true)) × ((¬ any.Misfits payloadArea m (length l)) × Pending (m .state .begun) (m .state .drawing) P)
@@ -119,20 +109,6 @@ module _ {opening : List ℕ} {s : Session} {l : List ℕ} {m : calls.Session Re
 
 module _ (l : Limits) (stride : ℕ) (p : Palette) (opening : List ℕ) {s : dcsSession.Session} {c : List ℕ} {m : calls.Session Phase} (k : dcs.Stands l stride p opening s c m)
     (owner : Palette) where
-  pub dcs-end-nine : (dcsCoded.finishedBy s owner c .0 .answer ≡ finishes.Refused Failed) ↔ (m .failed ≡ true)
-  unfolding numberOf
-  dcs-end-nine = Iff·trans (dcs-finish-exactly l stride p opening k owner Failed) (dcs-finish-nine m (length c))
-
-  pub dcs-end-twelve : (dcsCoded.finishedBy s owner c .0 .answer ≡ finishes.Refused Canvas) ↔ ((¬ (m .failed ≡ true)) × any.Misfits dcsArea m (length c))
-  unfolding numberOf
-  dcs-end-twelve = Iff·trans (dcs-finish-exactly l stride p opening k owner Canvas) (dcs-finish-twelve m (length c))
-
-  -- 8 is given exactly when it is finished before its end.
-  pub dcs-end-eight : (dcsCoded.finishedBy s owner c .0 .answer ≡ finishes.Refused Unfinished)
-      ↔ ((¬ (m .failed ≡ true)) × ((¬ any.Misfits dcsArea m (length c)) × (calls.dcsEnd (m .state) ≡ none)))
-  unfolding numberOf
-  dcs-end-eight = Iff·trans (dcs-finish-exactly l stride p opening k owner Unfinished) (dcs-finish-eight m (length c))
-
   -- Any other number is given exactly when, at the end, the payload is turned down so.
   pub dcs-end-pending : (x : Refusal) → ¬ (numberOf x ≡ 8) → ¬ (numberOf x ≡ 9) → ¬ (numberOf x ≡ 12)
       → (dcsCoded.finishedBy s owner c .0 .answer ≡ finishes.Refused x)

@@ -9,7 +9,7 @@ use native.Mathlib.Omega.{arith}
 use lib.ListN.{length}
 use Rattle.frame.specs.Numbers.{numberOf}
 use Rattle.frame.specs.declared.Refusal.{Refusal}
-use Rattle.frame.specs.declared.Refusal.the-variants.{Repeat, Size, Pixels, Room, Failed, Canvas, Allowance}
+use Rattle.frame.specs.declared.Refusal.the-variants.{Repeat, Size, Pixels, Room}
 use Rattle.meaning.specs.Calls as calls
 use Rattle.meaning.specs.Commands.{Command, Placed}
 use Rattle.meaning.specs.Drawing.{Setting, Drawing, refused, drawCommand, drawAll}
@@ -24,7 +24,7 @@ use Rattle.promises.proofs.RefusedCalls as any
 use Rattle.promises.proofs.RefusedCommands.{RefusedAt, AboveRepeats, askedSize, Asks, four-exactly, five-exactly, six-exactly, seven-exactly}
 use Rattle.promises.proofs.RefusedPayload.{payload-feed-exactly}
 use Rattle.promises.proofs.RefusedRuns.{RunRefused, MeetsByte, meets-exactly}
-use Rattle.promises.proofs.RefusedSessions.{payloadArea, payloadRan, payload-nine, payload-twelve, payload-thirteen, payload-bytes}
+use Rattle.promises.proofs.RefusedSessions.{payloadArea, payloadRan, payload-bytes}
 use Rattle.promises.proofs.RefusedSizes.{AboveLimits, SixNotFive, SevenNotSix}
 
 -- a byte ends or is a command of which this holds: the payload goes on, and the commands before it are drawn
@@ -111,19 +111,3 @@ module _ {opening : List ℕ} {s : Session} {l : List ℕ} {m : calls.Session Re
   pub payload-feed-seven : (fedBy s l bs a .0 .answer ≡ answers.Refused Room) ↔ Comes (λ c d. Asks (askedSize c d) (SevenNotSix (m .setting) (d .area)))
   unfolding numberOf
   payload-feed-seven = comes Room (λ c d. Asks (askedSize c d) (SevenNotSix (m .setting) (d .area))) (omega arith) (seven-exactly (m .setting))
-
-  -- 9 is given exactly when the session has already been refused by 1-7.
-  pub payload-feed-nine : (fedBy s l bs a .0 .answer ≡ answers.Refused Failed) ↔ (m .failed ≡ true)
-  unfolding numberOf
-  payload-feed-nine = Iff·trans (payload-feed-exactly k bs a Failed) (payload-nine m (length l) a bs)
-
-  -- 12 is given exactly when it has not, and the canvas length differs from the opening's or the picture does not fit it.
-  pub payload-feed-twelve : (fedBy s l bs a .0 .answer ≡ answers.Refused Canvas) ↔ ((¬ (m .failed ≡ true)) × any.Misfits payloadArea m (length l))
-  unfolding numberOf
-  payload-feed-twelve = Iff·trans (payload-feed-exactly k bs a Canvas) (payload-twelve m (length l) a bs)
-
-  -- 13 is given exactly when neither holds, and the allowance is below 6W.
-  pub payload-feed-thirteen : (fedBy s l bs a .0 .answer ≡ answers.Refused Allowance)
-      ↔ ((¬ (m .failed ≡ true)) × ((¬ any.Misfits payloadArea m (length l)) × (a < 6 * m .setting .limits .width)))
-  unfolding numberOf
-  payload-feed-thirteen = Iff·trans (payload-feed-exactly k bs a Allowance) (payload-thirteen m (length l) a bs)

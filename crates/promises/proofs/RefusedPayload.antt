@@ -31,7 +31,8 @@ use Rattle.payload.specs.declared.judge.Judged.{Judged}
 use Rattle.payload.specs.declared.judge.Judged.the-variants as judged
 use Rattle.payload.specs.Judge.{openable, feedJudged, finishJudged, finalJudged}
 use Rattle.payload.specs.Session.{openedBy, fedAs, fedBy, turnedAway, pictured, finishedIf, finishedIn, finishedLive, finishedAs, finishedBy}
-use Rattle.payload.specs.History.{limitsMeant, answerMeant, Stands, Opens, isReady, isRefused, Finishes, pictures, declines}
+use Rattle.payload.specs.History.{Stands, Opens, isReady, isRefused, Finishes, pictures, declines}
+use Rattle.payload.specs.Meant.{limitsMeant, answerMeant}
 use Rattle.payload.proofs.Openings.{opens-meant, open-stands, open-refused}
 use Rattle.payload.proofs.Judgements.{judgedMeant, misfit, feed-judged, finish-judged, stands-shows}
 use Rattle.payload.proofs.Feedings.{feed-stands}

@@ -13,12 +13,12 @@ use Rattle.frame.specs.declared.Refusal.the-variants.{HeaderEnded, HeaderByte, 
 use Rattle.meaning.specs.Calls.{settingFor}
 use Rattle.meaning.specs.Commands.{Command, Placed, commands}
 use Rattle.meaning.specs.Drawing.{Limits, Setting, Drawing, blank, refused, drawCommand, drawAll}
-use Rattle.meaning.specs.OneShot.{missing, afterIntroducer, headerFrom}
+use Rattle.meaning.specs.OneShot.{Found, afterIntroducer, headerFrom}
 use Rattle.payload.specs.declared.Finished.{Finished}
 use Rattle.payload.specs.declared.Finishing.the-variants as finishes
 use Rattle.oneshot.specs.OneShot.{readWhole, readMeant}
 use Rattle.promises.proofs.RefusedCommands.{AboveRepeats, askedSize, Asks, RefusedAt, four-exactly, five-exactly, six-exactly, seven-exactly}
-use Rattle.promises.proofs.RefusedHeaders.{Cuts, Other, firstOther, two-exactly, three-exactly, eight-exactly, shot-exactly}
+use Rattle.promises.proofs.RefusedHeaders.{Cuts, Other, firstOther, two-exactly, three-exactly, eight-exactly, shot-exactly, Unfound, short, turned, unfound-none}
 use Rattle.promises.proofs.RefusedSessions.{Openable}
 use Rattle.promises.proofs.RefusedShots.{Finds, shot-eleven, shot-header, shot-bytes, read-exactly}
 use Rattle.promises.proofs.RefusedSizes.{AboveLimits, SixNotFive, SevenNotSix}
@@ -74,12 +74,12 @@ module _ (l : Limits) (stride : ℕ) (p : Palette) (canvas bs : List ℕ) (r : F
   unfolding numberOf
   read-eleven = Iff·trans (read-exactly l stride p canvas bs r after e Opening) (shot-eleven l stride p canvas bs)
 
-  headed : (x : Refusal) (P : List ℕ → Type 0) → (numberOf x ≤ 3) ⊎ (numberOf x ≡ 8) → ((later : List ℕ) → (headerFrom [] later ≡ missing (numberOf x)) ↔ P later)
+  headed : (x : Refusal) (P : List ℕ → Type 0) {g : Found} → Unfound g (numberOf x) → ((later : List ℕ) → (headerFrom [] later ≡ g) ↔ P later)
       → (r .answer ≡ finishes.Refused x) ↔ Opens (Introduced P)
-  headed x P which f =
-      let k = shot-exactly bs (numberOf x) in
+  headed x P {g} unfound f =
+      let k = shot-exactly bs g (unfound-none unfound) in
       Iff·trans (read-exactly l stride p canvas bs r after e x)
-      (Iff·trans (shot-header l stride p canvas bs (numberOf x) which) (
+      (Iff·trans (shot-header l stride p canvas bs unfound) (
         λ h. let q = k .0 (h .1) in (h .0, (q .0, q .1, f (q .0) .0 (q .2))),
         λ h. (h .0, k .1 (h .1 .0, h .1 .1, f (h .1 .0) .1 (h .1 .2))),
       ))
@@ -87,17 +87,17 @@ module _ (l : Limits) (stride : ℕ) (p : Palette) (canvas bs : List ℕ) (r : F
   -- 2 is given exactly when the first byte of the header that is neither skipped nor a digit nor `;` is 18, 1A, 1B or 80-9F.
   pub read-two : (r .answer ≡ finishes.Refused HeaderEnded) ↔ Opens (Introduced (λ later. Other later Cuts))
   unfolding numberOf
-  read-two = headed HeaderEnded (λ later. Other later Cuts) (inl (omega arith)) (two-exactly [])
+  read-two = headed HeaderEnded (λ later. Other later Cuts) (turned (omega arith)) (two-exactly [])
 
   -- 3 is given exactly when that byte is any other than `q`.
   pub read-three : (r .answer ≡ finishes.Refused HeaderByte) ↔ Opens (Introduced (λ later. Other later (λ b. (¬ (b ≡ 0x71)) × (¬ Cuts b))))
   unfolding numberOf
-  read-three = headed HeaderByte (λ later. Other later (λ b. (¬ (b ≡ 0x71)) × (¬ Cuts b))) (inl (omega arith)) (three-exactly [])
+  read-three = headed HeaderByte (λ later. Other later (λ b. (¬ (b ≡ 0x71)) × (¬ Cuts b))) (turned (omega arith)) (three-exactly [])
 
   -- 8 is given exactly when there is an introducer, and no such byte.
   pub read-eight : (r .answer ≡ finishes.Refused Unfinished) ↔ Opens (Introduced (λ later. firstOther later ≡ none))
   unfolding numberOf
-  read-eight = headed Unfinished (λ later. firstOther later ≡ none) (inr refl) (eight-exactly [])
+  read-eight = headed Unfinished (λ later. firstOther later ≡ none) short (eight-exactly [])
 
   -- a payload is found, and it has a command of which this holds
   abbrev pub Draws : (Command → Drawing → Type 0) → Type 0

@@ -51,10 +51,10 @@ eleven-exactly {S} l stride length state = (λ e. k .0 e .0, λ h. k .1 (h, tt))
 
 -- ---- the two kinds of sessions
 
-payload-numbers : (c : Setting) (t u : Reading) (b n : ℕ) → payloadStep c t b ≡ refuse u n → (1 ≤ n) × (n ≤ 7)
+pub payload-numbers : (c : Setting) (t u : Reading) (b n : ℕ) → payloadStep c t b ≡ refuse u n → (1 ≤ n) × (n ≤ 7)
 payload-numbers c t u b n e = let range : (4 ≤ n) × (n ≤ 7) = byte-numbers c t b e in (omega arith, range .1)
 
-dcs-numbers : (p : Palette) (c : Setting) (t u : Phase) (b n : ℕ) → dcsStep c p t b ≡ refuse u n → (1 ≤ n) × (n ≤ 7)
+pub dcs-numbers : (p : Palette) (c : Setting) (t u : Phase) (b n : ℕ) → dcsStep c p t b ≡ refuse u n → (1 ≤ n) × (n ≤ 7)
 dcs-numbers p c t u b n e = dcs-byte-numbers c p b u n t e
 
 -- what a session shows

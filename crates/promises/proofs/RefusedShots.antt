@@ -12,19 +12,20 @@ use Rattle.frame.specs.Numbers.{numberOf}
 use Rattle.frame.specs.declared.Refusal.{Refusal}
 use Rattle.meaning.specs.Commands.{commands}
 use Rattle.meaning.specs.Drawing.{Limits, Setting, Drawing, Outcome, blank}
-use Rattle.meaning.specs.OneShot.{Found, found, missing, findPayload, answerOf, oneShot}
+use Rattle.meaning.specs.OneShot.{Found, found, lacking, refusedWith, findPayload, answerOf, oneShot}
 use Rattle.meaning.specs.Payload.{Parameters, payload, Finished, turnedDown}
 use Rattle.meaning.specs.Calls.{settingFor, shown, readOneShot, partHandedBack}
 use Rattle.meaning.proofs.AreaLaws.{Sound, opens-roomy, blank-sound}
 use Rattle.payload.specs.declared.Finished as coded
 use Rattle.payload.specs.declared.Finishing.{Finishing}
 use Rattle.payload.specs.declared.Finishing.the-variants as finishes
-use Rattle.oneshot.specs.OneShot.{Read, paletteAfter, readWhole, readPart, readOutcome, finishMeant, readMeant}
-use Rattle.oneshot.proofs.WholeLaws.{part-read, part-missing, part-unopened}
+use Rattle.oneshot.specs.OneShot.{Read, paletteAfter, readWhole, readPart, readOutcome, readMeant}
+use Rattle.payload.specs.Meant.{finishMeant}
+use Rattle.oneshot.proofs.WholeLaws.{part-read, part-lacking, part-missing, part-unopened}
 use Rattle.promises.proofs.Choices.{tells-fails, later-case, only-case}
 use Rattle.promises.proofs.Meanings.{refusal-known}
 use Rattle.promises.proofs.RefusedCommands.{RefusedAt, payload-exactly}
-use Rattle.promises.proofs.RefusedHeaders.{header-numbers, shot-exactly}
+use Rattle.promises.proofs.RefusedHeaders.{header-numbers, shot-exactly, Unfound, short, turned}
 use Rattle.promises.proofs.RefusedSessions.{Openable, tells-opens}
 use Rattle.promises.proofs.RefusedFinishes.{finish-numbers, finish-exactly}
 
@@ -36,9 +37,9 @@ module _ (l : Limits) (stride : ℕ) (p : Palette) (canvas bs : List ℕ) where
   abbrev pub answer : Finished
   answer = readOneShot l stride (length canvas) p bs
 
-  -- a header is refused with 2, 3 or 8
-  found-numbers : {n : ℕ} → findPayload bs ≡ missing n → ((2 ≤ n) × (n ≤ 3)) ⊎ (n ≡ 8)
-  found-numbers {n} e = let h = shot-exactly bs n .0 e in header-numbers _ (h .0) (h .2)
+  -- a header is refused with 2 or 3
+  found-numbers : {n : ℕ} → findPayload bs ≡ refusedWith n → (2 ≤ n) × (n ≤ 3)
+  found-numbers {n} e = let h = shot-exactly bs (refusedWith n) tt .0 e in header-numbers _ (h .0) (h .2)
 
   shot-numbers : (n : ℕ) → oneShot setting p bs ≡ turnedDown n → n ≤ 10
   unfolding oneShot answerOf payload
@@ -48,13 +49,10 @@ module _ (l : Limits) (stride : ℕ) (p : Palette) (canvas bs : List ℕ) where
       bounded (inl h) = omega arith
       bounded (inr h) = omega arith
 
-      low : ((2 ≤ n) × (n ≤ 3)) ⊎ (n ≡ 8) → n ≤ 10
-      low (inl h) = omega arith
-      low (inr h) = omega arith
-
       go : (f : Found) → findPayload bs ≡ f → answerOf setting p f ≡ turnedDown n → n ≤ 10
       go (found o part) q e = bounded (finish-numbers setting o (commands part) (blank p (o .p2)) n e)
-      go (missing m) q e = let number : m ≡ n = cc in low (found-numbers (q ∙ ap missing number))
+      go lacking q e = let number : 8 ≡ n = cc in omega arith
+      go (refusedWith m) q e = let number : m ≡ n = cc in let range : (2 ≤ m) × (m ≤ 3) = found-numbers q in omega arith
 
   -- 11 is given exactly when an opening number is out of its range, or there is no whole row.
   pub shot-eleven : (answer ≡ turnedDown 11) ↔ (¬ Openable l stride (length canvas))
@@ -69,30 +67,40 @@ module _ (l : Limits) (stride : ℕ) (p : Palette) (canvas bs : List ℕ) where
   unfolding readOneShot
   shot-own n differ = only-case (tells-opens l stride (length canvas)) (λ e. differ (cc)) (λ e. e, λ e. e)
 
-  found-down : (n : ℕ) → (n ≤ 3) ⊎ (n ≡ 8) → (oneShot setting p bs ≡ turnedDown n) ↔ (findPayload bs ≡ missing n)
-  unfolding oneShot answerOf payload
-  found-down n which = (λ e. go (findPayload bs) e, λ e. ap (answerOf setting p) e)
-    where
-      never : (n ≤ 3) ⊎ (n ≡ 8) → ((4 ≤ n) × (n ≤ 7)) ⊎ (n ≡ 10) → ⊥
-      never (inl h) (inl k) = omega arith
-      never (inl h) (inr k) = omega arith
-      never (inr h) (inl k) = omega arith
-      never (inr h) (inr k) = omega arith
+  -- no payload, and the number that says so is none of a payload's
+  unfound-other : {f : Found} {n : ℕ} → Unfound f n → ((4 ≤ n) × (n ≤ 7)) ⊎ (n ≡ 10) → ⊥
+  unfound-other short (inl k) = omega arith
+  unfound-other short (inr k) = omega arith
+  unfound-other (turned low) (inl k) = omega arith
+  unfound-other (turned low) (inr k) = omega arith
 
-      go : (f : Found) → answerOf setting p f ≡ turnedDown n → f ≡ missing n
-      go (found o part) e = absurd (never which (finish-numbers setting o (commands part) (blank p (o .p2)) n e))
-      go (missing m) e = cc
+  unfound-answer : {f : Found} {n : ℕ} → Unfound f n → answerOf setting p f ≡ turnedDown n
+  unfolding answerOf
+  unfound-answer short = refl
+  unfound-answer (turned low) = refl
+
+  unfound-only : {f : Found} {n : ℕ} → Unfound f n → (g : Found) → findPayload bs ≡ g → answerOf setting p g ≡ turnedDown n → g ≡ f
+  unfolding answerOf payload
+  unfound-only {f} {n} u (found o part) q e = absurd (unfound-other u (finish-numbers setting o (commands part) (blank p (o .p2)) n e))
+  unfound-only short lacking q e = refl
+  unfound-only short (refusedWith m) q e = let number : m ≡ 8 = cc in let range : (2 ≤ m) × (m ≤ 3) = found-numbers q in absurd (omega arith)
+  unfound-only (turned {n} low) lacking q e = let number : 8 ≡ n = cc in absurd (omega arith)
+  unfound-only (turned low) (refusedWith m) q e = cc
+
+  found-down : {f : Found} {n : ℕ} → Unfound f n → (oneShot setting p bs ≡ turnedDown n) ↔ (findPayload bs ≡ f)
+  unfolding oneShot
+  found-down u = (λ e. unfound-only u (findPayload bs) refl e, λ e. ap (answerOf setting p) e ∙ unfound-answer u)
 
   -- 2, 3 and 8 are given exactly when it opens and the header after the first introducer is refused so.
-  pub shot-header : (n : ℕ) → (n ≤ 3) ⊎ (n ≡ 8) → (answer ≡ turnedDown n) ↔ (Openable l stride (length canvas) × (findPayload bs ≡ missing n))
-  shot-header n which =
-      let k = shot-own n (small which) in
-      let f = found-down n which in
-      (λ e. (k .0 e .0, f .0 (k .0 e .1)), λ h. k .1 (h .0, f .1 (h .1)))
+  pub shot-header : {f : Found} {n : ℕ} → Unfound f n → (answer ≡ turnedDown n) ↔ (Openable l stride (length canvas) × (findPayload bs ≡ f))
+  shot-header {f} {n} u =
+      let k = shot-own n (small u) in
+      let h = found-down u in
+      (λ e. (k .0 e .0, h .0 (k .0 e .1)), λ x. k .1 (x .0, h .1 (x .1)))
     where
-      small : (n ≤ 3) ⊎ (n ≡ 8) → ¬ (11 ≡ n)
-      small (inl h) q = omega arith
-      small (inr h) q = omega arith
+      small : {g : Found} {m : ℕ} → Unfound g m → ¬ (11 ≡ m)
+      small short q = omega arith
+      small (turned low) q = omega arith
 
   -- a payload was found, and this is so of it
   abbrev pub Finds : (Parameters → List ℕ → Type 0) → Type 0
@@ -108,14 +116,11 @@ module _ (l : Limits) (stride : ℕ) (p : Palette) (canvas bs : List ℕ) where
       sound : Openable l stride (length canvas) → (o : Parameters) → Sound setting (blank p (o .p2))
       sound h o = blank-sound (opens-roomy l stride (length canvas) (tells-opens l stride (length canvas) .1 h)) p (o .p2)
 
-      high : ((2 ≤ n) × (n ≤ 3)) ⊎ (n ≡ 8) → ⊥
-      high (inl h) = omega arith
-      high (inr h) = omega arith
-
       to : Openable l stride (length canvas) → (f : Found) → findPayload bs ≡ f → answerOf setting p f ≡ turnedDown n
           → Finds (λ o part. (f : Drawing) × RefusedAt setting (commands part) (blank p (o .p2)) f n)
       to h (found o part) q e = (o, part, q, finish-exactly setting o (commands part) (blank p (o .p2)) n (sound h o) .0 e)
-      to h (missing m) q e = let number : m ≡ n = cc in absurd (high (found-numbers (q ∙ ap missing number)))
+      to h lacking q e = let number : 8 ≡ n = cc in absurd (omega arith)
+      to h (refusedWith m) q e = let number : m ≡ n = cc in let low : (2 ≤ m) × (m ≤ 3) = found-numbers q in absurd (omega arith)
 
       from : Openable l stride (length canvas) × Finds (λ o part. (f : Drawing) × RefusedAt setting (commands part) (blank p (o .p2)) f n) → answer ≡ turnedDown n
       from (h, (o, part, q, k)) =
@@ -137,18 +142,30 @@ module _ (l : Limits) (stride : ℕ) (p : Palette) (canvas bs : List ℕ) where
   pub shot-unopened-canvas : answer ≡ turnedDown 11 → outcome .canvas ≡ canvas
   shot-unopened-canvas e = ap (λ (x : Read). x .canvas) (part-unopened l stride p canvas bs (tells-fails (tells-opens l stride (length canvas)) .1 (shot-eleven .0 e)) .1)
 
+  -- what is left then
+  unfound-left : {f : Found} {n : ℕ} → Unfound f n → answer ≡ turnedDown n → (partHandedBack l stride (length canvas) bs ≡ []) × (outcome .canvas ≡ canvas)
+  unfound-left short e =
+      let h = shot-header short .0 e in
+      let left = part-lacking l stride p canvas bs (tells-opens l stride (length canvas) .1 (h .0)) (h .1) in
+      (left .0, ap (λ (x : Read). x .canvas) (left .1))
+  unfound-left (turned low) e =
+      let h = shot-header (turned low) .0 e in
+      let left = part-missing l stride p canvas bs (tells-opens l stride (length canvas) .1 (h .0)) (h .1) in
+      (left .0, ap (λ (x : Read). x .canvas) (left .1))
+
+  header-left : (n : ℕ) → (n ≤ 3) ⊎ (n ≡ 8) → answer ≡ turnedDown n → (partHandedBack l stride (length canvas) bs ≡ []) × (outcome .canvas ≡ canvas)
+  header-left n (inl low) e = unfound-left (turned low) e
+  header-left n (inr eight) e = unfound-left short (e ∙ ap turnedDown eight)
+
   pub shot-header-canvas : (n : ℕ) → (n ≤ 3) ⊎ (n ≡ 8) → answer ≡ turnedDown n → outcome .canvas ≡ canvas
-  shot-header-canvas n which e =
-      let h = shot-header n which .0 e in
-      ap (λ (x : Read). x .canvas) (part-missing l stride p canvas bs (tells-opens l stride (length canvas) .1 (h .0)) (h .1) .1)
+  shot-header-canvas n which e = header-left n which e .1
 
   -- and the part handed back is empty
   pub shot-unopened-part : answer ≡ turnedDown 11 → partHandedBack l stride (length canvas) bs ≡ []
   shot-unopened-part e = part-unopened l stride p canvas bs (tells-fails (tells-opens l stride (length canvas)) .1 (shot-eleven .0 e)) .0
 
   pub shot-header-part : (n : ℕ) → (n ≤ 3) ⊎ (n ≡ 8) → answer ≡ turnedDown n → partHandedBack l stride (length canvas) bs ≡ []
-  shot-header-part n which e =
-      let h = shot-header n which .0 e in part-missing l stride p canvas bs (tells-opens l stride (length canvas) .1 (h .0)) (h .1) .0
+  shot-header-part n which e = header-left n which e .0
 
   -- On 4 to 7 the canvas shows what came before the refused command.
   pub shot-bytes-canvas : (n : ℕ) → (4 ≤ n) × (n ≤ 7) → answer ≡ turnedDown n

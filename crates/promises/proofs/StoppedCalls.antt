@@ -10,9 +10,10 @@ use lib.Dec.{ltb}
 use Rattle.colours.specs.declared.Palette.{Palette}
 use Rattle.canvas.specs.Picture.{Area}
 use Rattle.meaning.specs.Drawing.{Setting}
-use Rattle.meaning.specs.Reader.{Step, How, readAll, stopped, halted, refusedBy, Run, call, CapLaw}
+use Rattle.meaning.specs.Reader.{Step, How, readAll, stopped, halted, refusedBy, Run, call}
 use Rattle.meaning.specs.Sessions.{Reading, rested, payloadStep, Phase, dcsStep, dcsRested}
 use Rattle.meaning.specs.Calls.{Session, stoppedForInk, told, refused, Fed, atEnd, tells, answered, firstOf, misfits, feedRefusal, feed, dcsEnd, feedPayload, feedDcs}
+use Rattle.meaning.proofs.ReaderAsks.{CapLaw}
 use Rattle.meaning.proofs.CallLaws.{call-stops, call-stop-reads}
 use Rattle.meaning.proofs.Demand3.{payload-caps, dcs-caps}
 use Rattle.promises.proofs.RefusedSessions.{payloadArea, dcsArea}

@@ -1,4 +1,9 @@
 // Reads a DCS sequence from standard input and prints its picture, or its refusal. Bytes after the sequence's end are ignored.
+ghost use lib.ListN.{replicate};
+ghost use mathlib.Core.Path.{_≡_};
+ghost use Rattle.colours.specs.Palette.{standard};
+ghost use Rattle.pieces.specs.Pieces.{openedBy};
+ghost use Rattle.sixdump.specs.Taken.{Taken};
 use colours::Palette;
 use dump::outcome::write_outcome;
 use frame::Limits;
@@ -15,7 +20,9 @@ const STRIDE: usize = 128;
 // The longest text: six lines of 127 bytes together, and 128 rows of 128 pixels, nine bytes each.
 const TEXT: usize = 147_583;
 
-fn canvas_room() -> [u8; CANVAS] {
+fn canvas_room() -> [u8; CANVAS]
+    ensures { λ r. ⌜ r ≡ replicate 65536 0 ⌝ }
+{
     [0; CANVAS]
 }
 
@@ -23,7 +30,9 @@ fn text_room() -> [u8; TEXT] {
     [0; TEXT]
 }
 
-fn open() -> Reader {
+fn open() -> Reader
+    ensures { λ r. ⌜ r ≡ openedBy (record { width = 128; height = 128; repeats = 128; pixels = 16384 }) 128 standard 65536 ⌝ }
+{
     let limits = Limits {
         width: 128,
         height: 128,
@@ -46,7 +55,9 @@ struct Turn {
 }
 
 // Reads once and takes what came; nothing comes at the input's end.
-fn next_piece(reader: Reader, canvas: &mut [u8]) -> Turn {
+fn next_piece(reader: Reader, canvas: &mut [u8]) -> Turn
+    ensures { λ r. ⌜ Taken reader (now (canvas .entry)) (r .reader) (now (canvas .exit)) ⌝ }
+{
     let mut buffer = io::buffer();
     let got = libc::read(STDIN_FILENO, &mut buffer);
     let n = io::count(got, &buffer);
@@ -64,7 +75,9 @@ fn next_piece(reader: Reader, canvas: &mut [u8]) -> Turn {
 }
 
 // A proved loop has to end, and nothing says that an input does: the turns are counted down from a number that no run uses up.
-fn read_input(start: Reader, canvas: &mut [u8]) -> Reader {
+fn read_input(start: Reader, canvas: &mut [u8]) -> Reader
+    ensures { λ r. ⌜ Taken start (now (canvas .entry)) r (now (canvas .exit)) ⌝ }
+{
     let mut reader = start;
     let mut turns = u64::MAX;
     while turns > 0 {

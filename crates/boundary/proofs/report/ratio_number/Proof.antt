@@ -1,5 +1,5 @@
 use Rattle.boundary.proofs.ReportLaws.{as-numbers}
-use Rattle.payload.specs.History.{ratioMeant}
+use Rattle.payload.specs.Meant.{ratioMeant}
 use Rattle.boundary.specs.Reading.{ratioNumber}
 use borrow.Author.Needs.{needs}
 use Rattle.boundary.proofs.report.ratio_number.Statement.{statement}

@@ -1,5 +1,5 @@
 use Rattle.boundary.proofs.ReportLaws.{as-numbers}
-use Rattle.oneshot.specs.OneShot.{finishMeant}
+use Rattle.payload.specs.Meant.{finishMeant}
 use Rattle.boundary.specs.Reading.{refusalNumber}
 use borrow.Author.Needs.{needs}
 use Rattle.boundary.proofs.report.refusal_number.Statement.{statement}

@@ -1,5 +1,5 @@
 use Rattle.boundary.proofs.ReportLaws.{reported}
-use Rattle.oneshot.specs.OneShot.{finishMeant}
+use Rattle.payload.specs.Meant.{finishMeant}
 use Rattle.boundary.specs.Reading.{reportNumbers}
 use borrow.Author.Needs.{needs}
 use Rattle.boundary.proofs.report.report_numbers.Statement.{statement}

@@ -3,6 +3,7 @@ use Prim.Native.Nat.{ℕ}
 use mathlib.Core.List.{List, [], _∷_, _++_, map}
 use lib.ListN.{take, drop}
 use Rattle.meaning.specs.Reader.{Step, How, readAll, stopped, halted, refusedBy, Run, still, after, continued, follow, call, Turn, pieceOf, allowanceOf, Caller, turn}
+use Rattle.meaning.specs.Callers.{Ask}
 
 -- an entry of it: a byte, or the mark of a stop for ink
 pub data Item : Type 0 where
@@ -40,11 +41,6 @@ goingOn (refusedBy n) = refusedBy n
 unfoldable pub resumed : {S : Type 0} → Run S → Run S
 unfolding goingOn
 resumed r = record { state = r .state; consumed = r .consumed; ink = r .ink; how = goingOn (r .how) }
-
--- a call of a session: an allowance and any bytes
-pub record Ask : Type 0 where
-  pub allowance : ℕ
-  pub bytes : List ℕ
 
 module _ {S : Type 0} (step : S → ℕ → Step S) (rest : S → S) where
   -- any calls, one after the other until the end or a refusal, with bytes and ink in all

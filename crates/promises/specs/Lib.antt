@@ -1,0 +1,2 @@
+pub mod Readers
+pub mod Sixdump
