@@ -26,7 +26,7 @@ use Rattle.dcs.proofs.Openings.{opened-stands}
 use Rattle.dcs.proofs.History as history
 use Rattle.promises.specs.Readers.{concludedBy, dcsFeed, dcsFinish, dcsLend}
 use Rattle.promises.proofs.Concluding.{concluded-keeps}
-use Rattle.promises.proofs.DcsDemands.{openedMeant}
+use Rattle.promises.proofs.DcsDemands.{held, openedMeant}
 use Rattle.promises.proofs.FailedHistories.{hasEnded, ended-exactly, dcs-failed, dcs-ended, dcs-kept-setting}
 use Rattle.promises.proofs.FirstRefusals.{feed-order, finish-order, early-order}
 use Rattle.promises.proofs.LentCanvases.{dcs-misfits, dcs-lent-answers, dcs-lent-keeps, dcs-lent-finishes}
@@ -39,8 +39,8 @@ use Rattle.promises.proofs.ToldPasts.{told-answers, told-stands}
 module _ (l : Limits) (stride : ℕ) (p : Palette) (opening : List ℕ)
     (opens : calls.opens (limitsMeant l) stride (length opening) ≡ true) (cs : List Ask) (lent : List ℕ) where
   -- what the opening hands back, with the canvas, and what the definition's session has come to
-  abbrev pub first : Held
-  first = (openedBy l stride p (length opening) .session, opening)
+  abbrev first : Held
+  first = held l stride p opening
 
   abbrev past : PastMeant
   past = fedAllMeant p (openedMeant l stride p opening) (length opening) cs

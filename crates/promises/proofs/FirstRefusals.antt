@@ -27,7 +27,7 @@ use Rattle.payload.proofs.History as history
 use Rattle.promises.specs.Readers.{concludedBy, payloadFeed, payloadFinish, payloadLend}
 use Rattle.promises.proofs.Choices.{tells-itself, tells-fails, tells-equal}
 use Rattle.promises.proofs.Concluding.{concluded-keeps}
-use Rattle.promises.proofs.Demands.{openedMeant}
+use Rattle.promises.proofs.Demands.{held, openedMeant}
 use Rattle.promises.proofs.FailedHistories.{payload-failed, payload-kept-setting, payload-kept-length}
 use Rattle.promises.proofs.LentCanvases.{payload-misfits, payload-lent-answers, payload-lent-keeps, payload-lent-finishes}
 use Rattle.promises.proofs.RefusedCalls.{Misfits}
@@ -45,8 +45,8 @@ module _ {H E : Type 0} (feed : Feed H (calls.Answer E)) (lend : H → List ℕ 
   abbrev answers : List (calls.Answer E)
   answers = fedAll feed h cs .answers
 
-  abbrev held : H
-  held = lend (fedAll feed h cs .state) lent
+  abbrev lentTo : H
+  lentTo = lend (fedAll feed h cs .state) lent
 
   has-failed : (m .failed ≡ true) ↔ (haveFailed answers ≡ true)
   has-failed = (λ e. sym failed ∙ e, λ e. failed ∙ e)
@@ -73,11 +73,11 @@ module _ {H E : Type 0} (feed : Feed H (calls.Answer E)) (lend : H → List ℕ 
       (λ h. (has-not .0 (h .0), fitting .0 (h .1 .0), f .0 (h .1 .1)), λ h. (has-not .1 (h .0), (fitting .1 (h .1), f .1 (h .2))))
 
   -- A feed that answers as the definition's does is refused first by 9, 12 and 13, each exactly when document 01 says.
-  pub feed-order : {W : ℕ} → m .setting .limits .width ≡ W → (bs : List ℕ) (a : ℕ) (x : calls.Answer E) → feed held bs a .1 ≡ x
+  pub feed-order : {W : ℕ} → m .setting .limits .width ≡ W → (bs : List ℕ) (a : ℕ) (x : calls.Answer E) → feed lentTo bs a .1 ≡ x
       → (x ≡ calls.refused 9) ↔ (m .failed ≡ true)
       → (x ≡ calls.refused 12) ↔ ((¬ (m .failed ≡ true)) × Misfits areaOf m (length lent))
       → (x ≡ calls.refused 13) ↔ ((¬ (m .failed ≡ true)) × ((¬ Misfits areaOf m (length lent)) × (a < 6 * m .setting .limits .width)))
-      → ((n : ℕ) → 8 ≤ n → x ≡ calls.refused n → feed held bs a .0 ≡ held)
+      → ((n : ℕ) → 8 ≤ n → x ≡ calls.refused n → feed lentTo bs a .0 ≡ lentTo)
       → FeedRefusals feed lend size h cs lent W bs a
   feed-order wide bs a x e k₉ k₁₂ k₁₃ keeps =
       record {
@@ -87,17 +87,17 @@ module _ {H E : Type 0} (feed : Feed H (calls.Answer E)) (lend : H → List ℕ 
         keeps = λ n high q. keeps n high (sym e ∙ q);
       }
     where
-      same : (n : ℕ) → (feed held bs a .1 ≡ calls.refused n) ↔ (x ≡ calls.refused n)
+      same : (n : ℕ) → (feed lentTo bs a .1 ≡ calls.refused n) ↔ (x ≡ calls.refused n)
       same n = (λ q. sym e ∙ q, λ q. e ∙ q)
 
-  module _ (finish : H → Palette → Concluded) (owner : Palette) (x : meant.Finished) (e : finish held owner .answer ≡ x) where
-    down : (n : ℕ) → (finish held owner .answer ≡ meant.turnedDown n) ↔ (x ≡ meant.turnedDown n)
+  module _ (finish : H → Palette → Concluded) (owner : Palette) (x : meant.Finished) (e : finish lentTo owner .answer ≡ x) where
+    down : (n : ℕ) → (finish lentTo owner .answer ≡ meant.turnedDown n) ↔ (x ≡ meant.turnedDown n)
     down n = (λ q. sym e ∙ q, λ q. e ∙ q)
 
     -- A finish that answers as the definition's does is refused first by 9 and 12,
     pub finish-order : (x ≡ meant.turnedDown 9) ↔ (m .failed ≡ true)
         → (x ≡ meant.turnedDown 12) ↔ ((¬ (m .failed ≡ true)) × Misfits areaOf m (length lent))
-        → ((n : ℕ) → finish held owner .answer ≡ meant.turnedDown n → (finish held owner .palette ≡ owner) × (finish held owner .canvas ≡ lent))
+        → ((n : ℕ) → finish lentTo owner .answer ≡ meant.turnedDown n → (finish lentTo owner .palette ≡ owner) × (finish lentTo owner .canvas ≡ lent))
         → FinishRefusals feed lend size h cs lent finish owner
     finish-order k₉ k₁₂ keeps =
         record {
@@ -117,8 +117,8 @@ module _ {H E : Type 0} (feed : Feed H (calls.Answer E)) (lend : H → List ℕ 
 module _ (l : Limits) (stride : ℕ) (o : Settings) (p : Palette) (opening : List ℕ)
     (opens : calls.opens (limitsMeant l) stride (length opening) ≡ true) (cs : List Ask) (lent : List ℕ) where
   -- what the opening hands back, and what the definition's session has come to
-  abbrev pub first : Held
-  first = (openedBy l stride o p opening .0 .session, openedBy l stride o p opening .1)
+  abbrev first : Held
+  first = held l stride o p opening
 
   abbrev past : PastMeant
   past = fedAllMeant (openedMeant l stride o p opening) (length opening) cs

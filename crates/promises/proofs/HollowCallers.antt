@@ -31,13 +31,10 @@ use Rattle.promises.proofs.Alike.{AlikeReaders, all-pieces, ready-alike
 use Rattle.promises.proofs.Concluding.{finishes-concluded}
 use Rattle.promises.proofs.Demands as demands
 use Rattle.promises.proofs.DcsDemands as dcsDemands
+use Rattle.promises.proofs.MemoryReaders.{AnyBytes}
 use Rattle.promises.proofs.Opened.{may-open}
 use Rattle.promises.proofs.Hollow as hollow
 use Rattle.promises.proofs.HollowDcs as hollowDcs
-
--- nothing is asked of the bytes
-abbrev AnyBytes : List ℕ → Type 0
-AnyBytes bs = Unit {0}
 
 -- ---- payload sessions
 

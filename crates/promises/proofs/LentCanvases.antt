@@ -46,7 +46,7 @@ use Rattle.payload.specs.Begin.{begunBy}
 use Rattle.payload.specs.Judge.{feedJudged, finishJudged, finalJudged}
 use Rattle.payload.specs.Session as payload
 use Rattle.payload.specs.History as payloadHistory
-use Rattle.payload.specs.Meant as payloadHistoryMeant
+use Rattle.payload.specs.Meant as payloadMeant
 use Rattle.payload.specs.History.{Stands, Finishes, pictures, declines}
 use Rattle.payload.proofs.Judgements.{judgedMeant, misfit, feed-judged, finish-judged, stands-long, stands-fit}
 use Rattle.payload.proofs.Feedings.{feed-stands}
@@ -61,7 +61,7 @@ use Rattle.dcs.specs.declared.lead.Led.the-variants as leds
 use Rattle.dcs.specs.Lead.{leadFrom}
 use Rattle.dcs.specs.Session as dcs
 use Rattle.dcs.specs.History as dcsHistory
-use Rattle.dcs.specs.Meant as dcsHistoryMeant
+use Rattle.dcs.specs.Meant as dcsMeant
 use Rattle.dcs.proofs.Standing as standing
 use Rattle.payload.specs.Meant.{finishMeant}
 use Rattle.promises.proofs.Choices.{none-some}
@@ -325,14 +325,14 @@ module _ {opening : List ℕ} {s : payloadSession.Session} {l : List ℕ} {m : c
 
   -- A feed's answer is the definition's.
   pub payload-lent-answers : (bs : List ℕ) (a : ℕ)
-      → payloadHistoryMeant.answerMeant (payload.fedBy s lent bs a .0 .answer) ≡ calls.feedPayload m (length lent) a bs .answer
-  unfolding payload.fedBy payload.fedAs payloadHistoryMeant.answerMeant calls.feedPayload calls.feedRefusal calls.firstOf
+      → payloadMeant.answerMeant (payload.fedBy s lent bs a .0 .answer) ≡ calls.feedPayload m (length lent) a bs .answer
+  unfolding payload.fedBy payload.fedAs payloadMeant.answerMeant calls.feedPayload calls.feedRefusal calls.firstOf
   payload-lent-answers bs a =
-      by-judged (feedJudged s (length lent) a) (λ j. payloadHistoryMeant.answerMeant (payload.fedAs j s lent bs a .0 .answer))
+      by-judged (feedJudged s (length lent) a) (λ j. payloadMeant.answerMeant (payload.fedAs j s lent bs a .0 .answer))
       (λ r e. sym (ap (λ (x : calls.Fed Reading ℕ). x .answer) (fed-as payloadArea payloadStep rested (λ x. x .over) m (length lent) a bs (sym same ∙ e))))
       (λ e.
       let fit : length lent ≡ length l = fits-own (passes-twelve (m .failed) (calls.misfits payloadArea m (length lent)) _ (sym same ∙ e)) in
-      ap (λ (x : Fed). payloadHistoryMeant.answerMeant (x .answer)) (payload-fed-alike s bs a lent l fit)
+      ap (λ (x : Fed). payloadMeant.answerMeant (x .answer)) (payload-fed-alike s bs a lent l fit)
       ∙ feed-stands k bs a .answer
       ∙ ap (λ (n : ℕ). calls.feedPayload m n a bs .answer) (sym fit))
     where
@@ -384,14 +384,14 @@ module _ (l : Limits) (stride : ℕ) (p : Palette) (opening : List ℕ) {s : dcs
   dcs-fits-own fit = fits-long dcsArea m (dcs-long l stride p opening k) fit ∙ sym (standing.stands-long l stride p opening k)
 
   -- A feed's answer is the definition's.
-  pub dcs-lent-answers : (bs : List ℕ) (a : ℕ) → dcsHistoryMeant.answerMeant (dcs.fedBy s lent bs a .0 .answer) ≡ calls.feedDcs p m (length lent) a bs .answer
-  unfolding dcs.fedBy dcs.fedAs dcsHistoryMeant.answerMeant calls.feedDcs calls.feedRefusal calls.firstOf
+  pub dcs-lent-answers : (bs : List ℕ) (a : ℕ) → dcsMeant.answerMeant (dcs.fedBy s lent bs a .0 .answer) ≡ calls.feedDcs p m (length lent) a bs .answer
+  unfolding dcs.fedBy dcs.fedAs dcsMeant.answerMeant calls.feedDcs calls.feedRefusal calls.firstOf
   dcs-lent-answers bs a =
-      by-judged (feedJudged (s .payload) (length lent) a) (λ j. dcsHistoryMeant.answerMeant (dcs.fedAs j s lent bs a .0 .answer))
+      by-judged (feedJudged (s .payload) (length lent) a) (λ j. dcsMeant.answerMeant (dcs.fedAs j s lent bs a .0 .answer))
       (λ r e. sym (ap (λ (x : calls.Fed Phase End). x .answer) (fed-as dcsArea (λ t. dcsStep t p) dcsRested calls.dcsEnd m (length lent) a bs (sym same ∙ e))))
       (λ e.
       let fit : length lent ≡ length c = dcs-fits-own (passes-twelve (m .failed) (calls.misfits dcsArea m (length lent)) _ (sym same ∙ e)) in
-      ap (λ (x : dcsFed.Fed). dcsHistoryMeant.answerMeant (x .answer)) (dcs-fed-alike s bs a lent c fit)
+      ap (λ (x : dcsFed.Fed). dcsMeant.answerMeant (x .answer)) (dcs-fed-alike s bs a lent c fit)
       ∙ standing.feed-stands l stride p opening k bs a .answer
       ∙ ap (λ (n : ℕ). calls.feedDcs p m n a bs .answer) (sym fit))
     where
