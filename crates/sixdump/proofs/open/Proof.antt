@@ -18,15 +18,12 @@ opened-as l stride size same e = e ∙ ap (λ (p : Palette). openedBy l stride p
 
 ruleset opened = (opened-as)
 
--- src/main.rt:38:34
 standard-requires : tie.Need-standard-requires
 standard-requires c κs = search needs
 
--- src/main.rt:38:5
 open-requires : tie.Need-open-requires
 open-requires c κs = search needs
 
--- src/main.rt:29:1
 returns : tie.Need-returns
 returns c = search (needs, opened)
 
