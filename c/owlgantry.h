@@ -43,7 +43,7 @@ enum sixel_refusal {
     SIXEL_ROOM = 7,          /* width above the stride or height above the rows */
     SIXEL_UNFINISHED = 8,    /* DCS finished before its end; all at once: introducer but no `q` */
     SIXEL_FAILED = 9,        /* the session has already been refused by 1 to 7 */
-    SIXEL_FINAL_SIZE = 10,   /* at finish, the size exceeds limits or canvas: only a damaged session gives this */
+    SIXEL_FINAL_SIZE = 10,   /* retired: nothing answers it */
     SIXEL_OPENING = 11,      /* an opening number is out of its range, or the canvas has no whole row */
     SIXEL_CANVAS = 12,       /* canvas length differs from the opening's, or the picture does not fit it */
     SIXEL_ALLOWANCE = 13,    /* the allowance is below 6 x the limit of width */

@@ -70,7 +70,7 @@ static void check_feeds(const char *name, kind which) {
 
 static void check_finish(const char *name, kind which) {
     uint64_t answer = finish_one(which);
-    holds(name, "a finish answers 0, 4 to 10 or 12", answer == 0 || (answer >= 4 && answer <= 10) || answer == 12);
+    holds(name, "a finish answers 0, 4 to 9 or 12", answer == 0 || (answer >= 4 && answer <= 9) || answer == 12);
     holds(name, "a refused finish reports zeros", answer == 0 || (report[0] | report[1] | report[6]) == 0);
     for (size_t at = 0; at < SIXEL_SESSION_NUMBERS; at++) {
         same(name, "a number after a finish", numbers[at], 0);
@@ -139,6 +139,29 @@ static void mistake_the_kind(void) {
     check_answers("a DCS session as a payload one", PAYLOAD);
 }
 
+/* A sixel is judged when it is read, and a finish judges no size. Eight columns are read, then number 0, the limit of
+ * width, becomes 4: the finish reports all eight. */
+static void lower_the_limit(kind which, const char *text) {
+    const char *name = which == DCS ? "a DCS session with a lowered limit" : "a payload session with a lowered limit";
+    sixel_session *session = lend(sizeof *session);
+    sixel_canvas eight = fresh_canvas(8, 12);
+    sixel_fed fed;
+    sixel_picture picture;
+    sixel_standard_palette(palette);
+    same(name, "the opening", open_session(which, session, owl_limits(8, 12, 1024, 768), eight, palette), 0);
+    same(name, "the feed", feed_session(which, session, eight, text, strlen(text), SIZE_MAX, &fed), 0);
+    same(name, "the limit of width", session->numbers[0], 8);
+    session->numbers[0] = 4;
+    same(name, "the finish", finish_session(which, session, eight, palette, &picture), 0);
+    same(name, "width", picture.width, 8);
+    same(name, "height", picture.height, 6);
+    same(name, "register 1", palette[1], 0xff0000);
+    for (size_t pixel = 0; pixel < 8 * 6; pixel++) {
+        holds(name, "the picture is red", memcmp(eight.bytes + 4 * pixel, "\xff\0\0\xff", 4) == 0);
+    }
+    holds(name, "nothing else is written", untouched_outside(eight, 8, 6));
+}
+
 void test_damage(void) {
     numbers = lend(8 * SIXEL_SESSION_NUMBERS);
     registers = lend(4 * SIXEL_REGISTERS);
@@ -159,4 +182,6 @@ void test_damage(void) {
     fill_with(PAYLOAD, 1000);
     fill_with(DCS, 1000);
     mistake_the_kind();
+    lower_the_limit(PAYLOAD, "#1;2;100;0;0!8~");
+    lower_the_limit(DCS, "\x90q#1;2;100;0;0!8~\x9c");
 }

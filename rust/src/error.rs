@@ -22,7 +22,7 @@ pub enum Refusal {
     Unfinished = 8,
     /// The session has already been refused by 1 to 7.
     Failed = 9,
-    /// At finish the size exceeds limits or canvas; only a damaged session comes to this.
+    /// Retired: nothing gives it.
     FinalSize = 10,
     /// An opening number is out of its range, or the canvas has no whole row.
     Opening = 11,
@@ -77,7 +77,7 @@ impl Refusal {
             Self::Room => "a size above the canvas",
             Self::Unfinished => "the sequence has no end",
             Self::Failed => "the session was refused before",
-            Self::FinalSize => "a final size above limits or canvas",
+            Self::FinalSize => "a retired number that nothing gives",
             Self::Opening => "an opening number out of its range",
             Self::Canvas => "not the canvas of the opening",
             Self::Allowance => "an allowance below six times the width",

@@ -22,7 +22,7 @@ use Rattle.meaning.specs.Drawing.{Limits, Setting, Drawing, backgroundOf, blank
 use Rattle.meaning.specs.Payload.{Parameters, Ratio, ratioOf, Report, reportOf, Finished, finished, turnedDown, finish}
 use Rattle.meaning.specs.Sessions.{Reading, opened, settled, rested, finishReading}
 use Rattle.meaning.specs.Calls.{ranges, limitsHold, opens, settingFor}
-use Rattle.meaning.proofs.AreaLaws.{both, blank-opens, never-ten}
+use Rattle.meaning.proofs.AreaLaws.{both, blank-opens, outcome-reports}
 use Rattle.agreement.specs.Same.{groundOf, ratioNumber, Rated, frameOf, blankFrame, canvasOf, Bounded, SameDrawing, Same, ratioFrom, reportFrom}
 use Rattle.agreement.proofs.Settle.{same-fact, Settling, settling, refusing, settle-agrees}
 
@@ -99,14 +99,14 @@ settled-finish : {s : Setting} {opening : List ℕ} {r : Reading} {g : Ground} {
 unfolding finishReading rested finish
 settled-finish {s} {opening} {r} {g} {t = t} q (settling e same) =
     let d : SameDrawing s opening (settled s r .drawing) g (t .stepped .frame) (t .palette) (t .canvas) = same .drawing in
-    subst (λ (x : Finished). Finishing s opening r g x t) (sym (never-ten (r .parameters) (d .sound) q)) (reporting e (report-same (r .parameters) d) d)
+    subst (λ (x : Finished). Finishing s opening r g x t) (sym (outcome-reports (r .parameters) (settled s r) q)) (reporting e (report-same (r .parameters) d) d)
 settled-finish {s} {opening} {r} {g} {t = t} q (refusing why n e kept same) =
     subst (λ (x : Finished). Finishing s opening r g x t) (sym (ap turned q)) (declining why n e kept same)
   where
     turned : Option ℕ → Finished
-    turned o = finish s (r .parameters) (record { drawing = settled s r .drawing; refusal = o })
+    turned o = finish (r .parameters) (record { drawing = settled s r .drawing; refusal = o })
 
--- a finish of the code, which ends the pending command, is the definition's; its size is never too large
+-- a finish of the code, which ends the pending command, is the definition's
 pub finish-agrees : {s : Setting} {opening : List ℕ} {r : Reading} {g : Ground} {f : Frame} {p : Palette} {l : List ℕ} → Same s opening r g f p l
     → Finishing s opening r g (finishReading s r) (settledStep f g p l)
 finish-agrees same = settled-finish refl (settle-agrees same)

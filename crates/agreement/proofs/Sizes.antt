@@ -16,7 +16,8 @@ use Rattle.frame.specs.Numbers.{numberOf}
 use Rattle.frame.specs.Sizes.{roomFor, grownArea, rasterArea, sixelArea}
 use Rattle.bytewise.specs.Step.{rowCeiling}
 use Rattle.meaning.specs.Drawing.{Setting, Pen, Drawing, pixelsOf, sizeRefusal}
-use Rattle.meaning.proofs.AreaLaws.{both, cond-case, Allowed, Fits, Sound}
+use Rattle.meaning.specs.Sizes.{Fits}
+use Rattle.meaning.proofs.AreaLaws.{both, cond-case, Allowed, Sound}
 use Rattle.agreement.specs.Same.{groundOf, penOf, sheetOf, Bounded}
 
 -- what a size comes to in the code and in the definition: the area grown to it, where it is allowed, or one refusal

@@ -12,9 +12,10 @@ use Rattle.frame.specs.declared.Limits.{Limits}
 use Rattle.frame.specs.declared.Refusal.{Refusal}
 use Rattle.frame.specs.Numbers.{numberOf}
 use Rattle.meaning.specs.Calls.{settingFor, opens}
-use Rattle.meaning.specs.Drawing.{houseLimits, Setting, Outcome}
+use Rattle.meaning.specs.Drawing.{houseLimits, Setting}
 use Rattle.meaning.specs.Payload as meant
-use Rattle.meaning.proofs.AreaLaws.{cond-case, option-case, Sound, opens-roomy, payload-sound}
+use Rattle.meaning.specs.Sizes.{ReportFits}
+use Rattle.meaning.proofs.AreaLaws.{opens-roomy, payload-sound, outcome-fits}
 use Rattle.payload.specs.declared.Finished.{Finished}
 use Rattle.payload.specs.declared.Finishing.{Finishing}
 use Rattle.payload.specs.declared.Finishing.the-variants.{Picture, Refused}
@@ -47,21 +48,9 @@ pub ruleset numbered = (width-fits, height-fits, picture-number, refused-number)
 
 -- ---- what a finish answers
 
--- a picture no larger than the limits
-abbrev Within : Setting → meant.Finished → Type 0
-Within s (meant.finished r) = (r .size .width ≤ s .limits .width) × (r .size .height ≤ s .limits .height)
-Within s (meant.turnedDown n) = Unit {0}
-
-finish-within : {s : Setting} (o : meant.Parameters) (out : Outcome) → Sound s (out .drawing) → Within s (meant.finish s o out)
-unfolding meant.finish meant.reported meant.reportOf
-finish-within {s} o out h =
-    option-case (Within s) (out .refusal)
-    (λ _. cond-case (Within s) (meant.tooLarge s (out .drawing .area)) (λ _. tt) (λ _. (h .fits .width, h .fits .height)))
-    (λ n _. tt)
-
-within-house : (s : Setting) (a : Finishing) (p : Palette) → s .limits ≡ houseLimits → Within s (finishMeant a p) → SizeWithin a
+within-house : (s : Setting) (a : Finishing) (p : Palette) → s .limits ≡ houseLimits → ReportFits s (finishMeant a p) → SizeWithin a
 unfolding finishMeant reportMeant
-within-house s (Picture r) p e h = (subst (λ l. r .width ≤ l .width) e (h .0), subst (λ l. r .height ≤ l .height) e (h .1))
+within-house s (Picture r) p e h = (subst (λ l. r .width ≤ l .width) e (h .width), subst (λ l. r .height ≤ l .height) e (h .height))
 within-house s (Refused n) p e h = tt
 
 -- ---- the reading
@@ -91,7 +80,7 @@ module _ {t : Bool} (stride : ℕ) (canvas bytes : List ℕ) {l : Limits} (limit
         ∙ ap (λ (y : Limits). readPart (settingMeant y stride (length canvas)) noParameters p canvas bytes) limits
         ∙ ap (λ (y : Palette). readPart setting noParameters y canvas bytes) palette
 
-    answer : finishMeant (x .answer) (x .palette) ≡ meant.finish setting noParameters (meant.payload setting noParameters standard bytes)
+    answer : finishMeant (x .answer) (x .palette) ≡ meant.finish noParameters (meant.payload setting noParameters standard bytes)
     unfolding readMeant readPart readOutcome
     answer = ap (λ (y : Read). y .answer) read
 
@@ -99,7 +88,7 @@ module _ {t : Bool} (stride : ℕ) (canvas bytes : List ℕ) {l : Limits} (limit
     unfolding settingFor
     bench-fits =
         within-house setting (x .answer) (x .palette) refl
-        (subst (Within setting) (sym answer) (finish-within noParameters (meant.payload setting noParameters standard bytes) (payload-sound (opens-roomy houseLimits stride (length canvas) (known ∙ h)) noParameters standard bytes)))
+        (subst (ReportFits setting) (sym answer) (outcome-fits setting noParameters (meant.payload setting noParameters standard bytes) (payload-sound (opens-roomy houseLimits stride (length canvas) (known ∙ h)) noParameters standard bytes)))
 
     pub bench-read : {r : ℕ} → r ≡ sizeOrNumber (finishMeant (x .answer) (x .palette)) → (r, l₁) ≡ benchDecoded stride canvas bytes
     unfolding benchDecoded readMeant readPart readOutcome settingFor

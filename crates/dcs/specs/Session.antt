@@ -203,7 +203,7 @@ unfolding finishedIn
 finishedAs judged.Fine s owner canvas = finishedIn (s .phase) s owner canvas
 finishedAs (judged.Refused n) s owner canvas = payload.turnedAway owner n canvas
 
--- 9, 12, 8, the pending command's refusal, 10
+-- 9, 12, 8, the pending command's refusal
 unfoldable pub finishedBy : Session → Palette → List ℕ → Finished × List ℕ
 unfolding finishedAs
 finishedBy s owner canvas = finishedAs (finishJudged (s .payload) (length canvas)) s owner canvas

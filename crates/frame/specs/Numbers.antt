@@ -1,4 +1,4 @@
--- Document 01's number of each refusal.
+-- Document 01's number of each refusal. 10 is retired: nothing gives it, and the others keep their numbers.
 use Prim.Native.Nat.{ℕ}
 use Rattle.frame.specs.declared.Refusal.{Refusal}
 use Rattle.frame.specs.declared.Refusal.the-variants.{Introducer, HeaderEnded, HeaderByte, Repeat, Size, Pixels, Room, Unfinished, Failed, FinalSize, Opening, Canvas, Allowance, Buffer}

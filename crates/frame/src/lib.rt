@@ -35,6 +35,7 @@ pub enum Refusal {
     Room,
     Unfinished,
     Failed,
+    // Retired: nothing gives it. The case stays so that the others keep their numbers.
     FinalSize,
     Opening,
     Canvas,

@@ -13,6 +13,7 @@ use Rattle.numbers.specs.Values.{decimal, values}
 use Rattle.canvas.specs.Picture.{Stroke, Area, inside, allInside, grownTo, reach}
 use Rattle.meaning.specs.Commands.{repeat, colour, raster, Command, argued, return, line, draw, Placed}
 use Rattle.meaning.specs.Drawing.{Setting, Raster, rasterAfter, Drawing, Drawn, drawn, refused, withPen, withRepeats, repeated, pixelsOf, sizeRefusal, unless, withRaster, stretched, rastered, strokeOf, stroked, sixelled, drawCommand, Outcome, andThen, drawAll}
+use Rattle.meaning.specs.Sizes.{Fits}
 use Rattle.meaning.proofs.Cases.{cond-case, neither-exceeds, both, and-both}
 
 -- ---- commands one after the other
@@ -73,17 +74,7 @@ unless-case P s a w h e stop go =
     let canvas : (w ≤ s .stride) × (h ≤ s .rows) = neither-exceeds _ w _ h seven in
     go (record { width = within .0; height = within .1; pixels = ltb-false _ _ six; stride = canvas .0; rows = canvas .1 })
 
--- an area of at least one pixel that keeps within W, H, M, the stride and the rows
-pub record Fits (s : Setting) (a : Area) : Type 0 where
-  pub wide : 1 ≤ a .width
-  pub tall : 1 ≤ a .height
-  pub width : a .width ≤ s .limits .width
-  pub height : a .height ≤ s .limits .height
-  pub pixels : pixelsOf a ≤ s .limits .pixels
-  pub stride : a .width ≤ s .stride
-  pub rows : a .height ≤ s .rows
-
--- it fits still when it has grown to an allowed size
+-- an area fits still when it has grown to an allowed size
 pub grown-fits : {s : Setting} {a : Area} {w h : ℕ} → Fits s a → Allowed s a w h → Fits s (grownTo a w h)
 unfolding grownTo
 grown-fits f h =

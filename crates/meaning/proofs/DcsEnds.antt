@@ -1,22 +1,21 @@
 -- At the end of a DCS sequence no command is pending: the byte that ended its payload has carried it out. So a finish there reports.
 use Prim.Native.Nat.{ℕ}
 use native.Mathlib.Omega.{arith}
-use mathlib.Core.Path.{_≡_, refl, subst}
-use mathlib.Core.Bool.{true}
-use mathlib.Core.Option.{Option, none, some}
+use mathlib.Core.Path.{_≡_, refl, subst, ap}
+use mathlib.Core.Option.{none}
 use mathlib.Core.List.{List}
 use Rattle.numbers.specs.Bytes.{ends}
 use Rattle.colours.specs.declared.Palette.{Palette}
 use Rattle.meaning.specs.Commands.{Scanned, scanByte}
 use Rattle.meaning.specs.Drawing.{Setting, drawAll}
-use Rattle.meaning.specs.Payload.{finished, reportOf}
-use Rattle.meaning.specs.Reader.{Step, How, readAll, stopped, halted, refusedBy, Run, still, after, call}
+use Rattle.meaning.specs.Payload.{finished, reportOf, finish}
+use Rattle.meaning.specs.Reader.{Step}
 use Rattle.meaning.specs.Sessions.{Reading, opened, settled, rested, endedAt, wentOn, readByte, payloadStep, finishReading, End, Phase, start, introduced, header, within, afterEscape, over, dcsStep, dcsRested}
-use Rattle.meaning.specs.Calls.{Session, Fed, refused, stoppedForInk, atEnd, sessionAfter, tells, answered, feedRefusal, feed, drawingOf, visibleArea, dcsEnd, feedDcs}
+use Rattle.meaning.specs.Calls.{Session, Fed, refused, drawingOf, visibleArea, dcsEnd, feedDcs}
+use Rattle.meaning.specs.Callers.{Ask, fedAll}
 use Rattle.meaning.proofs.Cases.{cond-case, option-case}
-use Rattle.meaning.proofs.CallLaws.{Called, nothing, goes, stops, halts, refuses, called}
+use Rattle.meaning.proofs.KeptLaws.{calls-kept}
 use Rattle.meaning.proofs.PayloadLaws.{settled-none}
-use Rattle.meaning.proofs.AreaLaws.{Sound, never-ten}
 use Rattle.meaning.proofs.StepLaws as does
 use Rattle.meaning.proofs.StepLaws.{OnStep, Leaves, Before, DcsDoes, dcs-does}
 
@@ -80,51 +79,19 @@ module _ (s : Setting) (p : Palette) where
   rested-settled (afterEscape r) q = q
   rested-settled (over e r) q = q
 
-  -- ---- a call
+-- ---- any calls
 
-  called-settled : {a : ℕ} {t : Phase} {bs : List ℕ} {r : Run Phase} → Called (dcsStep s p) (dcsRested s) a t bs r → Settled t → Settled (r .state)
-  unfolding still after
-  called-settled nothing q = q
-  called-settled (goes {b = b} {s = t} e enough later) q = called-settled later (subst (Leaves Settled) e (step-settled b t q))
-  called-settled (stops {s = t} e above) q = rested-settled t q
-  called-settled (halts {b = b} {s = t} e) q = subst (Leaves Settled) e (step-settled b t q)
-  called-settled (refuses {b = b} {s = t} e) q = subst (Leaves Settled) e (step-settled b t q)
-
-abbrev After : Fed Phase End → Type 0
-After x = Settled (x .session .state)
-
-answered-settled : (m : Session Phase) (r : Run Phase) → Settled (r .state) → After (answered dcsEnd m r)
-unfolding answered tells sessionAfter
-answered-settled m r q = go (r .how)
-  where
-    go : (h : How) → After (elim h [
-      | readAll ↦ tells m r (atEnd (dcsEnd (r .state)))
-      | stopped ↦ tells m r stoppedForInk
-      | halted ↦ tells m r (atEnd (dcsEnd (r .state)))
-      | refusedBy n ↦ record { answer = refused n; session = sessionAfter m (r .state) true }
-    ])
-    go readAll = q
-    go stopped = q
-    go halted = q
-    go (refusedBy n) = q
-
--- a call of a session keeps it so, refused or not
-pub feed-settled : (p : Palette) (m : Session Phase) (size allowance : ℕ) (bs : List ℕ) → Settled (m .state)
-    → Settled (feedDcs p m size allowance bs .session .state)
-unfolding feedDcs feed
-feed-settled p m size allowance bs q = go (feedRefusal (λ t. visibleArea (drawingOf t)) m size allowance)
-  where
-    r : Run Phase
-    r = call (dcsStep (m .setting) p) (dcsRested (m .setting)) allowance (m .state) bs
-
-    go : (o : Option ℕ) → After (elim o [ none ↦ answered dcsEnd m r | some n ↦ record { answer = refused n; session = m } ])
-    go none = answered-settled m r (called-settled (m .setting) p (called (dcsStep (m .setting) p) (dcsRested (m .setting)) allowance (m .state) bs) q)
-    go (some n) = q
+-- the calls of a session keep it so, refused or not
+pub calls-settled : (p : Palette) (size : ℕ) (m : Session Phase) (cs : List Ask) → Settled (m .state)
+    → Settled (fedAll (λ t bs a. let x : Fed Phase End = feedDcs p t size a bs in (x .session, x .answer)) m cs .state .state)
+unfolding feedDcs
+calls-settled p size m cs q =
+    calls-kept (λ t. visibleArea (drawingOf t)) (λ x. dcsStep x p) dcsRested dcsEnd (m .setting) Settled
+    (λ t b. step-settled (m .setting) p b t) (rested-settled (m .setting) p) size m cs (refl, q)
+    .1
 
 -- and at the end of a sequence a finish reports
-pub end-reports : (s : Setting) (e : End) (r : Reading) → Sound s (r .drawing) → Settled (over e r)
+pub end-reports : (s : Setting) (e : End) (r : Reading) → Settled (over e r)
     → finishReading s r ≡ finished (reportOf (r .parameters) (r .drawing))
-unfolding finishReading
-end-reports s e r sound q =
-    let out = settled-none s r q in
-    rw out (never-ten {s = s} {out = record { drawing = r .drawing; refusal = none }} (r .parameters) sound refl)
+unfolding finishReading finish
+end-reports s e r q = ap (finish (r .parameters)) (settled-none s r q)

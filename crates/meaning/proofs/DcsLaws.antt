@@ -113,7 +113,7 @@ module _ (s : Setting) (p : Palette) (bs : List ℕ) where
     where
       go : (f : Found) → sequencePayload bs ≡ f → Agrees bs f → oneShot s p bs ≡ turnedDown n
       go (found o part) q same =
-          ap (answerOf s p) same ∙ ap (finish s o) (reading-refused s o p part (sequence-refused-within q r .0))
+          ap (answerOf s p) same ∙ ap (finish o) (reading-refused s o p part (sequence-refused-within q r .0))
       go lacking q same = absurd (read-not-refused (sym (sequence-lacking q .1) ∙ r))
       go (refusedWith m) q same =
           let how : refusedBy m ≡ refusedBy n = sym (sequence-refused-before q .1) ∙ r in

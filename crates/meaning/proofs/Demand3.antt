@@ -73,10 +73,10 @@ module _ (s : Setting) (o : Parameters) (p : Palette) where
   -- so with no refusal, finishing the session answers what the whole payload does
   pub payload-finishes : (A : ℕ) (ts : List Turn) → properPayload s o p A ts ≡ true → (payloadTurns s o p ts .how ≡ stopped → ⊥)
       → isRefused (payloadTurns s o p ts .how) ≡ false
-      → finishReading s (payloadTurns s o p ts .state) ≡ finish s o (payload s o p (stream ts))
+      → finishReading s (payloadTurns s o p ts .state) ≡ finish o (payload s o p (stream ts))
   unfolding ranBy
   payload-finishes A ts ok going =
-      subst (λ (q : Run Reading). isRefused (q .how) ≡ false → finishReading s (q .state) ≡ finish s o (payload s o p (stream ts)))
+      subst (λ (q : Run Reading). isRefused (q .how) ≡ false → finishReading s (q .state) ≡ finish o (payload s o p (stream ts)))
       (payload-whole A ts ok going) (reading-finish s o p (stream ts))
 
   -- and a refusal is the whole payload's, with its drawing

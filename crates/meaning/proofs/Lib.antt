@@ -12,6 +12,8 @@ pub mod ReaderLaws
 pub mod CommandLaws
 pub mod SizeLaws
 pub mod StepLaws
+pub mod KeptLaws
+pub mod SizeHistories
 pub mod AreaLaws
 pub mod SixelLaws
 pub mod InkLaws

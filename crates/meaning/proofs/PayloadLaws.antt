@@ -252,9 +252,9 @@ module _ (s : Setting) (o : Parameters) (p : Palette) (bs : List ℕ) where
   reading-settled going = sym (outcome-settled s readPayload going) ∙ reading-is-payload s o p bs
 
   -- and finishing it answers what finishing the payload does
-  pub reading-finish : isRefused (readPayload .how) ≡ false → finishReading s (readPayload .state) ≡ finish s o (payload s o p bs)
+  pub reading-finish : isRefused (readPayload .how) ≡ false → finishReading s (readPayload .state) ≡ finish o (payload s o p bs)
   unfolding finishReading opened
-  reading-finish going = ap₂ (finish s) (reading-parameters s (opened o p) bs) (reading-settled going)
+  reading-finish going = ap₂ finish (reading-parameters s (opened o p) bs) (reading-settled going)
 
   -- the bytes before the end were read
   pub reading-consumed : isRefused (readPayload .how) ≡ false → readPayload .consumed ≡ length (body bs)

@@ -1,32 +1,24 @@
--- Laws of whole payloads: their drawing keeps within every limit, the extent lies inside the size, and so refusal 10 never comes.
+-- Laws of whole payloads: their drawing keeps within every limit, the extent lies inside the size, and what a finish reports fits.
 use Prim.Native.Nat.{ℕ, _^_, _≤_, max}
 use native.Mathlib.Nat.{le-refl}
 use native.Mathlib.Omega.{arith}
 use mathlib.Core.Path.{_≡_, refl, subst}
-use mathlib.Core.Bool.{true, false, _&&_}
+use mathlib.Core.Bool.{true, _&&_}
 use mathlib.Core.Option.{Option, none}
 use mathlib.Core.List.{List, [], _∷_}
-use borrow.Author.Tests.{leb-true, le-ltb}
+use borrow.Author.Tests.{leb-true}
 use lib.Dec.{leb, eqb}
 use Rattle.colours.specs.declared.Palette.{Palette}
 use Rattle.canvas.specs.Picture.{Stroke, Area, rowsOf, allInside}
-use Rattle.meaning.specs.Commands.{Placed, closed, commands}
+use Rattle.meaning.specs.Commands.{Placed, commands}
 use Rattle.meaning.specs.Drawing.{Limits, Setting, Drawing, blank, pixelsOf, Outcome, drawAll, extentOf, columnsReached, rowsReached}
-use Rattle.meaning.specs.Payload.{Parameters, payload, Finished, finished, turnedDown, reportOf, tooLarge, reported, finish}
-use Rattle.meaning.specs.Sessions.{Reading, settled, finishReading}
+use Rattle.meaning.specs.Payload.{Parameters, payload, Finished, finished, turnedDown, reportOf, finish}
+use Rattle.meaning.specs.Sizes.{Roomy, ReportFits}
 use Rattle.meaning.specs.Calls.{opens, limitsHold, ranges, settingFor}
 use Rattle.meaning.proofs.Cases.{cond-case, option-case, both}
-use Rattle.meaning.proofs.CommandLaws.{Fits, Within, within-of, Sound, drawAll-sound, FourToSeven, drawAll-numbers, all-parts}
+use Rattle.meaning.proofs.CommandLaws.{Within, within-of, Sound, drawAll-sound, FourToSeven, drawAll-numbers, all-parts}
 
 -- ---- a whole payload
-
--- W, H, M, the stride and the rows are at least 1
-pub record Roomy (s : Setting) : Type 0 where
-  pub width : 1 ≤ s .limits .width
-  pub height : 1 ≤ s .limits .height
-  pub pixels : 1 ≤ s .limits .pixels
-  pub stride : 1 ≤ s .stride
-  pub rows : 1 ≤ s .rows
 
 -- a number in a range from 1
 ranges-positive : (most n : ℕ) → ranges most n ≡ true → 1 ≤ n
@@ -127,23 +119,17 @@ extent-inside {d = d} h =
       height = rows-inside (d .area) (d .strokes) (h .fits .tall) (h .strokes);
     }
 
--- ---- refusal 10 never comes
-
--- no test for a size holds of an area that fits
-pub not-too-large : {s : Setting} {a : Area} → Fits s a → tooLarge s a ≡ false
-unfolding tooLarge
-not-too-large h = simp (le-ltb _ _ (h .width), le-ltb _ _ (h .height), le-ltb _ _ (h .pixels), le-ltb _ _ (h .stride), le-ltb _ _ (h .rows))
+-- ---- finishing
 
 -- an outcome with no refusal finishes with a report
-pub never-ten : {s : Setting} {out : Outcome} (o : Parameters) → Sound s (out .drawing) → out .refusal ≡ none
-    → finish s o out ≡ finished (reportOf o (out .drawing))
-unfolding finish reported
-never-ten {s} {out} o h e = rw (e, not-too-large (h .fits)) refl
+pub outcome-reports : (o : Parameters) (out : Outcome) → out .refusal ≡ none → finish o out ≡ finished (reportOf o (out .drawing))
+unfolding finish
+outcome-reports o out e = rw e refl
 
--- so a payload with no refusal has a report, whatever the bytes
-pub payload-reports : {s : Setting} → Roomy s → (o : Parameters) (p : Palette) (bs : List ℕ) → payload s o p bs .refusal ≡ none
-    → finish s o (payload s o p bs) ≡ finished (reportOf o (payload s o p bs .drawing))
-payload-reports r o p bs = never-ten o (payload-sound r o p bs)
+-- and what it reports of a sound drawing fits
+pub outcome-fits : (s : Setting) (o : Parameters) (out : Outcome) → Sound s (out .drawing) → ReportFits s (finish o out)
+unfolding finish reportOf
+outcome-fits s o out h = option-case (ReportFits s) (out .refusal) (λ _. h .fits) (λ n _. tt)
 
 -- a report, or a number of 4 to 7
 abbrev pub ReportOr4To7 : Finished → Type 0
@@ -151,14 +137,7 @@ ReportOr4To7 (finished r) = Unit {0}
 ReportOr4To7 (turnedDown n) = (4 ≤ n) × (n ≤ 7)
 
 -- finishing after any commands answers nothing else
-pub finish-numbers : {s : Setting} {d : Drawing} (o : Parameters) (cs : List Placed) → Sound s d → ReportOr4To7 (finish s o (drawAll s cs d))
-unfolding finish reported
-finish-numbers {s} {d} o cs h =
-    option-case ReportOr4To7 (drawAll s cs d .refusal)
-    (λ _. rw (not-too-large (drawAll-sound cs h .fits)) tt)
-    (λ n e. subst FourToSeven e (drawAll-numbers s cs d))
-
--- nor does finishing a session answer anything else
-pub finish-reading : (s : Setting) (r : Reading) → Sound s (r .drawing) → ReportOr4To7 (finishReading s r)
-unfolding finishReading settled
-finish-reading s r = finish-numbers (r .parameters) (closed (r .begun))
+pub finish-numbers : (s : Setting) (d : Drawing) (o : Parameters) (cs : List Placed) → ReportOr4To7 (finish o (drawAll s cs d))
+unfolding finish
+finish-numbers s d o cs =
+    option-case ReportOr4To7 (drawAll s cs d .refusal) (λ _. tt) (λ n e. subst FourToSeven e (drawAll-numbers s cs d))

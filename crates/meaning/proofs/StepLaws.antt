@@ -15,7 +15,8 @@ use Rattle.meaning.specs.Sessions.{Reading, opened, settled, rested, end
 use Rattle.meaning.specs.Calls.{drawingOf}
 use Rattle.meaning.proofs.Cases.{cond-case, option-case}
 use Rattle.meaning.proofs.CommandLaws.{Sound, Follows, follows-refl, drawAll-follows, drawAll-sound}
-use Rattle.meaning.proofs.SizeLaws.{Roomy, blank-sound}
+use Rattle.meaning.specs.Sizes.{Roomy}
+use Rattle.meaning.proofs.SizeLaws.{blank-sound}
 
 -- ---- a payload, byte by byte
 

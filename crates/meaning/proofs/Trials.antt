@@ -23,7 +23,7 @@ use Rattle.canvas.specs.Picture.{Area, shownColour}
 use Rattle.meaning.specs.Commands as Commands
 use Rattle.meaning.specs.Drawing as Strokes
 use Rattle.meaning.specs.Drawing.{houseLimits, Limits, Setting, Drawing, Outcome, inkOfAll, blank}
-use Rattle.meaning.specs.Payload.{Parameters, Ratio, byRaster, leftToP1, Report, Finished, finished, turnedDown, payload, drawnSoFar, payloadInk, reported, finish}
+use Rattle.meaning.specs.Payload.{Parameters, Ratio, byRaster, leftToP1, Report, Finished, finished, turnedDown, payload, drawnSoFar, payloadInk, reportOf, finish}
 use Rattle.meaning.specs.Reader.{Run, How, readAll, stopped, halted, refusedBy, readFrom, call}
 use Rattle.meaning.specs.Sessions.{Reading, opened, payloadStep, rested, End, complete, cancelled, interrupted, Phase, start, dcsStep, finishDcs}
 use Rattle.meaning.specs.OneShot.{Found, found, lacking, refusedWith, findPayload, partOf, oneShot}
@@ -118,14 +118,14 @@ unfolding resulting
 payloadResult s bs =
     let out : Outcome = payload s noParameters standard bs in
     let run : Run Reading = readFrom (payloadStep s) (opened noParameters standard) bs in
-    resulting (finish s noParameters out) (out .drawing) (run .ink) none (run .consumed) bs
+    resulting (finish noParameters out) (out .drawing) (run .ink) none (run .consumed) bs
 
 -- all of it as a whole
 unfoldable pub payloadMeant : Setting → List ℕ → Result
 unfolding resulting payloadInk Commands.body
 payloadMeant s bs =
     let out : Outcome = payload s noParameters standard bs in
-    resulting (finish s noParameters out) (out .drawing) (payloadInk s noParameters standard bs) none (length (Commands.body bs)) bs
+    resulting (finish noParameters out) (out .drawing) (payloadInk s noParameters standard bs) none (length (Commands.body bs)) bs
 
 -- a drawing, blank where there is none
 unfoldable pub orBlank : Option Drawing → Drawing
@@ -146,17 +146,17 @@ refusedOr (some n) f = turnedDown n
 
 -- what has been drawn of a payload, byte by byte; its size is the visible area then
 unfoldable pub soFarResult : Setting → List ℕ → Result
-unfolding resulting refusalOr reported
+unfolding resulting refusalOr
 soFarResult s bs =
     let run : Run Reading = readFrom (payloadStep s) (opened noParameters standard) bs in
-    resulting (refusalOr (run .how) (reported s noParameters (run .state .drawing))) (run .state .drawing) (run .ink) none (run .consumed) bs
+    resulting (refusalOr (run .how) (finished (reportOf noParameters (run .state .drawing)))) (run .state .drawing) (run .ink) none (run .consumed) bs
 
 -- and as a whole
 unfoldable pub soFarMeant : Setting → List ℕ → Result
 unfolding resulting drawnSoFar Commands.endedCommands Commands.body
 soFarMeant s bs =
     let out : Outcome = drawnSoFar s noParameters standard bs in
-    resulting (finish s noParameters out) (out .drawing) (inkOfAll (out .drawing .strokes)) none (length (Commands.body bs)) bs
+    resulting (finish noParameters out) (out .drawing) (inkOfAll (out .drawing .strokes)) none (length (Commands.body bs)) bs
 
 -- a DCS sequence byte by byte
 unfoldable pub dcsResult : Setting → List ℕ → Result

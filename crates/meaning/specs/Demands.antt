@@ -59,7 +59,7 @@ payloadWhole s o p opening bs =
       ink = payloadInk s o p bs;
       shown = shown (s .stride) (some (drawnSoFar s o p bs .drawing)) opening;
       settled = shown (s .stride) (some (payload s o p bs .drawing)) opening;
-      finish = finish s o (payload s o p bs);
+      finish = finish o (payload s o p bs);
     }
 
 -- of a DCS session

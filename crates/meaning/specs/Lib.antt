@@ -8,3 +8,4 @@ pub mod Sequence
 pub mod Calls
 pub mod Callers
 pub mod Demands
+pub mod Sizes

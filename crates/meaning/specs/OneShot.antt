@@ -43,7 +43,7 @@ partOf (refusedWith n) = []
 
 -- the answer: what finishing the payload gives; 8 where bytes are missing; or the refusal of the header
 unfoldable pub answerOf : Setting → Palette → Found → Finished
-answerOf s p (found o part) = finish s o (payload s o p part)
+answerOf s p (found o part) = finish o (payload s o p part)
 answerOf s p lacking = turnedDown 8
 answerOf s p (refusedWith n) = turnedDown n
 

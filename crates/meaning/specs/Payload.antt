@@ -1,13 +1,12 @@
 -- What a payload means, whole: the drawing of its commands, and what finishing it answers (document 01).
 use Prim.Native.Nat.{ℕ}
-use mathlib.Core.Bool.{Bool, cond, _||_}
+use mathlib.Core.Bool.{Bool}
 use mathlib.Core.Option.{Option, none, some}
 use mathlib.Core.List.{List}
-use lib.Dec.{ltb}
 use Rattle.colours.specs.declared.Palette.{Palette}
 use Rattle.canvas.specs.Picture.{Area}
 use Rattle.meaning.specs.Commands.{commands, endedCommands}
-use Rattle.meaning.specs.Drawing.{Setting, Drawing, Outcome, transparent, blank, drawAll, inkOfAll, extentOf, pixelsOf}
+use Rattle.meaning.specs.Drawing.{Setting, Drawing, Outcome, transparent, blank, drawAll, inkOfAll, extentOf}
 
 -- P1 and P2, each a 16-bit number or none
 pub record Parameters : Type 0 where
@@ -60,19 +59,7 @@ pub data Finished : Type 0 where
   finished : Report → Finished
   turnedDown : ℕ → Finished
 
--- a size that exceeds W, H, M or the canvas
-unfoldable pub tooLarge : Setting → Area → Bool
-tooLarge s a =
-    ltb (s .limits .width) (a .width)
-    || (ltb (s .limits .height) (a .height)
-    || (ltb (s .limits .pixels) (pixelsOf a) || (ltb (s .stride) (a .width) || ltb (s .rows) (a .height))))
-
--- a size that is too large is 10, else there is a report
-unfoldable pub reported : Setting → Parameters → Drawing → Finished
-unfolding tooLarge reportOf
-reported s o d = cond (tooLarge s (d .area)) (turnedDown 10) (finished (reportOf o d))
-
--- the refusal of a command comes before that
-unfoldable pub finish : Setting → Parameters → Outcome → Finished
-unfolding reported
-finish s o out = elim (out .refusal) [ none ↦ reported s o (out .drawing) | some n ↦ turnedDown n ]
+-- a command's refusal, or else a report
+unfoldable pub finish : Parameters → Outcome → Finished
+unfolding reportOf
+finish o out = elim (out .refusal) [ none ↦ finished (reportOf o (out .drawing)) | some n ↦ turnedDown n ]

@@ -70,7 +70,7 @@ payloadStep s r b = elim (r .over) [ none ↦ readByte s r b | some e ↦ halt r
 
 -- finishing carries the pending command out
 unfoldable pub finishReading : Setting → Reading → Finished
-finishReading s r = finish s (r .parameters) (settled s r)
+finishReading s r = finish (r .parameters) (settled s r)
 
 -- what reading some of a payload comes to: the drawing that a refusal left, or else the one with the begun command carried out
 unfoldable pub outcomeOf : Setting → Run Reading → Outcome

@@ -20,7 +20,7 @@ use Rattle.meaning.specs.Drawing.{Setting, Drawing, Outcome, Drawn, drawn, refu
 use Rattle.meaning.specs.Payload as meant
 use Rattle.meaning.specs.Reader.{How, readAll, stopped, halted, refusedBy, Run, after}
 use Rattle.meaning.specs.Sessions.{Reading, opened, settled, finishReading}
-use Rattle.meaning.proofs.AreaLaws.{Sound, drawAll-sound, never-ten}
+use Rattle.meaning.proofs.AreaLaws.{outcome-reports}
 use Rattle.meaning.proofs.PayloadLaws.{readPayload, reading-settled, reading-finish, reading-refused}
 use Rattle.payload.specs.declared.Answer.{Answer}
 use Rattle.payload.specs.declared.Answer.the-variants as answers
@@ -78,19 +78,19 @@ settled-keeps s r = go (r .begun)
     go (some c) h = refused-keeps s (r .drawing) (drawCommand s (argued (c .kind) (c .argument)) (r .drawing)) h
 
 -- so does a finish that is turned down
-declined-keeps : (s : Setting) (r : Reading) {n : ℕ} → Sound s (r .drawing) → finishReading s r ≡ meant.turnedDown n → settled s r .drawing ≡ r .drawing
+declined-keeps : (s : Setting) (r : Reading) {n : ℕ} → finishReading s r ≡ meant.turnedDown n → settled s r .drawing ≡ r .drawing
 unfolding finishReading settled
-declined-keeps s r {n} sound h = go (settled s r .refusal) refl
+declined-keeps s r {n} h = go (settled s r .refusal) refl
   where
     go : (o : Option ℕ) → settled s r .refusal ≡ o → settled s r .drawing ≡ r .drawing
     go none e =
-        let reports : meant.finish s (r .parameters) (settled s r) ≡ meant.finished (meant.reportOf (r .parameters) (settled s r .drawing)) = never-ten {s = s} {out = settled s r} (r .parameters) (drawAll-sound (closed (r .begun)) sound) e in
+        let reports : meant.finish (r .parameters) (settled s r) ≡ meant.finished (meant.reportOf (r .parameters) (settled s r .drawing)) = outcome-reports (r .parameters) (settled s r) e in
         cc
     go (some m) e = settled-keeps s r e
 
 -- the code's finish and the definition's, whose drawing the canvas shows, whether it reports or not
 finishes-read : {shows l : List ℕ} {owner : Palette} {y : Finished × List ℕ} {z : meant.Finished} (s : Setting) (o : meant.Parameters) (opening : List ℕ) (out : Outcome)
-    → Finishes shows owner l y z → z ≡ meant.finish s o out → shows ≡ calls.shown (s .stride) (some (out .drawing)) opening
+    → Finishes shows owner l y z → z ≡ meant.finish o out → shows ≡ calls.shown (s .stride) (some (out .drawing)) opening
     → ((n : ℕ) → z ≡ meant.turnedDown n → l ≡ calls.shown (s .stride) (some (out .drawing)) opening)
     → readMeant (y .0) (y .1) ≡ readOutcome s o owner opening out
 unfolding readMeant finishMeant readOutcome paletteAfter reportMeant
@@ -125,7 +125,7 @@ module _ (s : Setting) (o : meant.Parameters) (p : Palette) (opening part : List
   declined n k =
       stands-shows (c .stands)
       ∙ ap (λ (d : Drawing). calls.shown (s .stride) (some d) opening)
-      (sym (declined-keeps s (readPayload s o p part .state) (c .stands .drawing .sound) (sym finishing ∙ k)) ∙ ap (λ (out : Outcome). out .drawing) settles)
+      (sym (declined-keeps s (readPayload s o p part .state) (sym finishing ∙ k)) ∙ ap (λ (out : Outcome). out .drawing) settles)
 
   finished-part : {r : Finished} {l₁ : List ℕ} → (r, l₁) ≡ finishedBy z p l → readMeant r l₁ ≡ readPart s o p opening part
   unfolding readPart painted-part

@@ -48,7 +48,7 @@ readWhole l stride p canvas bytes =
 unfoldable pub readOutcome : Setting → meant.Parameters → Palette → List ℕ → Outcome → Read
 unfolding paletteAfter
 readOutcome s o p canvas out =
-    let answer : meant.Finished = meant.finish s o out in
+    let answer : meant.Finished = meant.finish o out in
     record { answer = answer; palette = paletteAfter answer p; canvas = shown (s .stride) (some (out .drawing)) canvas }
 
 -- a payload that was found

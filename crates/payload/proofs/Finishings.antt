@@ -1,15 +1,14 @@
 -- A finish of the code is the definition's.
-use Prim.Native.Nat.{ℕ, _-_}
-use mathlib.Core.Bool.{Bool, false, cond}
+use Prim.Native.Nat.{ℕ}
+use mathlib.Core.Bool.{Bool, false}
 use mathlib.Core.List.{List}
 use mathlib.Core.Path.{_≡_, refl, sym, ap, ap₂, _∙_, subst}
 use lib.Dec.{eqb}
 use lib.ListN.{length}
 use Rattle.colours.specs.declared.Palette.{Palette}
-use Rattle.canvas.specs.Picture.{areaOf, fits}
+use Rattle.canvas.specs.Picture.{areaOf}
 use Rattle.canvas.proofs.Covers.{by-test}
 use Rattle.frame.specs.declared.Frame.{Frame}
-use Rattle.frame.specs.declared.Ground.{Ground}
 use Rattle.frame.specs.declared.Outcome.{Outcome}
 use Rattle.frame.specs.declared.Outcome.the-variants as outcomes
 use Rattle.frame.specs.declared.Raster.{Raster}
@@ -17,14 +16,11 @@ use Rattle.frame.specs.declared.Refusal.the-variants as refusals
 use Rattle.frame.specs.Commands.{Ended, ended}
 use Rattle.bytewise.specs.Step.{settledStep}
 use Rattle.meaning.specs.Calls as calls
-use Rattle.meaning.specs.Drawing as drawing
 use Rattle.meaning.specs.Payload as meant
 use Rattle.meaning.specs.Sessions.{Reading, settled, finishReading}
 use Rattle.agreement.specs.Same as same
-use Rattle.meaning.proofs.AreaLaws.{not-too-large}
 use Rattle.meaning.proofs.FeedingLaws.{finished-as}
 use Rattle.agreement.proofs.Feed.{turnedDown}
-use Rattle.agreement.proofs.Settle.{same-fact}
 use Rattle.agreement.proofs.Finish.{Finishing, reporting, declining, finish-agrees}
 use Rattle.payload.specs.declared.Finished.{Finished}
 use Rattle.payload.specs.declared.Finishing.the-variants as finishes
@@ -33,8 +29,8 @@ use Rattle.payload.specs.declared.Session.{Session}
 use Rattle.payload.specs.declared.Settings.{Settings}
 use Rattle.payload.specs.declared.judge.Judged.{Judged}
 use Rattle.payload.specs.declared.judge.Judged.the-variants as judged
-use Rattle.payload.specs.Judge.{isFailed, finishJudged, oversize, finalJudged}
-use Rattle.payload.specs.Session.{ratioFor, reportedAs, turnedAway, pictured, finishedIf, finishedIn, finishedLive, finishedAs, finishedBy}
+use Rattle.payload.specs.Judge.{isFailed, finishJudged}
+use Rattle.payload.specs.Session.{ratioFor, reportedAs, turnedAway, pictured, finishedIn, finishedLive, finishedAs, finishedBy}
 use Rattle.payload.proofs.JudgeLaws.{passes}
 use Rattle.payload.specs.History.{Stands, Finishes, pictures, declines}
 use Rattle.payload.specs.Meant.{givenMeant, parametersMeant, ratioMeant, reportMeant}
@@ -61,14 +57,6 @@ report-meant f o p =
     (ratio-meant (f .raster) (o .p1))
     (clear-meant (o .p2))
 
--- a size that stands for a sound drawing's is not 10
-final-fine : {s : drawing.Setting} {opening : List ℕ} {d : drawing.Drawing} {g : Ground} {f : Frame} {p : Palette} {l : List ℕ} → same.SameDrawing s opening d g f p l
-    → finalJudged (f .sheet) g ≡ judged.Fine
-unfolding finalJudged oversize same.frameOf same.sheetOf same.groundOf meant.tooLarge drawing.pixelsOf
-final-fine h =
-    same-fact (λ g f p l. finalJudged (f .sheet) g ≡ judged.Fine) h
-    (ap (λ (t : Bool). cond t (judged.Refused refusals.FinalSize) judged.Fine) (not-too-large (h .sound .fits)))
-
 module _ {opening : List ℕ} {s : Session} {l : List ℕ} {m : calls.Session Reading} (k : Stands opening s l m) (owner : Palette) where
   -- the pending command's end
   last : Ended
@@ -80,10 +68,9 @@ module _ {opening : List ℕ} {s : Session} {l : List ℕ} {m : calls.Session Re
       (settledStep (s .frame) (s .ground) (s .palette) l .canvas)
       → finishedLive s owner l
       ≡ (record { answer = finishes.Picture (reportedAs (last .stepped .frame) (s .settings)); palette = last .palette }, calls.payloadShownAtFinish m opening)
-  unfolding last finishedLive finishedIn finishedIf pictured settledStep calls.payloadShownAtFinish calls.shown same.canvasOf
+  unfolding last finishedLive finishedIn pictured settledStep calls.payloadShownAtFinish calls.shown same.canvasOf
   live-pictures e d =
       ap (λ (o : Outcome). finishedIn o s owner (last .stepped .frame) (last .palette) l) e
-      ∙ ap (λ (j : Judged). finishedIf j s owner (last .stepped .frame) (last .palette) l) (final-fine d)
       ∙ ap
       (λ (c : List ℕ). (record { answer = finishes.Picture (reportedAs (last .stepped .frame) (s .settings)); palette = last .palette }, c))
       (d .canvas)

@@ -173,28 +173,28 @@ module _ (l : Limits) (stride : ℕ) (o : Settings) (p : Palette) (opening : Lis
 
     -- a finish after calls that were not refused
     finish-there : isRefused (now .how) ≡ false → (owner : Palette) {out : Outcome} → settled setting (there .state) ≡ out
-        → Finishes (shownOf (out .drawing)) owner canvas (finishedBy session owner canvas) (meant.finish setting given out)
+        → Finishes (shownOf (out .drawing)) owner canvas (finishedBy session owner canvas) (meant.finish given out)
     unfolding calls.payloadShownAtFinish settingMeant calls.settingFor finishReading calls.finishPayload
     finish-there fine owner {out} e =
         let m : calls.Session Reading = sessionAt setting (length opening) there in
         let live : isRefused (there .how) ≡ false = fine-there fine in
-        let answer : calls.finishPayload m (length canvas) ≡ meant.finish setting given out =
+        let answer : calls.finishPayload m (length canvas) ≡ meant.finish given out =
         ap (calls.finishPayload m) (stands-long (stood .session))
         ∙ finish-answers (λ (r : Reading). r .drawing .area) finishReading m (length opening) live (stands-fit (stood .session))
-        ∙ ap₂ (meant.finish setting) (stood .parameters) e in
-        subst (λ (x : Outcome). Finishes (shownOf (x .drawing)) owner canvas (finishedBy session owner canvas) (meant.finish setting given out)) e
+        ∙ ap₂ meant.finish (stood .parameters) e in
+        subst (λ (x : Outcome). Finishes (shownOf (x .drawing)) owner canvas (finishedBy session owner canvas) (meant.finish given out)) e
         (subst (Finishes (calls.payloadShownAtFinish m opening) owner canvas (finishedBy session owner canvas)) answer
         (finish-stands (stood .session) owner))
 
     -- A finish then answers what the bytes consumed so far mean, and the canvas shows that.
     pub so-far-finishes : isRefused (now .how) ≡ false → (owner : Palette)
-        → Finishes (shownOf (soFar .drawing)) owner canvas (finishedBy session owner canvas) (meant.finish setting given soFar)
+        → Finishes (shownOf (soFar .drawing)) owner canvas (finishedBy session owner canvas) (meant.finish given soFar)
     so-far-finishes fine owner = finish-there fine owner (so-far-settled fine)
 
     -- Demand 2, and the second sentence of demand 3: unless the last call stopped or was refused, a finish answers what the whole stream means:
     -- size, ratio, background, extent and palette, and every byte of the canvas.
     pub whole-finishes : (now .how ≡ stopped → ⊥) → isRefused (now .how) ≡ false → (owner : Palette)
-        → Finishes (shownOf (whole .drawing)) owner canvas (finishedBy session owner canvas) (meant.finish setting given whole)
+        → Finishes (shownOf (whole .drawing)) owner canvas (finishedBy session owner canvas) (meant.finish given whole)
     unfolding ranBy
     whole-finishes going fine owner =
         finish-there fine owner

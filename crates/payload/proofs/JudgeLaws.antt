@@ -6,25 +6,17 @@ use native.Mathlib.Omega.{arith}
 use borrow.Author.Tests.{lt-ltb, le-ltb, le-leb, lt-leb, eq-eqb, ne-eqb, leb-true, leb-false, eqb-true, not-false}
 use lib.Dec.{leb, ltb, eqb}
 use Rattle.numbers.proofs.Laws.{cond-yes, cond-no}
-use Rattle.canvas.proofs.Covers.{and-left, and-right, or-left, or-right, by-test}
+use Rattle.canvas.proofs.Covers.{and-left, and-right, by-test}
 use Rattle.canvas.specs.Picture.{rowsOf}
 use Rattle.frame.proofs.SizeLaws.{both-first, both-none}
-use Rattle.frame.specs.declared.Ground.{Ground}
 use Rattle.frame.specs.declared.Refusal.{Refusal}
 use Rattle.frame.specs.declared.Refusal.the-variants as refusals
-use Rattle.frame.specs.declared.Sheet.{Sheet}
 use Rattle.bytewise.specs.Step.{Fits}
 use Rattle.payload.specs.declared.Life.{Life}
 use Rattle.payload.specs.declared.Session.{Session}
 use Rattle.payload.specs.declared.judge.Judged.{Judged}
 use Rattle.payload.specs.declared.judge.Judged.the-variants.{Fine, Refused}
-use Rattle.payload.specs.Judge.{inRange, isFailed, fitting, misfitting, feedJudged, finishJudged, oversize, finalJudged, lastJudged}
-use mathlib.Core.List.{[], _∷_}
-use denote.Enum.Declared.{tagOf}
-use types.Run.{OneOf, miss}
-use Rattle.frame.specs.declared.Outcome.{Outcome}
-use Rattle.frame.specs.declared.Outcome.the-variants as outcomes
-use Rattle.frame.proofs.Outcome as OutcomeType
+use Rattle.payload.specs.Judge.{inRange, isFailed, fitting, misfitting, feedJudged, finishJudged}
 
 -- ---- opening
 
@@ -135,59 +127,6 @@ module _ (s : Session) (size allowance : ℕ) {t : Bool} (failed : t ≡ isFaile
 pub ruleset refusing =
     (failed-as, finish-failed, finish-canvas, finish-fine, feed-failed, feed-canvas, feed-allowance, feed-fine)
 
--- ---- 10
-
-module _ (a : Sheet) (g : Ground) where
-  oversized : oversize a g ≡ true → Refused refusals.FinalSize ≡ finalJudged a g
-  unfolding finalJudged
-  oversized h = sym (cond-yes _ _ h)
-
-  pub final-wide : g .limits .width < a .width → Refused refusals.FinalSize ≡ finalJudged a g
-  unfolding oversize
-  final-wide h = oversized (or-left _ _ (lt-ltb _ _ h))
-
-  module _ (w : a .width ≤ g .limits .width) where
-    pub final-high : g .limits .height < a .height → Refused refusals.FinalSize ≡ finalJudged a g
-    unfolding oversize
-    final-high h = oversized (or-right (ltb (g .limits .width) (a .width)) _ (or-left _ _ (lt-ltb _ _ h)))
-
-    module _ {t : Bool} (l : a .height ≤ g .limits .height) (e : t ≡ ltb (g .limits .pixels) (a .width * a .height)) where
-      pub final-pixels : t ≡ true → Refused refusals.FinalSize ≡ finalJudged a g
-      unfolding oversize
-      final-pixels h =
-          oversized
-          (or-right (ltb (g .limits .width) (a .width)) _
-          (or-right (ltb (g .limits .height) (a .height)) _ (or-left _ _ (sym e ∙ h))))
-
-      module _ (m : t ≡ false) where
-        pub final-stride : g .stride < a .width → Refused refusals.FinalSize ≡ finalJudged a g
-        unfolding oversize
-        final-stride h =
-            oversized
-            (or-right (ltb (g .limits .width) (a .width)) _
-            (or-right (ltb (g .limits .height) (a .height)) _
-            (or-right (ltb (g .limits .pixels) (a .width * a .height)) _ (or-left _ _ (lt-ltb _ _ h)))))
-
-        module _ (s : a .width ≤ g .stride) where
-          pub final-rows : g .rows < a .height → Refused refusals.FinalSize ≡ finalJudged a g
-          unfolding oversize
-          final-rows h =
-              oversized
-              (or-right (ltb (g .limits .width) (a .width)) _
-              (or-right (ltb (g .limits .height) (a .height)) _
-              (or-right (ltb (g .limits .pixels) (a .width * a .height)) _
-              (or-right (ltb (g .stride) (a .width)) _ (lt-ltb _ _ h)))))
-
-          pub final-fine : a .height ≤ g .rows → Fine ≡ finalJudged a g
-          unfolding finalJudged oversize
-          final-fine h =
-              sym
-              (rw
-              (le-ltb (g .limits .width) (a .width) w, le-ltb (g .limits .height) (a .height) l, sym e ∙ m, le-ltb (g .stride) (a .width) s, le-ltb (g .rows) (a .height) h)
-              refl)
-
-pub ruleset finals = (final-wide, final-high, final-pixels, final-stride, final-rows, final-fine)
-
 -- ---- what is not refused
 
 -- where a test refuses, what is fine has not met it
@@ -220,20 +159,3 @@ unfolding feedJudged
 feed-fits s size allowance j e =
     fitting-fits s size
     (passes refusals.Canvas (misfitting s size) _ (passes refusals.Failed (isFailed (s .life)) _ (sym j ∙ e) .1) .0)
-
--- ---- the last refusal of a finish
-
-pub last-refused : {o : Outcome} {n : Refusal} (a : Sheet) (g : Ground) → o ≡ outcomes.Refused n → Refused n ≡ lastJudged o a g
-unfolding lastJudged
-last-refused a g e = ap (λ (o : Outcome). lastJudged o a g) (sym e)
-
-pub last-final : {j : Judged} (o : Outcome) (a : Sheet) (g : Ground) → OneOf (0 ∷ 1 ∷ 2 ∷ 3 ∷ []) (tagOf OutcomeType.the-type o) → j ≡ finalJudged a g
-    → j ≡ lastJudged o a g
-unfolding lastJudged
-last-final outcomes.Read a g h e = e
-last-final outcomes.Settled a g h e = e
-last-final outcomes.Stopped a g h e = e
-last-final (outcomes.Ended b) a g h e = e
-last-final (outcomes.Refused n) a g h e = absurd (miss (0 ∷ 1 ∷ 2 ∷ 3 ∷ []) 4 tt h)
-
-pub ruleset lasts = (last-refused, last-final)

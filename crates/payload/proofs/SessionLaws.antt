@@ -47,8 +47,9 @@ use Rattle.payload.specs.declared.Session.{Session}
 use Rattle.payload.specs.declared.Settings.{Settings}
 use Rattle.payload.specs.declared.judge.Judged.{Judged}
 use Rattle.payload.specs.declared.judge.Judged.the-variants as judged
-use Rattle.payload.specs.Judge.{limitsFit, inRange, openable, feedJudged, finishJudged, lastJudged}
-use Rattle.payload.specs.Session.{clearFor, backgroundFor, blankFrame, groundFor, sessionFor, openingFor, firstLife, openedIf, firstPainted, openedBy, sessionWith, answerOf, lifeAfter, answeredIn, answeredBy, fedLive, fedIn, fedAs, fedBy, ratioFor, reportedAs, turnedAway, pictured, finishedIf, finishedIn, finishedLive, finishedAs, finishedBy}
+use Rattle.payload.specs.Judge.{limitsFit, inRange, openable, feedJudged, finishJudged}
+use Rattle.payload.specs.Session.{clearFor, backgroundFor, blankFrame, groundFor, sessionFor, openingFor, firstLife, openedIf, firstPainted, openedBy, sessionWith, answerOf, lifeAfter, answeredIn, answeredBy, fedLive, fedIn, fedAs, fedBy, ratioFor, reportedAs, turnedAway, pictured, finishedIn, finishedLive, finishedAs, finishedBy}
+use Rattle.frame.proofs.Outcome as OutcomeType
 use Rattle.payload.proofs.Life as LifeType
 use Rattle.payload.proofs.JudgeLaws.{feed-fits, finish-fits}
 
@@ -236,44 +237,37 @@ pub reported-as : {r : Ratio} {t : Bool} (f : Frame) (o : Settings) → r ≡ ra
 unfolding reportedAs
 reported-as f o e k = rw (e, k) refl
 
--- the last refusal tells all of the outcome that is left to tell
-last-told : (s : Session) (owner : Palette) (last : Frame) (p : Palette) (canvas : List ℕ) (o : Outcome)
-    → finishedIf (lastJudged o (last .sheet) (s .ground)) s owner last p canvas ≡ finishedIn o s owner last p canvas
-unfolding finishedIn finishedIf lastJudged
-last-told s owner last p canvas outcomes.Read = refl
-last-told s owner last p canvas outcomes.Settled = refl
-last-told s owner last p canvas outcomes.Stopped = refl
-last-told s owner last p canvas (outcomes.Ended b) = refl
-last-told s owner last p canvas (outcomes.Refused n) = refl
+-- an outcome that is no refusal comes to a picture
+not-refused : (s : Session) (owner : Palette) (last : Frame) (p : Palette) (canvas : List ℕ) (o : Outcome)
+    → OneOf (0 ∷ 1 ∷ 2 ∷ 3 ∷ []) (tagOf OutcomeType.the-type o) → pictured s last p canvas ≡ finishedIn o s owner last p canvas
+unfolding finishedIn
+not-refused s owner last p canvas outcomes.Read h = refl
+not-refused s owner last p canvas outcomes.Settled h = refl
+not-refused s owner last p canvas outcomes.Stopped h = refl
+not-refused s owner last p canvas (outcomes.Ended b) h = refl
+not-refused s owner last p canvas (outcomes.Refused n) h = absurd (miss (0 ∷ 1 ∷ 2 ∷ 3 ∷ []) 4 tt h)
 
-module _ (s : Session) (owner : Palette) (canvas : List ℕ) {lent after : Palette} {st : Stepped} {j : Judged} (e : _≡_ {A = Ended} (record { stepped = st; palette = after }) (ended (s .frame) (s .ground) lent)) (t : lent ≡ s .palette) (k : j ≡ lastJudged (st .outcome) (st .frame .sheet) (s .ground)) where
-  same-end : _≡_ {A = Ended} (record { stepped = st; palette = after }) (ended (s .frame) (s .ground) (s .palette))
-  same-end = e ∙ ap (ended (s .frame) (s .ground)) t
-
-  finish-if : finishedIf j s owner (st .frame) after canvas ≡ finishedLive s owner canvas
+module _ (s : Session) (owner : Palette) (canvas : List ℕ) {lent after : Palette} {st : Stepped} (e : _≡_ {A = Ended} (record { stepped = st; palette = after }) (ended (s .frame) (s .ground) lent)) (t : lent ≡ s .palette) where
+  finish-in : finishedIn (st .outcome) s owner (st .frame) after canvas ≡ finishedLive s owner canvas
   unfolding finishedLive
-  finish-if =
-      ap (λ (i : Judged). finishedIf i s owner (st .frame) after canvas) k
-      ∙ last-told s owner (st .frame) after canvas (st .outcome)
-      ∙ ap (λ (d : Ended). finishedIn (d .stepped .outcome) s owner (d .stepped .frame) (d .palette) canvas) same-end
+  finish-in =
+      ap (λ (d : Ended). finishedIn (d .stepped .outcome) s owner (d .stepped .frame) (d .palette) canvas)
+      (e ∙ ap (ended (s .frame) (s .ground)) t)
 
-  pub finish-last : {n : Refusal} {x : Finished} → j ≡ judged.Refused n → x ≡ record { answer = finishes.Refused n; palette = owner }
+  pub finish-last : {n : Refusal} {x : Finished} → st .outcome ≡ outcomes.Refused n → x ≡ record { answer = finishes.Refused n; palette = owner }
       → (x, canvas) ≡ finishedLive s owner canvas
-  unfolding finishedIf turnedAway
+  unfolding finishedIn turnedAway
   finish-last h y =
       ap (λ (z : Finished). (z, canvas)) y
-      ∙ ap (λ (i : Judged). finishedIf i s owner (st .frame) after canvas) (sym h)
-      ∙ finish-if
+      ∙ ap (λ (o : Outcome). finishedIn o s owner (st .frame) after canvas) (sym h)
+      ∙ finish-in
 
-  pub finish-pictured : {later : List ℕ} {rep : Report} {q : Palette} → j ≡ judged.Fine
+  pub finish-pictured : {later : List ℕ} {rep : Report} {q : Palette} → OneOf (0 ∷ 1 ∷ 2 ∷ 3 ∷ []) (tagOf OutcomeType.the-type (st .outcome))
       → later ≡ grown (s .ground .stride) (areaOf (s .frame .sheet .width) (s .frame .sheet .height)) (areaOf (st .frame .sheet .width) (st .frame .sheet .height)) (s .ground .background) canvas
       → rep ≡ reportedAs (st .frame) (s .settings) → q ≡ after
       → _≡_ {A = Finished × List ℕ} (record { answer = finishes.Picture rep; palette = q }, later) (finishedLive s owner canvas)
-  unfolding finishedIf pictured
-  finish-pictured h l r q =
-      rw (l, r, q) refl
-      ∙ ap (λ (i : Judged). finishedIf i s owner (st .frame) after canvas) (sym h)
-      ∙ finish-if
+  unfolding pictured
+  finish-pictured h l r q = rw (l, r, q) refl ∙ not-refused s owner (st .frame) after canvas (st .outcome) h ∙ finish-in
 
 module _ (s : Session) (owner : Palette) (canvas : List ℕ) {j : Judged} (e : j ≡ finishJudged s (length canvas)) where
   pub finish-refused : {n : Refusal} {x : Finished} → j ≡ judged.Refused n → x ≡ record { answer = finishes.Refused n; palette = owner }

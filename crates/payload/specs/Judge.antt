@@ -1,14 +1,10 @@
 -- The refusals before a byte is read, on the code's own records.
 use Prim.Native.Nat.{ℕ, _*_, _^_}
-use mathlib.Core.Bool.{Bool, true, false, cond, not, _&&_, _||_}
+use mathlib.Core.Bool.{Bool, true, false, cond, not, _&&_}
 use lib.Dec.{leb, ltb, eqb}
 use Rattle.canvas.specs.Picture.{rowsOf}
-use Rattle.frame.specs.declared.Ground.{Ground}
 use Rattle.frame.specs.declared.Limits.{Limits}
-use Rattle.frame.specs.declared.Outcome.{Outcome}
-use Rattle.frame.specs.declared.Outcome.the-variants as outcomes
 use Rattle.frame.specs.declared.Refusal.the-variants as refusals
-use Rattle.frame.specs.declared.Sheet.{Sheet}
 use Rattle.payload.specs.declared.Life.{Life}
 use Rattle.payload.specs.declared.Life.the-variants as lives
 use Rattle.payload.specs.declared.Session.{Session}
@@ -59,23 +55,3 @@ feedJudged s length allowance =
     cond (isFailed (s .life)) (Refused refusals.Failed)
     (cond (misfitting s length) (Refused refusals.Canvas)
     (cond (ltb allowance (6 * s .ground .limits .width)) (Refused refusals.Allowance) Fine))
-
--- 10: a size that exceeds W, H, M or the canvas
-unfoldable pub oversize : Sheet → Ground → Bool
-oversize a g =
-    ltb (g .limits .width) (a .width)
-    || (ltb (g .limits .height) (a .height)
-    || (ltb (g .limits .pixels) (a .width * a .height) || (ltb (g .stride) (a .width) || ltb (g .rows) (a .height))))
-
-unfoldable pub finalJudged : Sheet → Ground → Judged
-unfolding oversize
-finalJudged a g = cond (oversize a g) (Refused refusals.FinalSize) Fine
-
--- the pending command's refusal, else 10
-unfoldable pub lastJudged : Outcome → Sheet → Ground → Judged
-unfolding finalJudged
-lastJudged outcomes.Read a g = finalJudged a g
-lastJudged outcomes.Settled a g = finalJudged a g
-lastJudged outcomes.Stopped a g = finalJudged a g
-lastJudged (outcomes.Ended b) a g = finalJudged a g
-lastJudged (outcomes.Refused n) a g = Refused n

@@ -40,7 +40,7 @@ use Rattle.payload.specs.declared.Session.{Session}
 use Rattle.payload.specs.declared.Settings.{Settings}
 use Rattle.payload.specs.declared.judge.Judged.{Judged}
 use Rattle.payload.specs.declared.judge.Judged.the-variants as judged
-use Rattle.payload.specs.Judge.{openable, feedJudged, finishJudged, finalJudged}
+use Rattle.payload.specs.Judge.{openable, feedJudged, finishJudged}
 
 -- ---- opening
 
@@ -185,19 +185,13 @@ pictured s last p canvas = (
       (s .ground .background) canvas,
 )
 
--- 10, judged on the size that the pending command gives and before anything is written
-unfoldable pub finishedIf : Judged → Session → Palette → Frame → Palette → List ℕ → Finished × List ℕ
-unfolding turnedAway pictured
-finishedIf judged.Fine s owner last p canvas = pictured s last p canvas
-finishedIf (judged.Refused n) s owner last p canvas = turnedAway owner n canvas
-
--- the pending command's refusal, then 10
+-- the pending command's refusal
 unfoldable pub finishedIn : Outcome → Session → Palette → Frame → Palette → List ℕ → Finished × List ℕ
-unfolding finishedIf turnedAway
-finishedIn outcomes.Read s owner last p canvas = finishedIf (finalJudged (last .sheet) (s .ground)) s owner last p canvas
-finishedIn outcomes.Settled s owner last p canvas = finishedIf (finalJudged (last .sheet) (s .ground)) s owner last p canvas
-finishedIn outcomes.Stopped s owner last p canvas = finishedIf (finalJudged (last .sheet) (s .ground)) s owner last p canvas
-finishedIn (outcomes.Ended b) s owner last p canvas = finishedIf (finalJudged (last .sheet) (s .ground)) s owner last p canvas
+unfolding turnedAway pictured
+finishedIn outcomes.Read s owner last p canvas = pictured s last p canvas
+finishedIn outcomes.Settled s owner last p canvas = pictured s last p canvas
+finishedIn outcomes.Stopped s owner last p canvas = pictured s last p canvas
+finishedIn (outcomes.Ended b) s owner last p canvas = pictured s last p canvas
 finishedIn (outcomes.Refused n) s owner last p canvas = turnedAway owner n canvas
 
 unfoldable pub finishedLive : Session → Palette → List ℕ → Finished × List ℕ
@@ -211,7 +205,7 @@ unfolding finishedLive turnedAway
 finishedAs judged.Fine s owner canvas = finishedLive s owner canvas
 finishedAs (judged.Refused n) s owner canvas = turnedAway owner n canvas
 
--- 9, 12, the pending command's refusal, 10
+-- 9, 12, the pending command's refusal
 unfoldable pub finishedBy : Session → Palette → List ℕ → Finished × List ℕ
 unfolding finishedAs
 finishedBy s owner canvas = finishedAs (finishJudged s (length canvas)) s owner canvas

@@ -1,14 +1,10 @@
 // The refusals that a session gives before it reads a byte, in document 01's order.
 ghost use mathlib.Core.Path.{_≡_};
-ghost use Rattle.payload.specs.Judge.{inRange, limitsFit, openable, isFailed, misfitting, feedJudged, finishJudged, finalJudged, lastJudged};
+ghost use Rattle.payload.specs.Judge.{inRange, limitsFit, openable, isFailed, misfitting, feedJudged, finishJudged};
 use crate::Life;
 use crate::Session;
-use frame::Ground;
 use frame::Limits;
-use frame::Outcome;
 use frame::Refusal;
-use frame::Sheet;
-use frame::sizes::exceeds;
 
 pub enum Judged {
     Fine,
@@ -114,36 +110,4 @@ pub fn feed_refusal(session: Session, length: usize, allowance: usize) -> Judged
         return Judged::Refused(Refusal::Allowance);
     }
     Judged::Fine
-}
-
-// 10: a size above the limits or the canvas.
-pub fn final_refusal(sheet: Sheet, ground: Ground) -> Judged
-    ensures { λ r. ⌜ r ≡ finalJudged sheet ground ⌝ }
-{
-    if ground.limits.width < sheet.width {
-        return Judged::Refused(Refusal::FinalSize);
-    }
-    if ground.limits.height < sheet.height {
-        return Judged::Refused(Refusal::FinalSize);
-    }
-    if exceeds(sheet.width, sheet.height, ground.limits.pixels) {
-        return Judged::Refused(Refusal::FinalSize);
-    }
-    if ground.stride < sheet.width {
-        return Judged::Refused(Refusal::FinalSize);
-    }
-    if ground.rows < sheet.height {
-        return Judged::Refused(Refusal::FinalSize);
-    }
-    Judged::Fine
-}
-
-// The pending command's refusal, else 10.
-pub(crate) fn last_refusal(outcome: Outcome, sheet: Sheet, ground: Ground) -> Judged
-    ensures { λ r. ⌜ r ≡ lastJudged outcome sheet ground ⌝ }
-{
-    if let Outcome::Refused(refusal) = outcome {
-        return Judged::Refused(refusal);
-    }
-    final_refusal(sheet, ground)
 }

@@ -33,7 +33,6 @@ use frame::commands::end_command;
 use judge::Judged;
 use judge::feed_refusal;
 use judge::finish_refusal;
-use judge::last_refusal;
 use judge::may_open;
 use numbers::Parameters;
 use reading::process;
@@ -436,7 +435,7 @@ fn finish_live(session: Session, owner: Palette, canvas: &mut [u8]) -> Finished
     let ended = end_command(frame, ground, &mut colors);
     let outcome = ended.outcome;
     let last = ended.frame;
-    if let Judged::Refused(refusal) = last_refusal(outcome, last.sheet, ground) {
+    if let Outcome::Refused(refusal) = outcome {
         return refuse_finish(owner, refusal);
     }
     let old = frame.sheet;

@@ -3,12 +3,12 @@ use Prim.Native.Nat.{ℕ, _≤_}
 use native.Mathlib.Omega.{arith}
 use mathlib.Core.Option.{Option, none, some}
 use mathlib.Core.List.{List, _++_}
-use mathlib.Core.Path.{_≡_, refl, sym, ap, _∙_, subst}
+use mathlib.Core.Path.{_≡_, refl, _∙_, subst}
 use borrow.Author.Tests.{le-leb, lt-ltb}
 use lib.ListN.{length, drop}
 use Rattle.numbers.proofs.Laws.{cond-yes}
 use Rattle.canvas.specs.Copy.{hasPicture, packed, sizeOf, copied}
-use Rattle.canvas.specs.Picture.{Area, areaOf, fits}
+use Rattle.canvas.specs.Picture.{Area, fits}
 use Rattle.canvas.proofs.Covers.{and-both}
 use Rattle.canvas.proofs.Pictures.{length-picture}
 use Rattle.colours.specs.declared.Palette.{Palette}
@@ -16,10 +16,10 @@ use Rattle.frame.specs.declared.Refusal.{Refusal}
 use Rattle.frame.specs.Numbers.{numberOf}
 use Rattle.meaning.specs.Calls as calls
 use Rattle.meaning.specs.Drawing.{Setting, Drawing}
-use Rattle.meaning.specs.OneShot.{Found, found, lacking, refusedWith, findPayload, answerOf, oneShot}
+use Rattle.meaning.specs.OneShot.{oneShot}
 use Rattle.meaning.specs.Payload as meant
-use Rattle.meaning.proofs.AreaLaws.{Roomy, payload-sound, payload-reports}
-use Rattle.meaning.proofs.CommandLaws.{Fits}
+use Rattle.meaning.specs.Sizes.{Roomy, Fits, ReportFits}
+use Rattle.meaning.proofs.SizeHistories.{one-shot-reported}
 use Rattle.payload.specs.declared.Finished.{Finished}
 use Rattle.payload.specs.declared.Finishing.the-variants as finishes
 use Rattle.payload.specs.declared.Report.{Report}
@@ -51,24 +51,7 @@ reported (declines n) e = absurd (let never : _≡_ {A = ℕ} 0 1 = cc in omega 
 
 -- a size that is reported has room
 pub report-fits : (s : Setting) (p : Palette) (bs : List ℕ) {r : meant.Report} → Roomy s → oneShot s p bs ≡ meant.finished r → Fits s (r .size)
-unfolding oneShot answerOf meant.reportOf meant.finish
-report-fits s p bs {r} roomy e = go (findPayload bs) e
-  where
-    size : meant.Finished → Area
-    size x = elim x [ meant.finished q ↦ q .size | meant.turnedDown n ↦ areaOf 0 0 ]
-
-    at : (o : meant.Parameters) (part : List ℕ) (refusal : Option ℕ) → meant.payload s o p part .refusal ≡ refusal
-        → meant.finish s o (meant.payload s o p part) ≡ meant.finished r → Fits s (r .size)
-    at o part none q h =
-        subst (Fits s) (ap size (sym (payload-reports roomy o p part q) ∙ h)) (payload-sound roomy o p part .fits)
-    at o part (some n) q h =
-        let down : meant.turnedDown n ≡ meant.finished r = ap (λ (x : Option ℕ). elim x as (λ _. meant.Finished) [ none ↦ meant.reported s o (meant.payload s o p part .drawing) | some m ↦ meant.turnedDown m ]) (sym q) ∙ h in
-        absurd (let never : _≡_ {A = ℕ} 0 1 = cc in omega arith)
-
-    go : (f : Found) → answerOf s p f ≡ meant.finished r → Fits s (r .size)
-    go (found o part) h = at o part (meant.payload s o p part .refusal) refl h
-    go lacking h = absurd (let never : _≡_ {A = ℕ} 0 1 = cc in omega arith)
-    go (refusedWith n) h = absurd (let never : _≡_ {A = ℕ} 0 1 = cc in omega arith)
+report-fits s p bs roomy e = subst (ReportFits s) e (one-shot-reported roomy p bs)
 
 -- and so it is copied without gaps, where the other buffer has room
 pub copy-rows : (s : Setting) {a : Area} (canvas : List ℕ) → Roomy s → Fits s a → s .rows ≡ calls.settingFor (s .limits) (s .stride) (length canvas) .rows

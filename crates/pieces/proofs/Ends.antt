@@ -13,7 +13,7 @@ use Rattle.meaning.specs.Payload as meant
 use Rattle.meaning.specs.Reader.{readAll, stopped, refusedBy, isAll, isRefused, Run, still, after, continued, follow, readFrom, thenRead}
 use Rattle.meaning.specs.Sequence.{sequencePayload, sequenceInk}
 use Rattle.meaning.specs.Sessions.{End, Phase, start, introduced, header, within, afterEscape, over, dcsStep, finishDcs}
-use Rattle.meaning.proofs.AreaLaws.{Roomy, payload-reports}
+use Rattle.meaning.proofs.AreaLaws.{outcome-reports}
 use Rattle.meaning.proofs.Cases.{cond-case}
 use Rattle.meaning.proofs.DcsLaws.{sequence-over, sequence-lacking, sequence-refused-before, sequence-finish, sequence-ink, sequence-refused, sequence-turned-down}
 use Rattle.meaning.proofs.DcsParts.{Agrees, sequence-agrees, before-open, no-end}
@@ -35,10 +35,10 @@ stood-going (standings.Refused n) e = let never : _≡_ {A = ℕ} 0 1 = cc in om
 
 -- ---- at an end there is always a picture
 
-pub ended-reports : (s : Setting) (p : Palette) (bs : List ℕ) {e : End} → Roomy s → calls.dcsEnd (readFrom (dcsStep s p) start bs .state) ≡ some e
+pub ended-reports : (s : Setting) (p : Palette) (bs : List ℕ) {e : End} → calls.dcsEnd (readFrom (dcsStep s p) start bs .state) ≡ some e
     → (r : meant.Report) × (oneShot s p bs ≡ meant.finished r)
 unfolding oneShot answerOf isRefused
-ended-reports s p bs {e} roomy z = go (sequencePayload bs) refl (sequence-agrees bs)
+ended-reports s p bs {e} z = go (sequencePayload bs) refl (sequence-agrees bs)
   where
     go : (f : Found) → sequencePayload bs ≡ f → Agrees bs f → (r : meant.Report) × (oneShot s p bs ≡ meant.finished r)
     go (found o part) q same =
@@ -46,7 +46,7 @@ ended-reports s p bs {e} roomy z = go (sequencePayload bs) refl (sequence-agrees
         let fine : meant.payload s o p part .refusal ≡ none =
         ap (λ (out : Outcome). out .refusal)
         (sym (reading-settled s o p part (ap isRefused (over-there .0))) ∙ settled-none s (readPayload s o p part .state) (halted-settled s o p part (over-there .0))) in
-        (_, ap (answerOf s p) same ∙ payload-reports roomy o p part fine)
+        (_, ap (answerOf s p) same ∙ outcome-reports o (meant.payload s o p part) fine)
     go lacking q same = absurd (no-end (sym (before-open _ (sequence-lacking s p bs q .0)) ∙ z))
     go (refusedWith n) q same = absurd (no-end (sym (before-open _ (sequence-refused-before s p bs q .0)) ∙ z))
 

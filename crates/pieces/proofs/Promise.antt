@@ -22,7 +22,8 @@ use Rattle.meaning.specs.Payload as meant
 use Rattle.meaning.specs.Reader.{readAll, stopped, halted, refusedBy, isRefused, Run, readFrom, Turn, stream, pieces, Caller, ranBy}
 use Rattle.meaning.specs.Sequence.{sequencePayload, sequenceInk}
 use Rattle.meaning.specs.Sessions.{Phase, start, dcsStep}
-use Rattle.meaning.proofs.AreaLaws.{Roomy, opens-roomy}
+use Rattle.meaning.specs.Sizes.{Roomy}
+use Rattle.meaning.proofs.AreaLaws.{opens-roomy}
 use Rattle.meaning.proofs.ToldLaws.{refused-told, told-refusal}
 use Rattle.payload.specs.declared.Finished.{Finished}
 use Rattle.payload.specs.declared.Report.{Report}
@@ -289,7 +290,7 @@ module _ (l : Limits) (stride : ℕ) (p : Palette) (opening : List ℕ) (opens :
 
     -- There is always a picture.
     pub picture-reported : (owner : Palette) → Reported picture (finishedBy reader owner canvas) (oneShot setting p bytes)
-    picture-reported owner = reported (finish-whole owner) (ended-reports setting p bytes roomy end-whole .1)
+    picture-reported owner = reported (finish-whole owner) (ended-reports setting p bytes end-whole .1)
 
     picture-long : length picture ≡ length opening
     unfolding calls.oneShotShown settingMeant

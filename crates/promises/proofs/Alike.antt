@@ -11,6 +11,8 @@ use lib.ListN.{length, take, drop}
 use Rattle.colours.specs.declared.Palette.{Palette}
 use Rattle.meaning.specs.Calls.{Status, Answer, refused}
 use Rattle.meaning.specs.Callers.{Feed, fedAll, howTold, consumedTold, inkTold, statusTold, afterFeed, called, callsOf, lastStatus, properCalls, Ask}
+use Rattle.meaning.specs.Drawing.{Setting}
+use Rattle.meaning.specs.Sizes.{ReportFits, SizesFit}
 use Rattle.meaning.specs.Demands.{Concluded, concluded, Whole, DemandOne, DemandTwo, DemandThree, haveFailed, haveEnded, FeedRefusals, FinishRefusals, FinishedEarly}
 use Rattle.meaning.specs.Payload.{Finished, turnedDown}
 use Rattle.meaning.specs.Reader.{How, stopped, refusedBy, isRefused, Turn, pieceOf, allowanceOf, stream, Caller, ready, mayCall}
@@ -196,6 +198,13 @@ module _ {H K E : Type 0} {f : Feed H (Answer E)} {g : Feed K (Answer E)} {canva
 
     pub three-alike : (W A : ℕ) → DemandThree f meant W A h ts → DemandThree g meant W A k ts
     three-alike W A x = record { calls = x .calls; ink = λ t. after .ink ∙ x .ink (through-there t) }
+
+  -- ---- sizes
+
+  pub sizes-alike : {lend : H → List ℕ → H} {give : K → List ℕ → K} → AlikeLent lend give Alike → (s : Setting) {h : H} {k : K} → Alike h k
+      → (cs : List Ask) → GoodCalls Good cs → SizesFit f lend finish s h cs → SizesFit g give conclude s k cs
+  sizes-alike lends s l cs good x lent owner =
+      subst (ReportFits s) (sym (ap (λ (z : Concluded). z .answer) (both .finished (lends .lent (calls-alike l cs good .1) lent) owner))) (x lent owner)
 
   -- ---- the refusals that come first
 

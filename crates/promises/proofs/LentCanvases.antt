@@ -43,7 +43,7 @@ use Rattle.payload.specs.declared.Settings.{Settings}
 use Rattle.payload.specs.declared.judge.Judged.{Judged}
 use Rattle.payload.specs.declared.judge.Judged.the-variants as judged
 use Rattle.payload.specs.Begin.{begunBy}
-use Rattle.payload.specs.Judge.{feedJudged, finishJudged, finalJudged}
+use Rattle.payload.specs.Judge.{feedJudged, finishJudged}
 use Rattle.payload.specs.Session as payload
 use Rattle.payload.specs.History as payloadHistory
 use Rattle.payload.specs.Meant as payloadMeant
@@ -181,17 +181,12 @@ module _ (s : payloadSession.Session) (bs : List ℕ) (a : ℕ) (l m : List ℕ)
       judged-alike (feedJudged s (length l) a) ∙ ap (λ (n : ℕ). payload.fedAs (feedJudged s n a) s m bs a .0) long
 
 module _ (s : payloadSession.Session) (owner : Palette) (l m : List ℕ) where
-  size-alike : (j : Judged) (last : Frame) (p : Palette) → payload.finishedIf j s owner last p l .0 ≡ payload.finishedIf j s owner last p m .0
-  unfolding payload.finishedIf payload.pictured payload.turnedAway
-  size-alike judged.Fine last p = refl
-  size-alike (judged.Refused n) last p = refl
-
   outcome-alike : (o : Outcome) (last : Frame) (p : Palette) → payload.finishedIn o s owner last p l .0 ≡ payload.finishedIn o s owner last p m .0
-  unfolding payload.finishedIn payload.turnedAway
-  outcome-alike outcomes.Read last p = size-alike (finalJudged (last .sheet) (s .ground)) last p
-  outcome-alike outcomes.Settled last p = size-alike (finalJudged (last .sheet) (s .ground)) last p
-  outcome-alike outcomes.Stopped last p = size-alike (finalJudged (last .sheet) (s .ground)) last p
-  outcome-alike (outcomes.Ended b) last p = size-alike (finalJudged (last .sheet) (s .ground)) last p
+  unfolding payload.finishedIn payload.pictured payload.turnedAway
+  outcome-alike outcomes.Read last p = refl
+  outcome-alike outcomes.Settled last p = refl
+  outcome-alike outcomes.Stopped last p = refl
+  outcome-alike (outcomes.Ended b) last p = refl
   outcome-alike (outcomes.Refused n) last p = refl
 
   end-alike : (j : Judged) → payload.finishedAs j s owner l .0 ≡ payload.finishedAs j s owner m .0

@@ -56,3 +56,7 @@ pub mod HollowCallers
 pub mod SixdumpText
 pub mod SixdumpExample
 pub mod SixdumpLength
+pub mod FinishedSizes
+pub mod AnySession
+pub mod RefusedOnly
+pub mod Retired

@@ -12,8 +12,6 @@ use Rattle.payload.proofs.judge.finish_refusal.Reads as finish-refusal
 use Rattle.payload.proofs.judge.finish_refusal.Kinds as finish-refusal'
 use Rattle.payload.proofs.judge.feed_refusal.Reads as feed-refusal
 use Rattle.payload.proofs.judge.feed_refusal.Kinds as feed-refusal'
-use Rattle.payload.proofs.judge.final_refusal.Reads as final-refusal
-use Rattle.payload.proofs.judge.final_refusal.Kinds as final-refusal'
 use Rattle.payload.proofs.house_limits.Reads as house-limits
 use Rattle.payload.proofs.house_limits.Kinds as house-limits'
 use Rattle.payload.proofs.crate_limits.Reads as crate-limits
@@ -67,9 +65,6 @@ finish-refusal-one κs a z z' e e' p q = only p q
 
 pub feed-refusal-one : One feed-refusal'.ps feed-refusal'.r feed-refusal.Learnt
 feed-refusal-one κs a z z' e e' p q = only p q
-
-pub final-refusal-one : One final-refusal'.ps final-refusal'.r final-refusal.Learnt
-final-refusal-one κs a z z' e e' p q = only p q
 
 pub house-limits-one : One house-limits'.ps house-limits'.r house-limits.Learnt
 house-limits-one κs a z z' e e' p q = only p q

@@ -4,20 +4,19 @@ use mathlib.Core.Bool.{true}
 use mathlib.Core.List.{List, [], _∷_}
 use mathlib.Core.Logic.{_↔_, Iff·trans}
 use mathlib.Core.Option.{Option, none, some}
-use mathlib.Core.Path.{_≡_, ap, subst}
+use mathlib.Core.Path.{_≡_, ap}
 use native.Mathlib.Omega.{arith}
 use lib.ListN.{length}
 use Rattle.colours.specs.declared.Palette.{Palette}
 use Rattle.frame.specs.Numbers.{numberOf}
 use Rattle.frame.specs.declared.Limits.{Limits}
 use Rattle.frame.specs.declared.Refusal.{Refusal}
-use Rattle.frame.specs.declared.Refusal.the-variants.{Repeat, Size, Pixels, Room, FinalSize}
+use Rattle.frame.specs.declared.Refusal.the-variants.{Repeat, Size, Pixels, Room}
 use Rattle.meaning.specs.Calls as calls
 use Rattle.meaning.specs.Commands.{Command, argued, Placed, Begun, closed}
 use Rattle.meaning.specs.Drawing.{Setting, Drawing, Drawn, drawn, refused, drawCommand, Outcome, andThen, drawAll}
 use Rattle.meaning.specs.Payload.{turnedDown}
 use Rattle.meaning.specs.Sessions.{Reading, finishReading, Phase}
-use Rattle.meaning.proofs.AreaLaws.{FourToSeven, drawAll-numbers}
 use Rattle.payload.specs.declared.Finishing.the-variants as finishes
 use Rattle.payload.specs.declared.Session.{Session}
 use Rattle.payload.specs.Session.{finishedBy}
@@ -76,7 +75,7 @@ module _ {opening : List ℕ} {s : Session} {l : List ℕ} {m : calls.Session Re
   ends x P low f =
       let p = pending-refused (m .setting) (m .state .drawing) (numberOf x) P f (m .state .begun) in
       Iff·trans (payload-finish-exactly k owner x)
-      (Iff·trans (payload-finish-pending m (length l) (k .drawing .sound) (numberOf x) (λ q. omega arith) (λ q. omega arith))
+      (Iff·trans (payload-finish-pending m (length l) (numberOf x) (λ q. omega arith) (λ q. omega arith))
       (λ h. (h .0, (h .1 .0, p .0 (h .1 .1))), λ h. (h .0, (h .1 .0, p .1 (h .1 .1)))))
 
   -- 4 to 7 are given exactly when the pending command is refused so.
@@ -95,15 +94,6 @@ module _ {opening : List ℕ} {s : Session} {l : List ℕ} {m : calls.Session Re
   pub payload-end-seven : (finishedBy s owner l .0 .answer ≡ finishes.Refused Room) ↔ Ends (λ c d. Asks (askedSize c d) (SevenNotSix (m .setting) (d .area)))
   unfolding numberOf
   payload-end-seven = ends Room (λ c d. Asks (askedSize c d) (SevenNotSix (m .setting) (d .area))) (omega arith) (seven-exactly (m .setting))
-
-  -- 10 is never given.
-  pub payload-end-never-ten : ¬ (finishedBy s owner l .0 .answer ≡ finishes.Refused FinalSize)
-  unfolding numberOf
-  payload-end-never-ten e =
-      let h = payload-finish-pending m (length l) (k .drawing .sound) 10 (λ q. omega arith) (λ q. omega arith) .0 (payload-finish-exactly k owner FinalSize .0 e) in
-      let out = commands-exactly (m .setting) (closed (m .state .begun)) (m .state .drawing) (h .1 .1 .0) 10 .1 (h .1 .1 .1) in
-      let range : (4 ≤ 10) × (10 ≤ 7) = subst FourToSeven (ap (λ (x : Outcome). x .refusal) out) (drawAll-numbers (m .setting) (closed (m .state .begun)) (m .state .drawing)) in
-      omega arith
 
 -- ---- a DCS session: 9, 12, 8, and then the payload's
 

@@ -1,18 +1,17 @@
--- The refusals of a finish of a payload and of a DCS session, in their order: 9, 12, 8, the pending command's; 10 never comes (document 01,
--- 'Refusal numbers').
+-- The refusals of a finish of a payload and of a DCS session, in their order: 9, 12, 8, the pending command's (document 01, 'Refusal numbers').
 use Prim.Native.Nat.{ℕ, _≤_}
-use mathlib.Core.Bool.{Bool, true, false, cond}
+use mathlib.Core.Bool.{true}
 use mathlib.Core.List.{List}
-use mathlib.Core.Logic.{_↔_, _⊎_, inl, inr}
+use mathlib.Core.Logic.{_↔_}
 use mathlib.Core.Option.{Option, none, some}
 use mathlib.Core.Path.{_≡_, refl, sym, ap, _∙_, subst}
 use native.Mathlib.Omega.{arith}
 use Rattle.meaning.specs.Commands.{Placed, closed}
 use Rattle.meaning.specs.Drawing.{Setting, Drawing, Outcome, drawAll}
-use Rattle.meaning.specs.Payload.{Parameters, Finished, finished, turnedDown, reportOf, tooLarge, reported, finish}
+use Rattle.meaning.specs.Payload.{Parameters, finished, turnedDown, reportOf, finish}
 use Rattle.meaning.specs.Sessions.{Reading, settled, finishReading, End, Phase, start, introduced, header, within, afterEscape, over, finishDcs}
 use Rattle.meaning.specs.Calls.{Session, dcsEnd, finishPayload, finishDcsSession}
-use Rattle.meaning.proofs.AreaLaws.{Sound, drawAll-sound, never-ten, FourToSeven, drawAll-numbers, ReportOr4To7}
+use Rattle.meaning.proofs.AreaLaws.{outcome-reports, ReportOr4To7}
 use Rattle.meaning.proofs.AreaLaws as numbered
 use Rattle.promises.proofs.RefusedCommands.{RefusedAt, commands-exactly}
 use Rattle.promises.proofs.RefusedCalls as any
@@ -20,65 +19,39 @@ use Rattle.promises.proofs.RefusedSessions.{payloadArea, dcsArea}
 
 -- ---- what a state is refused with
 
--- an outcome with no refusal is turned down with 10 alone
-reported-ten : (s : Setting) (o : Parameters) (d : Drawing) {n : ℕ} → reported s o d ≡ turnedDown n → n ≡ 10
-unfolding reported
-reported-ten s o d {n} e = go (tooLarge s (d .area)) e
-  where
-    go : (t : Bool) → cond t (turnedDown 10) (finished (reportOf o d)) ≡ turnedDown n → n ≡ 10
-    go true e = cc
-    go false e = let never : _≡_ {A = ℕ} 0 1 = cc in absurd (omega arith)
-
 -- any commands, then a finish
 module _ (s : Setting) (o : Parameters) (cs : List Placed) (d : Drawing) (n : ℕ) where
   abbrev out : Outcome
   out = drawAll s cs d
 
-  -- it is turned down with 4 to 7, or else with 10
-  pub finish-numbers : finish s o out ≡ turnedDown n → ((4 ≤ n) × (n ≤ 7)) ⊎ (n ≡ 10)
-  unfolding finish
-  finish-numbers e = go (out .refusal) refl e
-    where
-      go : (x : Option ℕ) → out .refusal ≡ x → elim x as (λ _. Finished) [ none ↦ reported s o (out .drawing) | some m ↦ turnedDown m ] ≡ turnedDown n
-          → ((4 ≤ n) × (n ≤ 7)) ⊎ (n ≡ 10)
-      go none q e = inr (reported-ten s o (out .drawing) e)
-      go (some m) q e = let number : m ≡ n = cc in inl (subst FourToSeven (q ∙ ap some number) (drawAll-numbers s cs d))
+  -- it is turned down with 4 to 7
+  pub finish-numbers : finish o out ≡ turnedDown n → (4 ≤ n) × (n ≤ 7)
+  finish-numbers e = subst ReportOr4To7 e (numbered.finish-numbers s d o cs)
 
-  -- Where the drawing is sound, as every one that is reached is, it is turned down exactly when a command is refused.
-  pub finish-exactly : Sound s d → (finish s o out ≡ turnedDown n) ↔ ((f : Drawing) × RefusedAt s cs d f n)
+  -- It is turned down exactly when a command is refused.
+  pub finish-exactly : (finish o out ≡ turnedDown n) ↔ ((f : Drawing) × RefusedAt s cs d f n)
   unfolding finish
-  finish-exactly sound = (λ e. to (out .refusal) refl e, λ h. ap (finish s o) (commands-exactly s cs d (h .0) n .1 (h .1)))
+  finish-exactly = (λ e. to (out .refusal) refl e, λ h. ap (finish o) (commands-exactly s cs d (h .0) n .1 (h .1)))
     where
-      to : (x : Option ℕ) → out .refusal ≡ x → finish s o out ≡ turnedDown n → (f : Drawing) × RefusedAt s cs d f n
+      to : (x : Option ℕ) → out .refusal ≡ x → finish o out ≡ turnedDown n → (f : Drawing) × RefusedAt s cs d f n
       to none q e =
-          let reports : finish s o out ≡ finished (reportOf o (out .drawing)) = never-ten o (drawAll-sound cs sound) q in
+          let reports : finish o out ≡ finished (reportOf o (out .drawing)) = outcome-reports o out q in
           let never : _≡_ {A = ℕ} 0 1 = cc in absurd (omega arith)
       to (some m) q e =
           let known : out ≡ record { drawing = out .drawing; refusal = some m } = ap (λ (x : Option ℕ). record { drawing = out .drawing; refusal = x }) q in
-          let down : turnedDown m ≡ turnedDown n = sym (ap (finish s o) known) ∙ e in
+          let down : turnedDown m ≡ turnedDown n = sym (ap (finish o) known) ∙ e in
           let number : m ≡ n = cc in
           (out .drawing, commands-exactly s cs d (out .drawing) n .0 (known ∙ ap (λ (k : ℕ). record { drawing = out .drawing; refusal = some k }) number))
 
--- 10 is never given.
-pub ten-never : (s : Setting) (o : Parameters) (cs : List Placed) (d : Drawing) → Sound s d → ¬ (finish s o (drawAll s cs d) ≡ turnedDown 10)
-ten-never s o cs d sound e = let range : (4 ≤ 10) × (10 ≤ 7) = subst ReportOr4To7 e (numbered.finish-numbers o cs sound) in omega arith
-
 module _ (s : Setting) (r : Reading) where
   -- A reading is turned down exactly when its pending command is refused.
-  pub pending-exactly : Sound s (r .drawing) → (n : ℕ) → (finishReading s r ≡ turnedDown n) ↔ ((f : Drawing) × RefusedAt s (closed (r .begun)) (r .drawing) f n)
+  pub pending-exactly : (n : ℕ) → (finishReading s r ≡ turnedDown n) ↔ ((f : Drawing) × RefusedAt s (closed (r .begun)) (r .drawing) f n)
   unfolding finishReading settled
-  pending-exactly sound n = finish-exactly s (r .parameters) (closed (r .begun)) (r .drawing) n sound
-
-  reading-numbers : (n : ℕ) → finishReading s r ≡ turnedDown n → ((4 ≤ n) × (n ≤ 7)) ⊎ (n ≡ 10)
-  unfolding finishReading settled
-  reading-numbers n = finish-numbers s (r .parameters) (closed (r .begun)) (r .drawing) n
+  pending-exactly n = finish-exactly s (r .parameters) (closed (r .begun)) (r .drawing) n
 
   reading-neither : (n : ℕ) → finishReading s r ≡ turnedDown n → (¬ (n ≡ 8)) × ((¬ (n ≡ 9)) × (¬ (n ≡ 12)))
-  reading-neither n e = go (reading-numbers n e)
-    where
-      go : ((4 ≤ n) × (n ≤ 7)) ⊎ (n ≡ 10) → (¬ (n ≡ 8)) × ((¬ (n ≡ 9)) × (¬ (n ≡ 12)))
-      go (inl h) = (λ q. omega arith, (λ q. omega arith, λ q. omega arith))
-      go (inr h) = (λ q. omega arith, (λ q. omega arith, λ q. omega arith))
+  unfolding finishReading settled
+  reading-neither n e = let h = finish-numbers s (r .parameters) (closed (r .begun)) (r .drawing) n e in (λ q. omega arith, (λ q. omega arith, λ q. omega arith))
 
 -- before the end 8 is given
 ended-eight : (s : Setting) (t : Phase) → (finishDcs s t ≡ turnedDown 8) ↔ (dcsEnd t ≡ none)
@@ -131,13 +104,13 @@ module _ (m : Session Reading) (length : ℕ) where
   payload-finish-twelve = any.finish-twelve payloadArea m length finishReading (λ n e. reading-neither (m .setting) (m .state) n e .1)
 
   -- 4 to 7, exactly when the pending command is refused so; no other number comes
-  pub payload-finish-pending : Sound (m .setting) (m .state .drawing) → (n : ℕ) → ¬ (n ≡ 9) → ¬ (n ≡ 12)
+  pub payload-finish-pending : (n : ℕ) → ¬ (n ≡ 9) → ¬ (n ≡ 12)
       → (finishPayload m length ≡ turnedDown n)
       ↔ ((¬ (m .failed ≡ true)) × ((¬ any.Misfits payloadArea m length) × ((f : Drawing) × RefusedAt (m .setting) (closed (m .state .begun)) (m .state .drawing) f n)))
   unfolding finishPayload
-  payload-finish-pending sound n a b =
+  payload-finish-pending n a b =
       let k = any.finish-own payloadArea m length finishReading n a b in
-      let p = pending-exactly (m .setting) (m .state) sound n in
+      let p = pending-exactly (m .setting) (m .state) n in
       (λ e. let h = k .0 e in (h .0, (h .1 .0, p .0 (h .1 .1))), λ h. k .1 (h .0, (h .1 .0, p .1 (h .1 .1))))
 
 -- ---- a DCS session: 9, 12, 8, the pending command's

@@ -25,12 +25,13 @@ use Rattle.payload.specs.declared.Finished.{Finished}
 use Rattle.payload.specs.declared.Finishing.the-variants as finishes
 use Rattle.payload.specs.declared.Opened.{Opened}
 use Rattle.payload.specs.declared.Opening.the-variants as openings
+use Rattle.payload.specs.declared.Report.{Report}
 use Rattle.payload.specs.declared.Session.{Session}
 use Rattle.payload.specs.declared.Settings.{Settings}
 use Rattle.payload.specs.declared.judge.Judged.{Judged}
 use Rattle.payload.specs.declared.judge.Judged.the-variants as judged
-use Rattle.payload.specs.Judge.{openable, feedJudged, finishJudged, finalJudged}
-use Rattle.payload.specs.Session.{openedBy, fedAs, fedBy, turnedAway, pictured, finishedIf, finishedIn, finishedLive, finishedAs, finishedBy}
+use Rattle.payload.specs.Judge.{openable, feedJudged, finishJudged}
+use Rattle.payload.specs.Session.{openedBy, fedAs, fedBy, turnedAway, pictured, finishedIn, finishedLive, finishedAs, finishedBy}
 use Rattle.payload.specs.History.{Stands, Opens, isReady, isRefused, Finishes, pictures, declines}
 use Rattle.payload.specs.Meant.{limitsMeant, answerMeant}
 use Rattle.payload.proofs.Openings.{opens-meant, open-stands, open-refused}
@@ -141,19 +142,18 @@ module _ {opening : List ℕ} {s : Session} {l : List ℕ} {m : calls.Session Re
 abbrev pub Untouched : Palette → List ℕ → Finished × List ℕ → Type 0
 Untouched owner canvas y = (x : Refusal) → y .0 .answer ≡ finishes.Refused x → (y .0 .palette ≡ owner) × (y .1 ≡ canvas)
 
-module _ (s : Session) (owner : Palette) (canvas : List ℕ) where
-  judged-keeps : (j : Judged) (last : Frame) (p : Palette) → Untouched owner canvas (finishedIf j s owner last p canvas)
-  unfolding finishedIf pictured turnedAway
-  judged-keeps judged.Fine last p x e = let never : _≡_ {A = ℕ} 0 1 = cc in absurd (omega arith)
-  judged-keeps (judged.Refused n) last p x e = (refl, refl)
+-- a picture is no refusal
+pub picture-not : {r : Report} {x : Refusal} → ¬ (finishes.Picture r ≡ finishes.Refused x)
+picture-not e = let never : _≡_ {A = ℕ} 0 1 = cc in omega arith
 
+module _ (s : Session) (owner : Palette) (canvas : List ℕ) where
   outcome-keeps : (o : Outcome) (last : Frame) (p : Palette) → Untouched owner canvas (finishedIn o s owner last p canvas)
-  unfolding finishedIn turnedAway
-  outcome-keeps outcomes.Read last p = judged-keeps (finalJudged (last .sheet) (s .ground)) last p
-  outcome-keeps outcomes.Settled last p = judged-keeps (finalJudged (last .sheet) (s .ground)) last p
-  outcome-keeps outcomes.Stopped last p = judged-keeps (finalJudged (last .sheet) (s .ground)) last p
-  outcome-keeps (outcomes.Ended b) last p = judged-keeps (finalJudged (last .sheet) (s .ground)) last p
-  outcome-keeps (outcomes.Refused n) last p = λ x e. (refl, refl)
+  unfolding finishedIn pictured turnedAway
+  outcome-keeps outcomes.Read last p x e = absurd (picture-not e)
+  outcome-keeps outcomes.Settled last p x e = absurd (picture-not e)
+  outcome-keeps outcomes.Stopped last p x e = absurd (picture-not e)
+  outcome-keeps (outcomes.Ended b) last p x e = absurd (picture-not e)
+  outcome-keeps (outcomes.Refused n) last p x e = (refl, refl)
 
   finish-keeps : (j : Judged) → Untouched owner canvas (finishedAs j s owner canvas)
   unfolding finishedAs finishedLive turnedAway

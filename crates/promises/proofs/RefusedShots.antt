@@ -15,7 +15,6 @@ use Rattle.meaning.specs.Drawing.{Limits, Setting, Drawing, Outcome, blank}
 use Rattle.meaning.specs.OneShot.{Found, found, lacking, refusedWith, findPayload, answerOf, oneShot}
 use Rattle.meaning.specs.Payload.{Parameters, payload, Finished, turnedDown}
 use Rattle.meaning.specs.Calls.{settingFor, shown, readOneShot, partHandedBack}
-use Rattle.meaning.proofs.AreaLaws.{Sound, opens-roomy, blank-sound}
 use Rattle.payload.specs.declared.Finished as coded
 use Rattle.payload.specs.declared.Finishing.{Finishing}
 use Rattle.payload.specs.declared.Finishing.the-variants as finishes
@@ -38,21 +37,20 @@ module _ (l : Limits) (stride : ℕ) (p : Palette) (canvas bs : List ℕ) where
   answer = readOneShot l stride (length canvas) p bs
 
   -- a header is refused with 2 or 3
-  found-numbers : {n : ℕ} → findPayload bs ≡ refusedWith n → (2 ≤ n) × (n ≤ 3)
+  pub found-numbers : {n : ℕ} → findPayload bs ≡ refusedWith n → (2 ≤ n) × (n ≤ 3)
   found-numbers {n} e = let h = shot-exactly bs (refusedWith n) tt .0 e in header-numbers _ (h .0) (h .2)
 
-  shot-numbers : (n : ℕ) → oneShot setting p bs ≡ turnedDown n → n ≤ 10
+  -- bytes are turned down with 2 to 8
+  shot-numbers : (n : ℕ) → oneShot setting p bs ≡ turnedDown n → (2 ≤ n) × (n ≤ 8)
   unfolding oneShot answerOf payload
   shot-numbers n e = go (findPayload bs) refl e
     where
-      bounded : ((4 ≤ n) × (n ≤ 7)) ⊎ (n ≡ 10) → n ≤ 10
-      bounded (inl h) = omega arith
-      bounded (inr h) = omega arith
-
-      go : (f : Found) → findPayload bs ≡ f → answerOf setting p f ≡ turnedDown n → n ≤ 10
-      go (found o part) q e = bounded (finish-numbers setting o (commands part) (blank p (o .p2)) n e)
-      go lacking q e = let number : 8 ≡ n = cc in omega arith
-      go (refusedWith m) q e = let number : m ≡ n = cc in let range : (2 ≤ m) × (m ≤ 3) = found-numbers q in omega arith
+      go : (f : Found) → findPayload bs ≡ f → answerOf setting p f ≡ turnedDown n → (2 ≤ n) × (n ≤ 8)
+      go (found o part) q e =
+          let range : (4 ≤ n) × (n ≤ 7) = finish-numbers setting o (commands part) (blank p (o .p2)) n e in (omega arith, omega arith)
+      go lacking q e = let number : 8 ≡ n = cc in (omega arith, omega arith)
+      go (refusedWith m) q e =
+          let number : m ≡ n = cc in let range : (2 ≤ m) × (m ≤ 3) = found-numbers q in (omega arith, omega arith)
 
   -- 11 is given exactly when an opening number is out of its range, or there is no whole row.
   pub shot-eleven : (answer ≡ turnedDown 11) ↔ (¬ Openable l stride (length canvas))
@@ -60,7 +58,7 @@ module _ (l : Limits) (stride : ℕ) (p : Palette) (canvas bs : List ℕ) where
   shot-eleven = (λ e. k .0 e .0, λ h. k .1 (h, tt))
     where
       k : (answer ≡ turnedDown 11) ↔ ((¬ Openable l stride (length canvas)) × Unit {0})
-      k = later-case (tells-opens l stride (length canvas)) (λ e. let high : 11 ≤ 10 = shot-numbers 11 e in omega arith) (λ e. tt, λ h. refl)
+      k = later-case (tells-opens l stride (length canvas)) (λ e. let low : (2 ≤ 11) × (11 ≤ 8) = shot-numbers 11 e in omega arith) (λ e. tt, λ h. refl)
 
   -- any other number is what the bytes are turned down with
   shot-own : (n : ℕ) → ¬ (11 ≡ n) → (answer ≡ turnedDown n) ↔ (Openable l stride (length canvas) × (oneShot setting p bs ≡ turnedDown n))
@@ -68,11 +66,9 @@ module _ (l : Limits) (stride : ℕ) (p : Palette) (canvas bs : List ℕ) where
   shot-own n differ = only-case (tells-opens l stride (length canvas)) (λ e. differ (cc)) (λ e. e, λ e. e)
 
   -- no payload, and the number that says so is none of a payload's
-  unfound-other : {f : Found} {n : ℕ} → Unfound f n → ((4 ≤ n) × (n ≤ 7)) ⊎ (n ≡ 10) → ⊥
-  unfound-other short (inl k) = omega arith
-  unfound-other short (inr k) = omega arith
-  unfound-other (turned low) (inl k) = omega arith
-  unfound-other (turned low) (inr k) = omega arith
+  unfound-other : {f : Found} {n : ℕ} → Unfound f n → (4 ≤ n) × (n ≤ 7) → ⊥
+  unfound-other short k = omega arith
+  unfound-other (turned low) k = omega arith
 
   unfound-answer : {f : Found} {n : ℕ} → Unfound f n → answerOf setting p f ≡ turnedDown n
   unfolding answerOf
@@ -111,21 +107,18 @@ module _ (l : Limits) (stride : ℕ) (p : Palette) (canvas bs : List ℕ) where
       → (answer ≡ turnedDown n)
       ↔ (Openable l stride (length canvas) × Finds (λ o part. (f : Drawing) × RefusedAt setting (commands part) (blank p (o .p2)) f n))
   unfolding oneShot answerOf payload
-  shot-bytes n range = (λ e. let h = shot-own n (λ q. omega arith) .0 e in (h .0, to (h .0) (findPayload bs) refl (h .1)), from)
+  shot-bytes n range = (λ e. let h = shot-own n (λ q. omega arith) .0 e in (h .0, to (findPayload bs) refl (h .1)), from)
     where
-      sound : Openable l stride (length canvas) → (o : Parameters) → Sound setting (blank p (o .p2))
-      sound h o = blank-sound (opens-roomy l stride (length canvas) (tells-opens l stride (length canvas) .1 h)) p (o .p2)
-
-      to : Openable l stride (length canvas) → (f : Found) → findPayload bs ≡ f → answerOf setting p f ≡ turnedDown n
+      to : (f : Found) → findPayload bs ≡ f → answerOf setting p f ≡ turnedDown n
           → Finds (λ o part. (f : Drawing) × RefusedAt setting (commands part) (blank p (o .p2)) f n)
-      to h (found o part) q e = (o, part, q, finish-exactly setting o (commands part) (blank p (o .p2)) n (sound h o) .0 e)
-      to h lacking q e = let number : 8 ≡ n = cc in absurd (omega arith)
-      to h (refusedWith m) q e = let number : m ≡ n = cc in let low : (2 ≤ m) × (m ≤ 3) = found-numbers q in absurd (omega arith)
+      to (found o part) q e = (o, part, q, finish-exactly setting o (commands part) (blank p (o .p2)) n .0 e)
+      to lacking q e = let number : 8 ≡ n = cc in absurd (omega arith)
+      to (refusedWith m) q e = let number : m ≡ n = cc in let low : (2 ≤ m) × (m ≤ 3) = found-numbers q in absurd (omega arith)
 
       from : Openable l stride (length canvas) × Finds (λ o part. (f : Drawing) × RefusedAt setting (commands part) (blank p (o .p2)) f n) → answer ≡ turnedDown n
       from (h, (o, part, q, k)) =
           shot-own n (λ q. omega arith) .1
-          (h, ap (answerOf setting p) q ∙ finish-exactly setting o (commands part) (blank p (o .p2)) n (sound h o) .1 k)
+          (h, ap (answerOf setting p) q ∙ finish-exactly setting o (commands part) (blank p (o .p2)) n .1 k)
 
   -- ---- what a refusal leaves
 

@@ -20,13 +20,14 @@ use Rattle.colours.specs.Palette.{standard}
 use Rattle.meaning.specs.Commands.{repeat, colour, raster, Command, argued, return, line, draw, Placed, ofValues, commands}
 use Rattle.meaning.specs.Drawing.{Setting, Raster, Drawing, Drawn, drawn, refused, sizeRefusal, unless, quotient, ratioAfter, rasterAfter, drawCommand, andThen, drawAll, blank}
 use Rattle.meaning.specs.OneShot.{Found, found, lacking, refusedWith, afterIntroducer, headerFrom, findPayload, answerOf, oneShot}
-use Rattle.meaning.specs.Payload.{Parameters, payload, Ratio, byRaster, leftToP1, ratioOf, Report, reportOf, Finished, finished, turnedDown, reported, finish}
+use Rattle.meaning.specs.Payload.{Parameters, payload, Ratio, byRaster, leftToP1, ratioOf, Report, reportOf, Finished, finished, turnedDown, finish}
 use Rattle.meaning.specs.Sessions.{End, complete, cancelled, interrupted, HeaderByte, goesOn, settles, wrong, parametersOf, headerByte}
 use Rattle.meaning.specs.Sequence.{sequencePayload, sequenceFinish}
 use Rattle.meaning.specs.Calls as calls
 use Rattle.meaning.specs.Demands.{Whole, sequenceWhole}
 use Rattle.meaning.proofs.Cases.{cond-case}
-use Rattle.meaning.proofs.AreaLaws.{Roomy, opens-roomy, payload-sound, payload-reports, extent-inside}
+use Rattle.meaning.specs.Sizes.{Roomy}
+use Rattle.meaning.proofs.AreaLaws.{opens-roomy, payload-sound, outcome-reports, extent-inside}
 use Rattle.meaning.proofs.SequenceLaws.{ended-found}
 use Rattle.pieces.specs.declared.Standing.the-variants as standings
 use Rattle.pieces.specs.Pieces.{held}
@@ -291,16 +292,16 @@ unfolding oneShot answerOf finish
 report-small p bs {r} e = go (findPayload bs) (payload-low bs) e
   where
     at : (o : Parameters) (part : List ℕ) → UpTo 65535 (o .p1) → (refusal : Option ℕ) → payload sixdumpSetting o p part .refusal ≡ refusal
-        → finish sixdumpSetting o (payload sixdumpSetting o p part) ≡ finished r → Small r
+        → finish o (payload sixdumpSetting o p part) ≡ finished r → Small r
     at o part low none q h =
         let first : Report = reportOf o (payload sixdumpSetting o p part .drawing) in
-        let same : finished first ≡ finished r = sym (payload-reports roomy o p part q) ∙ h in
+        let same : finished first ≡ finished r = sym (outcome-reports o (payload sixdumpSetting o p part) q) ∙ h in
         subst Small (ap (λ (x : Finished). elim x as (λ _. Report) [ finished a ↦ a | turnedDown n ↦ r ]) same) (drawing-small p o part low)
     at o part low (some n) q h =
         let down : turnedDown n ≡ finished r =
         ap
         (λ (x : Option ℕ).
-        elim x as (λ _. Finished) [ none ↦ reported sixdumpSetting o (payload sixdumpSetting o p part .drawing) | some m ↦ turnedDown m ])
+        elim x as (λ _. Finished) [ none ↦ finished (reportOf o (payload sixdumpSetting o p part .drawing)) | some m ↦ turnedDown m ])
         (sym q)
         ∙ h in
         absurd (let never : _≡_ {A = ℕ} 0 1 = cc in omega arith)

@@ -25,8 +25,8 @@ use Rattle.meaning.specs.Payload as meant
 use Rattle.meaning.specs.Reader.{How, readAll, stopped, halted, refusedBy, isRefused, Run, stream, ranBy}
 use Rattle.meaning.specs.Sequence.{sequencePayload, sequenceEnd, sequenceConsumed, sequenceRefusal, sequenceInk, sequenceFinish}
 use Rattle.meaning.specs.Sessions.{End, Phase, start, dcsStep}
-use Rattle.meaning.proofs.AreaLaws.{Roomy, opens-roomy}
-use Rattle.meaning.proofs.CommandLaws.{Fits}
+use Rattle.meaning.specs.Sizes.{Roomy, Fits}
+use Rattle.meaning.proofs.AreaLaws.{opens-roomy}
 use Rattle.meaning.proofs.DcsLaws.{readSequence, sequence-lacking, sequence-refused-before, sequence-refused-within}
 use Rattle.meaning.proofs.DcsParts.{no-end, before-open}
 use Rattle.meaning.proofs.RunLaws.{ended-prefix}

@@ -10,11 +10,8 @@ table-requires c κs = search needs
 end-command-requires : tie.Need-end-command-requires
 end-command-requires c κs = search needs
 
-last-refusal-requires : tie.Need-last-refusal-requires
-last-refusal-requires c κs = search needs
-
-enum-known-refusal : tie.Need-enum-known-refusal
-enum-known-refusal c = search needs
+enum-known-outcome : tie.Need-enum-known-outcome
+enum-known-outcome c = search needs
 
 refuse-finish-requires : tie.Need-refuse-finish-requires
 refuse-finish-requires c κs = search needs
@@ -22,12 +19,9 @@ refuse-finish-requires c κs = search needs
 returns : tie.Need-returns
 returns c = search (needs, finishings)
 
-enum-told : tie.Need-enum-told
-enum-told c = search needs
-
 grow-requires : tie.Need-grow-requires
 grow-requires c κs =
-    let done = c .before .before .before .before .before .before .before .before in
+    let done = c .before .before .before .before .before .before in
     let start = done .before .before .before .before .before .before .before .before in
     settle-room (start .args .session .frame) (start .args .session .ground) _ _ (start .pre) (done .end-command .ensures)
 
@@ -49,11 +43,9 @@ finish-live-spec =
     (tie.spec
     table-requires
     end-command-requires
-    last-refusal-requires
-    enum-known-refusal
+    enum-known-outcome
     refuse-finish-requires
     returns
-    enum-told
     grow-requires
     report-for-requires
     of-table-requires
