@@ -36,6 +36,18 @@ pub fn growing() -> Vec<(&'static str, [Vec<u8>; 4])> {
     ]
 }
 
+/// Pictures of 16 x 12: what a reading costs before its pixels count, the standard palette among it.
+pub fn small() -> Vec<Input> {
+    let input = |name, payload: &str| Input { name, target: 1.0, chunk: 0, payload: payload.as_bytes().to_vec() };
+    let sixels = |register: usize, pair: &str| format!("#{register}{}", pair.repeat(8));
+    let bands = [sixels(17, "@A") + "$" + &sixels(33, "?@"), sixels(240, "BC") + "$" + &sixels(9, "_o")];
+    vec![
+        input("two colours, with repeats", "\"1;1;16;12#1!16~-#2!16~"),
+        input("four colours, without", &format!("\"1;1;16;12{}", bands.join("-"))),
+        input("two definitions, with repeats", "#1;2;100;0;0#2;2;0;100;0!8~#2!8~-#1!8~#2!8~"),
+    ]
+}
+
 /// A row of register numbers for each row of pixels, in SIXEL: each band its registers in order, `$` between, repeats from four on.
 fn encode(rows: &[Vec<u8>], with_repeats: bool) -> String {
     let mut text = String::new();

@@ -74,6 +74,24 @@ fn compare(rounds: usize, canvas: &mut [u8]) {
     }
 }
 
+/// Small pictures, each read many times over.
+fn many(rounds: usize, canvas: &mut [u8]) {
+    const TIMES: usize = 100_000;
+    println!("{TIMES} pictures of 16 x 12, nanoseconds a picture | bytes | Rust | ours | ours over the Rust");
+    for input in inputs::small() {
+        check(&input, canvas);
+        let (mut theirs, mut mine) = (f64::INFINITY, f64::INFINITY);
+        for _ in 0..rounds {
+            best(&mut theirs, timed(|| (0..TIMES).for_each(|_| drop(std::hint::black_box(rust(&input.payload, 0))))));
+            best(&mut mine, timed(|| (0..TIMES).for_each(|_| {
+                let _ = std::hint::black_box(ours(canvas, &input.payload, 0));
+            })));
+        }
+        let each = |time: f64| time * 1e9 / TIMES as f64;
+        println!("{} | {} | {:.0} | {:.0} | {:.2}", input.name, input.payload.len(), each(theirs), each(mine), theirs / mine);
+    }
+}
+
 /// Ours at 1, 2, 4 and 8 times the size.
 fn grow(rounds: usize, canvas: &mut [u8]) {
     println!("ours at 1, 2, 4 and 8 times the size | 1 | 2 | 4 | 8 | 8 over 1");
@@ -93,6 +111,7 @@ fn main() {
     let mut canvas = vec![0_u8; 4 * STRIDE * ROWS];
     println!("ours: {}; {} rounds, best processor time in microseconds", std::env::var("SIXEL_KIND").unwrap_or_default(), rounds);
     compare(rounds, &mut canvas);
+    many(rounds.min(5), &mut canvas);
     grow(rounds, &mut canvas);
     let memset = (0..rounds).map(|_| timed(|| std::hint::black_box(&mut canvas).fill(7))).fold(f64::INFINITY, f64::min);
     println!("memset of the whole canvas, {} bytes: {}", canvas.len(), microseconds(memset));

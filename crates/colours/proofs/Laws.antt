@@ -1,6 +1,6 @@
 -- Laws of colours: packing and reading back is the identity, and the shifts of the code pack.
 -- Assumes nothing.
-use mathlib.Core.Path.{_≡_, _∙_}
+use mathlib.Core.Path.{_≡_, ap, _∙_}
 use mathlib.Core.List.{List, [], _∷_}
 use Prim.Native.Nat.{ℕ, _+_, _*_, _/_, _%_, _^_, _<_}
 use native.Mathlib.Omega.{arith}
@@ -44,13 +44,18 @@ passed v = toZ w32 (ofZ w32 v)
 pub passed-pos : (v : ℕ) → v < 2 ^ 31 → passed (pos v) ≡ pos v
 passed-pos v h = toZ-ofZ w32 (pos v) (record { sfits = h })
 
+-- the bytes of three percents, as a callee had them, packed
+pub packs : {color red green blue : ℕ} (r g b : ℤ) → SFits w32 r → SFits w32 g → SFits w32 b
+    → red ≡ percentByte (passed r) → green ≡ percentByte (passed g) → blue ≡ percentByte (passed b) → color ≡ packed red green blue
+    → color ≡ packed (percentByte r) (percentByte g) (percentByte b)
+packs r g b fr fg fb er eg eb ec = ec ∙ rw (er, eg, eb, toZ-ofZ w32 r fr, toZ-ofZ w32 g fg, toZ-ofZ w32 b fb)
+
 -- storing what three percents pack to is setting by them
 pub sets-rgb : (p : Palette) (n color red green blue : ℕ) (r g b : ℤ) → SFits w32 r → SFits w32 g → SFits w32 b
     → red ≡ percentByte (passed r) → green ≡ percentByte (passed g) → blue ≡ percentByte (passed b) → color ≡ packed red green blue
     → stored p n color ≡ setRgb p n r g b
 unfolding setRgb
-sets-rgb p n color red green blue r g b fr fg fb er eg eb ec =
-    rw (ec, er, eg, eb, toZ-ofZ w32 r fr, toZ-ofZ w32 g fg, toZ-ofZ w32 b fb)
+sets-rgb p n color red green blue r g b fr fg fb er eg eb ec = ap (stored p n) (packs r g b fr fg fb er eg eb ec)
 
 -- storing what the three bytes of HLS pack to is setting by it
 pub sets-hls : (p : Palette) (n color : ℕ) (rgb : List ℕ) (h l s : ℤ) → SFits w32 h → SFits w32 l → SFits w32 s

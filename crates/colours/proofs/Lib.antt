@@ -1,1 +1,4 @@
 pub mod Laws
+pub mod Filling
+pub mod StandardLaws
+pub mod LegendLaws

@@ -1,3 +1,4 @@
 pub mod Packing
 pub mod Standard
 pub mod Palette
+pub mod Legend

@@ -1,4 +1,4 @@
--- Document 01, Colours: the 256 standard registers by their three rules. The source holds them as numbers.
+-- Document 01, Colours: the 256 standard registers by their three rules.
 -- Assumes nothing.
 use Prim.Native.Nat.{ℕ, zero, suc, _-_, _*_, _/_, _%_}
 use mathlib.Core.List.{List, [], _∷_}

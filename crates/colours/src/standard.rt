@@ -1,268 +1,91 @@
+// The 256 standard registers, worked out from percents by their three rules. Each rule is by itself and its loops are short, since such
+// loops a compiler works out: a palette then costs a reading no more than a copy of 256 numbers.
+use crate::pack_rgb;
 ghost use mathlib.Core.Path.{_≡_};
-ghost use Rattle.colours.specs.Standard.{listed, standardAt};
+ghost use Prim.Native.Nat.{_+_, _≤_};
+ghost use lib.ListN.{length};
+ghost use lib.Seq.{sets};
+ghost use Rattle.colours.specs.Standard.{percents, base, cube, grey, standardAt, listed};
 
-// The standard registers as numbers: 16 of BASE, the cube of 6 x 6 x 6, 24 greys.
-const STANDARD: [u32; 256] = [
-    0x000000,
-    0x3333cc,
-    0xcc2121,
-    0x33cc33,
-    0xcc33cc,
-    0x33cccc,
-    0xcccc33,
-    0x878787,
-    0x424242,
-    0x545499,
-    0x994242,
-    0x549954,
-    0x995499,
-    0x549999,
-    0x999954,
-    0xcccccc,
-    0x000000,
-    0x000033,
-    0x000066,
-    0x000099,
-    0x0000cc,
-    0x0000ff,
-    0x003300,
-    0x003333,
-    0x003366,
-    0x003399,
-    0x0033cc,
-    0x0033ff,
-    0x006600,
-    0x006633,
-    0x006666,
-    0x006699,
-    0x0066cc,
-    0x0066ff,
-    0x009900,
-    0x009933,
-    0x009966,
-    0x009999,
-    0x0099cc,
-    0x0099ff,
-    0x00cc00,
-    0x00cc33,
-    0x00cc66,
-    0x00cc99,
-    0x00cccc,
-    0x00ccff,
-    0x00ff00,
-    0x00ff33,
-    0x00ff66,
-    0x00ff99,
-    0x00ffcc,
-    0x00ffff,
-    0x330000,
-    0x330033,
-    0x330066,
-    0x330099,
-    0x3300cc,
-    0x3300ff,
-    0x333300,
-    0x333333,
-    0x333366,
-    0x333399,
-    0x3333cc,
-    0x3333ff,
-    0x336600,
-    0x336633,
-    0x336666,
-    0x336699,
-    0x3366cc,
-    0x3366ff,
-    0x339900,
-    0x339933,
-    0x339966,
-    0x339999,
-    0x3399cc,
-    0x3399ff,
-    0x33cc00,
-    0x33cc33,
-    0x33cc66,
-    0x33cc99,
-    0x33cccc,
-    0x33ccff,
-    0x33ff00,
-    0x33ff33,
-    0x33ff66,
-    0x33ff99,
-    0x33ffcc,
-    0x33ffff,
-    0x660000,
-    0x660033,
-    0x660066,
-    0x660099,
-    0x6600cc,
-    0x6600ff,
-    0x663300,
-    0x663333,
-    0x663366,
-    0x663399,
-    0x6633cc,
-    0x6633ff,
-    0x666600,
-    0x666633,
-    0x666666,
-    0x666699,
-    0x6666cc,
-    0x6666ff,
-    0x669900,
-    0x669933,
-    0x669966,
-    0x669999,
-    0x6699cc,
-    0x6699ff,
-    0x66cc00,
-    0x66cc33,
-    0x66cc66,
-    0x66cc99,
-    0x66cccc,
-    0x66ccff,
-    0x66ff00,
-    0x66ff33,
-    0x66ff66,
-    0x66ff99,
-    0x66ffcc,
-    0x66ffff,
-    0x990000,
-    0x990033,
-    0x990066,
-    0x990099,
-    0x9900cc,
-    0x9900ff,
-    0x993300,
-    0x993333,
-    0x993366,
-    0x993399,
-    0x9933cc,
-    0x9933ff,
-    0x996600,
-    0x996633,
-    0x996666,
-    0x996699,
-    0x9966cc,
-    0x9966ff,
-    0x999900,
-    0x999933,
-    0x999966,
-    0x999999,
-    0x9999cc,
-    0x9999ff,
-    0x99cc00,
-    0x99cc33,
-    0x99cc66,
-    0x99cc99,
-    0x99cccc,
-    0x99ccff,
-    0x99ff00,
-    0x99ff33,
-    0x99ff66,
-    0x99ff99,
-    0x99ffcc,
-    0x99ffff,
-    0xcc0000,
-    0xcc0033,
-    0xcc0066,
-    0xcc0099,
-    0xcc00cc,
-    0xcc00ff,
-    0xcc3300,
-    0xcc3333,
-    0xcc3366,
-    0xcc3399,
-    0xcc33cc,
-    0xcc33ff,
-    0xcc6600,
-    0xcc6633,
-    0xcc6666,
-    0xcc6699,
-    0xcc66cc,
-    0xcc66ff,
-    0xcc9900,
-    0xcc9933,
-    0xcc9966,
-    0xcc9999,
-    0xcc99cc,
-    0xcc99ff,
-    0xcccc00,
-    0xcccc33,
-    0xcccc66,
-    0xcccc99,
-    0xcccccc,
-    0xccccff,
-    0xccff00,
-    0xccff33,
-    0xccff66,
-    0xccff99,
-    0xccffcc,
-    0xccffff,
-    0xff0000,
-    0xff0033,
-    0xff0066,
-    0xff0099,
-    0xff00cc,
-    0xff00ff,
-    0xff3300,
-    0xff3333,
-    0xff3366,
-    0xff3399,
-    0xff33cc,
-    0xff33ff,
-    0xff6600,
-    0xff6633,
-    0xff6666,
-    0xff6699,
-    0xff66cc,
-    0xff66ff,
-    0xff9900,
-    0xff9933,
-    0xff9966,
-    0xff9999,
-    0xff99cc,
-    0xff99ff,
-    0xffcc00,
-    0xffcc33,
-    0xffcc66,
-    0xffcc99,
-    0xffcccc,
-    0xffccff,
-    0xffff00,
-    0xffff33,
-    0xffff66,
-    0xffff99,
-    0xffffcc,
-    0xffffff,
-    0x000000,
-    0x0a0a0a,
-    0x141414,
-    0x212121,
-    0x2b2b2b,
-    0x363636,
-    0x424242,
-    0x4d4d4d,
-    0x575757,
-    0x636363,
-    0x6e6e6e,
-    0x787878,
-    0x858585,
-    0x8f8f8f,
-    0x999999,
-    0xa6a6a6,
-    0xb0b0b0,
-    0xbababa,
-    0xc7c7c7,
-    0xd1d1d1,
-    0xdbdbdb,
-    0xe8e8e8,
-    0xf2f2f2,
-    0xffffff,
-];
+// The colour of percents of red, green and blue.
+fn percents(r: u16, g: u16, b: u16) -> u32
+    ensures { λ color. ⌜ color ≡ percents r g b ⌝ }
+{
+    let red = hls::percent_to_byte(r as i32);
+    let green = hls::percent_to_byte(g as i32);
+    let blue = hls::percent_to_byte(b as i32);
+    pack_rgb(red, green, blue)
+}
 
+// Registers 0 to 15: BASE of the Rust.
+fn base() -> [u32; 16]
+    ensures { λ colors. ⌜ colors ≡ base ⌝ }
+{
+    [
+        percents(0, 0, 0),
+        percents(20, 20, 80),
+        percents(80, 13, 13),
+        percents(20, 80, 20),
+        percents(80, 20, 80),
+        percents(20, 80, 80),
+        percents(80, 80, 20),
+        percents(53, 53, 53),
+        percents(26, 26, 26),
+        percents(33, 33, 60),
+        percents(60, 26, 26),
+        percents(33, 60, 33),
+        percents(60, 33, 60),
+        percents(33, 60, 60),
+        percents(60, 60, 33),
+        percents(80, 80, 80),
+    ]
+}
+
+// Registers 16 to 231: red, green and blue each 0 to 100 by 20, blue fastest.
+fn cube() -> [u32; 216]
+    ensures { λ colors. ⌜ colors ≡ listed cube 0 216 ⌝ }
+{
+    let mut colors = [0; 216];
+    for r in 0..6u16 {
+        for g in 0..6u16 {
+            for b in 0..6u16 {
+                let k = (36 * r + 6 * g + b) as usize;
+                colors[k] = percents(20 * r, 20 * g, 20 * b);
+            }
+        }
+    }
+    colors
+}
+
+// Registers 232 to 255: greys of 100k / 23 percent, rounded down.
+fn greys() -> [u32; 24]
+    ensures { λ colors. ⌜ colors ≡ listed grey 0 24 ⌝ }
+{
+    let mut colors = [0; 24];
+    for k in 0..24u16 {
+        let percent = 100 * k / 23;
+        colors[k as usize] = percents(percent, percent, percent);
+    }
+    colors
+}
+
+// The registers from `first` on get a rule's colours. Asks that there are so many.
+fn put(colors: &mut [u32; 256], first: usize, rule: &[u32])
+    requires { ⌜ first + length (now rule) ≤ 256 ⌝ }
+    ensures { λ _. ⌜ now (colors .exit) ≡ sets (now (colors .entry)) first (now (rule .entry)) ⌝ }
+{
+    for k in 0..rule.len() {
+        colors[first + k] = rule[k];
+    }
+}
+
+// Every register by its rule, each rule at its first register.
 pub fn numbers() -> [u32; 256]
     ensures { λ r. ⌜ r ≡ listed standardAt 0 256 ⌝ }
 {
-    STANDARD
+    let mut colors = [0; 256];
+    put(&mut colors, 0, &base());
+    put(&mut colors, 16, &cube());
+    put(&mut colors, 232, &greys());
+    colors
 }
