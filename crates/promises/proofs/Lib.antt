@@ -60,3 +60,8 @@ pub mod FinishedSizes
 pub mod AnySession
 pub mod RefusedOnly
 pub mod Retired
+pub mod FourBytes
+pub mod BinReadings
+pub mod BinReaders
+pub mod OneBins
+pub mod RefusedBins

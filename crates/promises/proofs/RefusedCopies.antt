@@ -18,7 +18,7 @@ abbrev pub HasPicture : ℕ → ℕ → Area → Type 0
 HasPicture stride size area =
     (0 < stride) × ((0 < area .width) × ((0 < area .height) × ((area .width ≤ stride) × (area .height ≤ rowsOf size stride))))
 
-tells-picture : (stride size : ℕ) (area : Area) → Tells (hasPicture stride size area) (HasPicture stride size area)
+pub tells-picture : (stride size : ℕ) (area : Area) → Tells (hasPicture stride size area) (HasPicture stride size area)
 unfolding hasPicture fits
 tells-picture stride size area =
     tells-and (tells-less 0 _) (tells-and (tells-less 0 _) (tells-and (tells-less 0 _) (tells-and (tells-most _ _) (tells-most _ _))))

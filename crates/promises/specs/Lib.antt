@@ -1,3 +1,4 @@
 pub mod Readers
 pub mod Sixdump
 pub mod Refusals
+pub mod BinReadings

@@ -3,6 +3,7 @@ mod fields;
 mod lines;
 mod obey;
 mod order;
+mod questions;
 mod rooms;
 mod say;
 mod sessions;

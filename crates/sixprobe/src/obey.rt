@@ -2,6 +2,7 @@
 use crate::order::Ask;
 use crate::order::Bounds;
 use crate::order::Order;
+use crate::questions;
 use crate::rooms;
 use crate::rooms::first;
 use crate::rooms::held;
@@ -115,6 +116,10 @@ fn obey_lent(order: Order, state: State, lent: &mut [u8], bytes: &[u8]) -> State
             length,
         } => {
             copy(lent, stride, width, height, length);
+            state
+        }
+        Order::Bench(question) => {
+            questions::answer(question, lent, bytes);
             state
         }
         Order::Palette => {

@@ -8,7 +8,11 @@ use crate::fields::is_word;
 use crate::fields::number_at;
 use crate::fields::parameter_at;
 use crate::lines::LINE_ROOM;
+use crate::questions::Map;
+use crate::questions::Question;
 use crate::rooms::ROOM;
+use bins::Setting;
+use bins::Shape;
 use frame::Limits;
 use payload::Settings;
 
@@ -42,6 +46,7 @@ pub(crate) enum Order {
         height: usize,
         length: usize,
     },
+    Bench(Question),
     Palette,
     Reset,
 }
@@ -58,7 +63,8 @@ pub(crate) fn read(line: &[u8], length: usize, bytes: &mut [u8]) -> Order {
         5 => copy(line),
         6 => dcs(line),
         7 => one_shot(line, bytes),
-        8 => payload(line),
+        8 => eight(line),
+        9 => top(line, bytes),
         _ => Order::Bad,
     }
 }
@@ -191,10 +197,20 @@ fn one_shot(line: &[u8], bytes: &mut [u8]) -> Order {
     Order::OneShot { bounds, count }
 }
 
-fn payload(line: &[u8]) -> Order {
-    if !begins(line, b"payload") {
-        return Order::Bad;
+fn eight(line: &[u8]) -> Order {
+    if begins(line, b"payload") {
+        return payload(line);
     }
+    if begins(line, b"bin") {
+        return bin(line);
+    }
+    if begins(line, b"columns") {
+        return columns(line);
+    }
+    Order::Bad
+}
+
+fn payload(line: &[u8]) -> Order {
     let Asked::Of(bounds) = opening(line) else {
         return Order::Bad;
     };
@@ -206,4 +222,82 @@ fn payload(line: &[u8]) -> Order {
     };
     let settings = Settings { p1, p2 };
     Order::Session(Ask::Payload { bounds, settings })
+}
+
+enum AskedMap {
+    Bad,
+    Of(Map),
+}
+
+// S, w, h, O, W and N, the first six fields after the word.
+fn band_map(line: &[u8]) -> AskedMap {
+    let Value::Of(stride) = number_at(line, 1) else {
+        return AskedMap::Bad;
+    };
+    let Value::Of(width) = number_at(line, 2) else {
+        return AskedMap::Bad;
+    };
+    let Value::Of(height) = number_at(line, 3) else {
+        return AskedMap::Bad;
+    };
+    let Value::Of(origin) = number_at(line, 4) else {
+        return AskedMap::Bad;
+    };
+    let Value::Of(columns) = number_at(line, 5) else {
+        return AskedMap::Bad;
+    };
+    let Value::Of(count) = number_at(line, 6) else {
+        return AskedMap::Bad;
+    };
+    let shape = Shape {
+        stride,
+        width,
+        height,
+    };
+    let setting = Setting {
+        origin,
+        width: columns,
+        count,
+    };
+    AskedMap::Of(Map { shape, setting })
+}
+
+fn bin(line: &[u8]) -> Order {
+    let AskedMap::Of(map) = band_map(line) else {
+        return Order::Bad;
+    };
+    let Value::Of(column) = number_at(line, 7) else {
+        return Order::Bad;
+    };
+    Order::Bench(Question::Bin { map, column })
+}
+
+fn columns(line: &[u8]) -> Order {
+    let AskedMap::Of(map) = band_map(line) else {
+        return Order::Bad;
+    };
+    let Value::Of(bin) = number_at(line, 7) else {
+        return Order::Bad;
+    };
+    Order::Bench(Question::Columns { map, bin })
+}
+
+// A colour has four bytes.
+fn top(line: &[u8], bytes: &mut [u8]) -> Order {
+    if !begins(line, b"top") {
+        return Order::Bad;
+    }
+    let AskedMap::Of(map) = band_map(line) else {
+        return Order::Bad;
+    };
+    let Value::Of(bin) = number_at(line, 7) else {
+        return Order::Bad;
+    };
+    let Value::Of(count) = bytes_at(line, 8, bytes) else {
+        return Order::Bad;
+    };
+    if count != 4 {
+        return Order::Bad;
+    }
+    Order::Bench(Question::Top { map, bin })
 }

@@ -1,0 +1,9 @@
+pub mod Examples
+pub mod Answers
+pub mod Searches
+pub mod Inverses
+pub mod Paths
+pub mod Pixels
+pub mod Topmost
+pub mod Shown
+pub mod StrokeBins

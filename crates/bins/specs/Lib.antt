@@ -1,0 +1,3 @@
+pub mod Bins
+pub mod Told
+pub mod Facts
