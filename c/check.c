@@ -43,8 +43,8 @@ void *lend(size_t size) {
 
 uint8_t before(size_t place) { return (uint8_t)(place * 7 + 3); }
 
-/* One canvas at a time, in the last bytes of one memory. */
-sixel_canvas fresh_canvas(size_t stride, size_t rows) {
+/* One canvas at a time, in the last bytes of one memory, before its guard page. */
+owlgantry_canvas fresh_canvas(size_t stride, size_t rows) {
     static const size_t most = (size_t)4 * 1024 * 768;
     static uint8_t *memory;
     size_t length = 4 * stride * rows;
@@ -59,10 +59,10 @@ sixel_canvas fresh_canvas(size_t stride, size_t rows) {
     for (size_t place = 0; place < length; place++) {
         bytes[place] = before(place);
     }
-    return owl_canvas(bytes, length, stride);
+    return owlgantry_canvas_of(bytes, length, stride);
 }
 
-int untouched_outside(sixel_canvas canvas, size_t width, size_t height) {
+int untouched_outside(owlgantry_canvas canvas, size_t width, size_t height) {
     for (size_t place = 0; place < canvas.length; place++) {
         size_t pixel = place / 4;
         int inside = pixel % canvas.stride < width && pixel / canvas.stride < height;
@@ -73,41 +73,41 @@ int untouched_outside(sixel_canvas canvas, size_t width, size_t height) {
     return 1;
 }
 
-uint64_t open_session(kind which, sixel_session *session, sixel_limits limits, sixel_canvas canvas,
-                      const uint32_t palette[SIXEL_REGISTERS]) {
-    return which == PAYLOAD
-               ? owl_payload_open(session, limits, canvas, SIXEL_NO_PARAMETER, SIXEL_NO_PARAMETER, palette)
-               : owl_dcs_open(session, limits, canvas, palette);
+uint64_t open_session(kind which, owlgantry_session *session, owlgantry_limits limits, owlgantry_canvas canvas,
+                      const uint32_t palette[OWLGANTRY_REGISTERS]) {
+    return which == PAYLOAD ? owlgantry_payload_open(session, limits, canvas, OWLGANTRY_NO_PARAMETER,
+                                                     OWLGANTRY_NO_PARAMETER, palette)
+                            : owlgantry_dcs_open(session, limits, canvas, palette);
 }
 
-uint64_t feed_session(kind which, sixel_session *session, sixel_canvas canvas, const void *bytes, size_t count,
-                      size_t allowance, sixel_fed *fed) {
-    return which == PAYLOAD ? owl_payload_feed(session, canvas, bytes, count, allowance, fed)
-                            : owl_dcs_feed(session, canvas, bytes, count, allowance, fed);
+uint64_t feed_session(kind which, owlgantry_session *session, owlgantry_canvas canvas, const void *bytes, size_t count,
+                      size_t allowance, owlgantry_fed *fed) {
+    return which == PAYLOAD ? owlgantry_payload_feed(session, canvas, bytes, count, allowance, fed)
+                            : owlgantry_dcs_feed(session, canvas, bytes, count, allowance, fed);
 }
 
-uint64_t finish_session(kind which, sixel_session *session, sixel_canvas canvas, uint32_t palette[SIXEL_REGISTERS],
-                        sixel_picture *picture) {
-    return which == PAYLOAD ? owl_payload_finish(session, canvas, palette, picture)
-                            : owl_dcs_finish(session, canvas, palette, picture);
+uint64_t finish_session(kind which, owlgantry_session *session, owlgantry_canvas canvas,
+                        uint32_t palette[OWLGANTRY_REGISTERS], owlgantry_picture *picture) {
+    return which == PAYLOAD ? owlgantry_payload_finish(session, canvas, palette, picture)
+                            : owlgantry_dcs_finish(session, canvas, palette, picture);
 }
 
-progress feed_in_pieces(kind which, sixel_session *session, sixel_canvas canvas, const char *bytes, size_t count,
-                        size_t piece, size_t allowance) {
+progress feed_in_pieces(kind which, owlgantry_session *session, owlgantry_canvas canvas, const char *bytes,
+                        size_t count, size_t piece, size_t allowance) {
     progress sums;
     memset(&sums, 0, sizeof sums);
     size_t at = 0;
-    while (at < count && sums.refusal == 0 && sums.last.how <= SIXEL_PAYLOAD_STOPPED) {
+    while (at < count && sums.refusal == 0 && sums.last.how <= OWLGANTRY_PAYLOAD_STOPPED) {
         size_t size = piece == 0 || piece > count - at ? count - at : piece;
         sums.refusal = feed_session(which, session, canvas, bytes + at, size, allowance, &sums.last);
         at += sums.last.consumed;
         sums.consumed += sums.last.consumed;
         sums.ink += sums.last.ink;
-        if (sums.refusal == 0 && sums.last.how == SIXEL_PAYLOAD_ALL_READ && sums.last.consumed != size) {
+        if (sums.refusal == 0 && sums.last.how == OWLGANTRY_PAYLOAD_ALL_READ && sums.last.consumed != size) {
             printf("a call that read all consumed %" PRIu64 " of %zu bytes\n", sums.last.consumed, size);
             exit(1);
         }
-        if (sums.last.how == SIXEL_PAYLOAD_STOPPED && sums.last.consumed == 0) {
+        if (sums.last.how == OWLGANTRY_PAYLOAD_STOPPED && sums.last.consumed == 0) {
             printf("a call stopped and consumed nothing\n");
             exit(1);
         }

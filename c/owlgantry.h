@@ -1,22 +1,27 @@
-/* A SIXEL reader that can be relied on, for C99 and C++. Link it with libboundary.a, which is for x86-64.
+/* A SIXEL reader that can be relied on, for C99 and C++. Link it with libowlgantry.a, which is for x86-64.
  *
- * The functions under `extern "C"` are proved: what each answers, and what it leaves in every byte that it is lent, is
- * stated for every input. The `owl_` functions below them only pack and unpack their arguments.
+ * The archive's functions, under `extern "C"`, take arrays of numbers and are proved: what each answers, and what it
+ * leaves in every byte that it is lent, is stated for every input. They are named `owlgantry_raw_..`. The functions
+ * below them, without the `raw`, take structs, are what a program calls, and only pack and unpack their arguments.
+ * Rules are those of docs/RULES.md.
  *
  * The caller's side:
  * - Memory is as long as its length says, aligned for its type, and nobody else's during a call.
- * - What a call writes to overlaps nothing else that it is lent.
- * - A pointer whose length is 0 is not looked at, and may be NULL. No other pointer may be NULL.
- * Nothing is allocated and nothing is kept between calls, so any thread may call.
+ * - What a call writes to overlaps (aliases) nothing else that it is lent.
+ * - A pointer whose length is 0 is not dereferenced, and may be NULL. No other pointer may be NULL.
+ * Nothing is allocated and nothing is kept between calls: the functions are reentrant, and any thread may call.
  *
- * A canvas has four bytes a pixel: red, green, blue, alpha. Its stride is in pixels; its rows are its length divided by
- * 4 x stride, rounded down. A picture stands in its upper left corner, and the bytes outside the picture stay as they
- * were. A register of a palette is a number: red x 65,536 + green x 256 + blue. */
+ * A canvas (rule 1.3) has four bytes a pixel: red, green, blue, alpha. Its stride is in pixels; its rows are its
+ * length divided by 4 x stride, rounded down. A picture stands in its upper left corner, and the bytes outside the
+ * picture stay as they were. A register of a palette is a number: red x 65,536 + green x 256 + blue. */
 #ifndef OWLGANTRY_H
 #define OWLGANTRY_H
 
 #include <stddef.h>
 #include <stdint.h>
+
+/* The version that the file VERSION names; CHANGELOG.md says what it brings. */
+#define OWLGANTRY_VERSION "0.4.0"
 
 #if SIZE_MAX != UINT64_MAX
 #error "the reader is made for machines whose size_t has 64 bits"
@@ -26,109 +31,116 @@
 extern "C" {
 #endif
 
-#define SIXEL_REGISTERS 256
-#define SIXEL_SESSION_NUMBERS 48
+#define OWLGANTRY_REGISTERS 256
+#define OWLGANTRY_SESSION_NUMBERS 48
 
-/* What every function answers but the palette's and the timed one. 1 to 7 in a feed fail the session; 9, 12 and 13 leave
- * it as it was. After a refusal the canvas holds what came before the refused byte or command, and the palette is as it
- * was. */
-enum sixel_refusal {
-    SIXEL_DONE = 0,          /* no refusal */
-    SIXEL_INTRODUCER = 1,    /* DCS: the first byte is not 1B or 90, or the byte after 1B is not `P` */
-    SIXEL_HEADER_ENDED = 2,  /* a header byte is 18, 1A, 1B or 80-9F */
-    SIXEL_HEADER_BYTE = 3,   /* a header byte is any other than a digit, `;`, `q` or a skipped one */
-    SIXEL_REPEAT = 4,        /* a repeat command ends with a value above the limit */
-    SIXEL_SIZE = 5,          /* a sixel or raster size exceeds the limit of width or height */
-    SIXEL_PIXELS = 6,        /* visible area, or raster size, would exceed the limit of pixels */
-    SIXEL_ROOM = 7,          /* width above the stride or height above the rows */
-    SIXEL_UNFINISHED = 8,    /* DCS finished before its end; all at once: introducer but no `q` */
-    SIXEL_FAILED = 9,        /* the session has already been refused by 1 to 7 */
-    SIXEL_FINAL_SIZE = 10,   /* retired: nothing answers it */
-    SIXEL_OPENING = 11,      /* an opening number is out of its range, or the canvas has no whole row */
-    SIXEL_CANVAS = 12,       /* canvas length differs from the opening's, or the picture does not fit it */
-    SIXEL_ALLOWANCE = 13,    /* the allowance is below 6 x the limit of width */
-    SIXEL_BUFFER = 14        /* the copy's buffer is shorter than 4 x width x height */
+/* What every function answers but the palette's and the benchmark's (rule 5.1; in which order, rules 5.2 and 5.3). A
+ * feed that is refused by 1 to 7 fails the session, by 9, 12 or 13 it leaves the session as it was. The palette stays as
+ * it was, and the canvas shows what was read before the refused byte or command (rule 5.6). */
+enum owlgantry_refusal {
+    OWLGANTRY_DONE = 0,          /* no refusal */
+    OWLGANTRY_INTRODUCER = 1,    /* DCS: does not begin with 90, or with 1B and `P` */
+    OWLGANTRY_HEADER_ENDED = 2,  /* 18, 1A, 1B or 80-9F in the header */
+    OWLGANTRY_HEADER_BYTE = 3,   /* another byte in the header that does not belong there */
+    OWLGANTRY_REPEAT = 4,        /* a repeat above the limit */
+    OWLGANTRY_SIZE = 5,          /* a sixel or raster needs more than the limit of width or height */
+    OWLGANTRY_PIXELS = 6,        /* the visible area would have more pixels than the limit */
+    OWLGANTRY_ROOM = 7,          /* a sixel or raster needs more than the canvas's stride or rows */
+    OWLGANTRY_UNFINISHED = 8,    /* DCS: no end yet; all at once: an introducer, but no `q` */
+    OWLGANTRY_FAILED = 9,        /* 1 to 7 refused this session before, or there is none */
+    OWLGANTRY_FINAL_SIZE = 10,   /* retired: nothing answers it */
+    OWLGANTRY_OPENING = 11,      /* a limit or the stride is out of range, or no whole row on the canvas */
+    OWLGANTRY_CANVAS = 12,       /* a canvas of another length than at the opening, or no such picture on it */
+    OWLGANTRY_ALLOWANCE = 13,    /* the allowance is below 6 x the limit of width */
+    OWLGANTRY_BUFFER = 14        /* the copy's buffer is shorter than 4 x width x height */
 };
 
-/* How a feed that was not refused ended. */
-enum sixel_payload_how { SIXEL_PAYLOAD_ALL_READ = 0, SIXEL_PAYLOAD_STOPPED = 1, SIXEL_PAYLOAD_ENDED = 2 };
-enum sixel_dcs_how {
-    SIXEL_DCS_ALL_READ = 0,
-    SIXEL_DCS_STOPPED = 1,     /* for ink: present the unread bytes again */
-    SIXEL_DCS_COMPLETE = 2,    /* by 9C, or 1B and `\` */
-    SIXEL_DCS_CANCELLED = 3,   /* by 18 or 1A, which is consumed */
-    SIXEL_DCS_INTERRUPTED = 4  /* by 1B, which is consumed, with another byte after it; or by a C1 byte, which is not */
+/* How a feed that was not refused ended (rules 6.3, 6.4, and 7.3 to 7.5). */
+enum owlgantry_payload_how {
+    OWLGANTRY_PAYLOAD_ALL_READ = 0,
+    OWLGANTRY_PAYLOAD_STOPPED = 1,  /* for ink: present the unread bytes again */
+    OWLGANTRY_PAYLOAD_ENDED = 2     /* by a byte that stays unread */
+};
+enum owlgantry_dcs_how {
+    OWLGANTRY_DCS_ALL_READ = 0,
+    OWLGANTRY_DCS_STOPPED = 1,     /* for ink: present the unread bytes again */
+    OWLGANTRY_DCS_COMPLETE = 2,    /* by 9C, or 1B and `\` */
+    OWLGANTRY_DCS_CANCELLED = 3,   /* by 18 or 1A, which is consumed */
+    OWLGANTRY_DCS_INTERRUPTED = 4  /* by 1B, which is consumed, with another byte after it; or by a C1 byte, which is not */
 };
 
-/* Which number says how tall a pixel is. */
-enum sixel_ratio_kind {
-    SIXEL_RATIO_NONE = 0,   /* left to P1, which is missing */
-    SIXEL_RATIO_P1 = 1,     /* left to P1, the number is P1's */
-    SIXEL_RATIO_RASTER = 2  /* the raster's, number : 1, vertical to horizontal */
+/* Which number says how tall a pixel is (rule 4.5). */
+enum owlgantry_ratio_kind {
+    OWLGANTRY_RATIO_NONE = 0,   /* left to P1, which is missing */
+    OWLGANTRY_RATIO_P1 = 1,     /* left to P1, the number is P1's */
+    OWLGANTRY_RATIO_RASTER = 2  /* the raster's, number : 1, vertical to horizontal */
 };
 
 /* P1 or P2 of a payload session where there is none: any number above 65,535. */
-#define SIXEL_NO_PARAMETER UINT32_MAX
+#define OWLGANTRY_NO_PARAMETER UINT32_MAX
 
 /* A session lies in the caller's memory, in 1,408 bytes. All zeros are a failed session, and any content has a stated
  * answer. Dropping it is an abort. */
 typedef struct {
-    uint64_t numbers[SIXEL_SESSION_NUMBERS];
-    uint32_t registers[SIXEL_REGISTERS];
-} sixel_session;
+    uint64_t numbers[OWLGANTRY_SESSION_NUMBERS];
+    uint32_t registers[OWLGANTRY_REGISTERS];
+} owlgantry_session;
 
-/* Width and height are 1 to 1,000,000 each, repeats and pixels 1 to 10^12. The stride is 1 to 1,000,000. */
+/* Width and height are 1 to 1,000,000 each, repeats and pixels 1 to 10^12. The stride is 1 to 1,000,000 (rule 1.1). */
 
-/* The standard palette's 256 registers. */
-void sixel_standard_palette(uint32_t out[SIXEL_REGISTERS]);
+/* The standard palette's 256 registers (rule 9.6). */
+void owlgantry_raw_standard_palette(uint32_t out[OWLGANTRY_REGISTERS]);
 
-/* Reads all at once: the part after the first introducer and its header, or the whole where there is no introducer. The
- * palette becomes the picture's where there is one. Reports width, height, right, bottom, the ratio's kind and number,
- * 1 for a transparent background, and the place and the length of the payload among the bytes. On a refusal the first
- * seven are 0; on 2, 3, 8 and 11 the payload is empty, at the end of the bytes. */
-uint64_t sixel_read(size_t width, size_t height, size_t repeats, size_t pixels, size_t stride, uint8_t *canvas,
-                    size_t canvas_length, const uint8_t *bytes, size_t bytes_length,
-                    uint32_t palette[SIXEL_REGISTERS], uint64_t report[9]);
+/* Reads all at once (docs/RULES.md, section 8): the part after the first introducer and its header, or the whole where
+ * there is no introducer. The palette becomes the picture's where there is one. Reports width, height, right, bottom,
+ * the ratio's kind and number, 1 for a transparent background, and the place and the length of the payload among the
+ * bytes. On a refusal the first seven are 0; on 2, 3, 8 and 11 the payload is empty, at the end of the bytes. */
+uint64_t owlgantry_raw_read(size_t width, size_t height, size_t repeats, size_t pixels, size_t stride, uint8_t *canvas,
+                            size_t canvas_length, const uint8_t *bytes, size_t bytes_length,
+                            uint32_t palette[OWLGANTRY_REGISTERS], uint64_t report[9]);
 
-/* Copies a picture's rows without gaps to the front of `out`, whose later bytes stay. Answers 0, 12 or 14. */
-uint64_t sixel_copy(const uint8_t *canvas, size_t canvas_length, size_t stride, size_t width, size_t height,
-                    uint8_t *out, size_t out_length);
+/* Copies a picture's rows, tightly packed, to the front of `out`, whose later bytes stay. Answers 0, 12 or 14
+ * (docs/RULES.md, section 10). */
+uint64_t owlgantry_raw_copy(const uint8_t *canvas, size_t canvas_length, size_t stride, size_t width, size_t height,
+                            uint8_t *out, size_t out_length);
 
 /* Opens a session for a payload, and gives pixel (0, 0) the background. The palette is copied into the session. Answers
  * 0 or 11; on 11 the session is a failed one and nothing of the canvas is written. */
-uint64_t sixel_payload_open(size_t width, size_t height, size_t repeats, size_t pixels, size_t stride, uint32_t p1,
-                            uint32_t p2, uint8_t *canvas, size_t canvas_length,
-                            const uint32_t palette[SIXEL_REGISTERS], uint64_t session[SIXEL_SESSION_NUMBERS],
-                            uint32_t registers[SIXEL_REGISTERS]);
+uint64_t owlgantry_raw_payload_open(size_t width, size_t height, size_t repeats, size_t pixels, size_t stride,
+                                    uint32_t p1, uint32_t p2, uint8_t *canvas, size_t canvas_length,
+                                    const uint32_t palette[OWLGANTRY_REGISTERS],
+                                    uint64_t session[OWLGANTRY_SESSION_NUMBERS],
+                                    uint32_t registers[OWLGANTRY_REGISTERS]);
 
 /* Reads bytes until all are read, the next sixel's ink exceeds what is left of the allowance, the payload ends, or a
- * refusal. Reports how (sixel_payload_how), the bytes consumed, the ink, and the byte that ended the payload and stays
- * unread, else 0. An ended session repeats its end. On a refusal the report is four zeros. */
-uint64_t sixel_payload_feed(uint64_t session[SIXEL_SESSION_NUMBERS], uint32_t registers[SIXEL_REGISTERS],
-                            uint8_t *canvas, size_t canvas_length, const uint8_t *bytes, size_t bytes_length,
-                            size_t allowance, uint64_t report[4]);
+ * refusal. Reports how (owlgantry_payload_how), the bytes consumed, the ink, and the byte that ended the payload and
+ * stays unread, else 0. An ended session repeats its end. On a refusal the report is four zeros. */
+uint64_t owlgantry_raw_payload_feed(uint64_t session[OWLGANTRY_SESSION_NUMBERS],
+                                    uint32_t registers[OWLGANTRY_REGISTERS], uint8_t *canvas, size_t canvas_length,
+                                    const uint8_t *bytes, size_t bytes_length, size_t allowance, uint64_t report[4]);
 
-/* Carries a pending command out and reports the seven numbers that sixel_read reports first. The palette becomes the
- * session's; on a refusal it stays as it was, the canvas too, and the report is seven zeros. The session's numbers are
- * zeros afterwards. */
-uint64_t sixel_payload_finish(uint64_t session[SIXEL_SESSION_NUMBERS], const uint32_t registers[SIXEL_REGISTERS],
-                              uint8_t *canvas, size_t canvas_length, uint32_t palette[SIXEL_REGISTERS],
-                              uint64_t report[7]);
+/* Carries a pending command out and reports the seven numbers that owlgantry_raw_read reports first. The palette
+ * becomes the session's; on a refusal it stays as it was, the canvas too, and the report is seven zeros. The session's
+ * numbers are zeros afterwards. */
+uint64_t owlgantry_raw_payload_finish(uint64_t session[OWLGANTRY_SESSION_NUMBERS],
+                                      const uint32_t registers[OWLGANTRY_REGISTERS], uint8_t *canvas,
+                                      size_t canvas_length, uint32_t palette[OWLGANTRY_REGISTERS], uint64_t report[7]);
 
 /* The same for a whole DCS sequence: introducer, header, payload and its end. Opening takes the length of the canvas
  * and writes nothing to it; pixel (0, 0) gets the background at `q`. Before an end, a finish answers 8. */
-uint64_t sixel_dcs_open(size_t width, size_t height, size_t repeats, size_t pixels, size_t stride,
-                        size_t canvas_length, const uint32_t palette[SIXEL_REGISTERS],
-                        uint64_t session[SIXEL_SESSION_NUMBERS], uint32_t registers[SIXEL_REGISTERS]);
+uint64_t owlgantry_raw_dcs_open(size_t width, size_t height, size_t repeats, size_t pixels, size_t stride,
+                                size_t canvas_length, const uint32_t palette[OWLGANTRY_REGISTERS],
+                                uint64_t session[OWLGANTRY_SESSION_NUMBERS], uint32_t registers[OWLGANTRY_REGISTERS]);
 
-/* As sixel_payload_feed, with the ends of sixel_dcs_how; the last number is the byte that cancelled or interrupted. */
-uint64_t sixel_dcs_feed(uint64_t session[SIXEL_SESSION_NUMBERS], uint32_t registers[SIXEL_REGISTERS], uint8_t *canvas,
-                        size_t canvas_length, const uint8_t *bytes, size_t bytes_length, size_t allowance,
-                        uint64_t report[4]);
+/* As owlgantry_raw_payload_feed, with the ends of owlgantry_dcs_how; the last number is the byte that cancelled or
+ * interrupted. */
+uint64_t owlgantry_raw_dcs_feed(uint64_t session[OWLGANTRY_SESSION_NUMBERS], uint32_t registers[OWLGANTRY_REGISTERS],
+                                uint8_t *canvas, size_t canvas_length, const uint8_t *bytes, size_t bytes_length,
+                                size_t allowance, uint64_t report[4]);
 
-uint64_t sixel_dcs_finish(uint64_t session[SIXEL_SESSION_NUMBERS], const uint32_t registers[SIXEL_REGISTERS],
-                          uint8_t *canvas, size_t canvas_length, uint32_t palette[SIXEL_REGISTERS],
-                          uint64_t report[7]);
+uint64_t owlgantry_raw_dcs_finish(uint64_t session[OWLGANTRY_SESSION_NUMBERS],
+                                  const uint32_t registers[OWLGANTRY_REGISTERS], uint8_t *canvas, size_t canvas_length,
+                                  uint32_t palette[OWLGANTRY_REGISTERS], uint64_t report[7]);
 
 /* Reads a payload under the house's limits with the standard palette, in pieces of `chunk` bytes (0: all at once).
  * Answers width x 2^32 + height, or the refusal's number. Made to be timed. */
@@ -139,35 +151,35 @@ uint64_t sixbench_decode(uint8_t *canvas, size_t canvas_length, size_t stride, c
 }
 #endif
 
-/* The same calls with structs. Each is one call of the function that it is named after. */
+/* The same calls with structs. Each is one call of the raw function that it is named after. */
 
 typedef struct {
     size_t width, height, repeats, pixels;
-} sixel_limits;
+} owlgantry_limits;
 
 typedef struct {
     uint8_t *bytes;
     size_t length;
     size_t stride;
-} sixel_canvas;
+} owlgantry_canvas;
 
 typedef struct {
     uint64_t how, consumed, ink, byte;
-} sixel_fed;
+} owlgantry_fed;
 
 /* Right and bottom are the extent: the rightmost column any sixel reached, and the lowest row of a band with ink, plus
  * 1 each. */
 typedef struct {
     uint64_t width, height, right, bottom, ratio_kind, ratio, transparent;
-} sixel_picture;
+} owlgantry_picture;
 
 /* The payload among the bytes. */
 typedef struct {
     uint64_t place, length;
-} sixel_part;
+} owlgantry_part;
 
-static inline sixel_limits owl_limits(size_t width, size_t height, size_t repeats, size_t pixels) {
-    sixel_limits limits;
+static inline owlgantry_limits owlgantry_limits_of(size_t width, size_t height, size_t repeats, size_t pixels) {
+    owlgantry_limits limits;
     limits.width = width;
     limits.height = height;
     limits.repeats = repeats;
@@ -175,24 +187,26 @@ static inline sixel_limits owl_limits(size_t width, size_t height, size_t repeat
     return limits;
 }
 
-static inline sixel_limits owl_house_limits(void) { return owl_limits(1024, 768, 1024, 786432); }
+static inline owlgantry_limits owlgantry_house_limits(void) { return owlgantry_limits_of(1024, 768, 1024, 786432); }
 
 /* Those that icy_sixel 0.7.0 has built in. */
-static inline sixel_limits owl_crate_limits(void) { return owl_limits(1000000, 1000000, 65535, 67108864); }
+static inline owlgantry_limits owlgantry_crate_limits(void) {
+    return owlgantry_limits_of(1000000, 1000000, 65535, 67108864);
+}
 
 /* The smallest allowance under these limits: 6 x width. */
-static inline size_t owl_least_allowance(sixel_limits limits) { return 6 * limits.width; }
+static inline size_t owlgantry_least_allowance(owlgantry_limits limits) { return 6 * limits.width; }
 
-static inline sixel_canvas owl_canvas(uint8_t *bytes, size_t length, size_t stride) {
-    sixel_canvas canvas;
+static inline owlgantry_canvas owlgantry_canvas_of(uint8_t *bytes, size_t length, size_t stride) {
+    owlgantry_canvas canvas;
     canvas.bytes = bytes;
     canvas.length = length;
     canvas.stride = stride;
     return canvas;
 }
 
-static inline sixel_fed owl_fed(const uint64_t report[4]) {
-    sixel_fed fed;
+static inline owlgantry_fed owlgantry_fed_of(const uint64_t report[4]) {
+    owlgantry_fed fed;
     fed.how = report[0];
     fed.consumed = report[1];
     fed.ink = report[2];
@@ -200,8 +214,8 @@ static inline sixel_fed owl_fed(const uint64_t report[4]) {
     return fed;
 }
 
-static inline sixel_picture owl_picture(const uint64_t report[7]) {
-    sixel_picture picture;
+static inline owlgantry_picture owlgantry_picture_of(const uint64_t report[7]) {
+    owlgantry_picture picture;
     picture.width = report[0];
     picture.height = report[1];
     picture.right = report[2];
@@ -212,66 +226,73 @@ static inline sixel_picture owl_picture(const uint64_t report[7]) {
     return picture;
 }
 
-static inline uint64_t owl_read(sixel_limits limits, sixel_canvas canvas, const void *bytes, size_t count,
-                                uint32_t palette[SIXEL_REGISTERS], sixel_picture *picture, sixel_part *part) {
+static inline void owlgantry_standard_palette(uint32_t out[OWLGANTRY_REGISTERS]) {
+    owlgantry_raw_standard_palette(out);
+}
+
+static inline uint64_t owlgantry_read(owlgantry_limits limits, owlgantry_canvas canvas, const void *bytes, size_t count,
+                                      uint32_t palette[OWLGANTRY_REGISTERS], owlgantry_picture *picture,
+                                      owlgantry_part *part) {
     uint64_t report[9];
-    uint64_t refusal = sixel_read(limits.width, limits.height, limits.repeats, limits.pixels, canvas.stride,
-                                  canvas.bytes, canvas.length, (const uint8_t *)bytes, count, palette, report);
-    *picture = owl_picture(report);
+    uint64_t refusal = owlgantry_raw_read(limits.width, limits.height, limits.repeats, limits.pixels, canvas.stride,
+                                          canvas.bytes, canvas.length, (const uint8_t *)bytes, count, palette, report);
+    *picture = owlgantry_picture_of(report);
     part->place = report[7];
     part->length = report[8];
     return refusal;
 }
 
-static inline uint64_t owl_copy(sixel_canvas canvas, size_t width, size_t height, uint8_t *out, size_t length) {
-    return sixel_copy(canvas.bytes, canvas.length, canvas.stride, width, height, out, length);
+static inline uint64_t owlgantry_copy(owlgantry_canvas canvas, size_t width, size_t height, uint8_t *out,
+                                      size_t length) {
+    return owlgantry_raw_copy(canvas.bytes, canvas.length, canvas.stride, width, height, out, length);
 }
 
-static inline uint64_t owl_payload_open(sixel_session *session, sixel_limits limits, sixel_canvas canvas, uint32_t p1,
-                                        uint32_t p2, const uint32_t palette[SIXEL_REGISTERS]) {
-    return sixel_payload_open(limits.width, limits.height, limits.repeats, limits.pixels, canvas.stride, p1, p2,
-                              canvas.bytes, canvas.length, palette, session->numbers, session->registers);
+static inline uint64_t owlgantry_payload_open(owlgantry_session *session, owlgantry_limits limits,
+                                              owlgantry_canvas canvas, uint32_t p1, uint32_t p2,
+                                              const uint32_t palette[OWLGANTRY_REGISTERS]) {
+    return owlgantry_raw_payload_open(limits.width, limits.height, limits.repeats, limits.pixels, canvas.stride, p1, p2,
+                                      canvas.bytes, canvas.length, palette, session->numbers, session->registers);
 }
 
-static inline uint64_t owl_payload_feed(sixel_session *session, sixel_canvas canvas, const void *bytes, size_t count,
-                                        size_t allowance, sixel_fed *fed) {
+static inline uint64_t owlgantry_payload_feed(owlgantry_session *session, owlgantry_canvas canvas, const void *bytes,
+                                              size_t count, size_t allowance, owlgantry_fed *fed) {
     uint64_t report[4];
-    uint64_t refusal = sixel_payload_feed(session->numbers, session->registers, canvas.bytes, canvas.length,
-                                          (const uint8_t *)bytes, count, allowance, report);
-    *fed = owl_fed(report);
+    uint64_t refusal = owlgantry_raw_payload_feed(session->numbers, session->registers, canvas.bytes, canvas.length,
+                                                  (const uint8_t *)bytes, count, allowance, report);
+    *fed = owlgantry_fed_of(report);
     return refusal;
 }
 
-static inline uint64_t owl_payload_finish(sixel_session *session, sixel_canvas canvas,
-                                          uint32_t palette[SIXEL_REGISTERS], sixel_picture *picture) {
+static inline uint64_t owlgantry_payload_finish(owlgantry_session *session, owlgantry_canvas canvas,
+                                                uint32_t palette[OWLGANTRY_REGISTERS], owlgantry_picture *picture) {
     uint64_t report[7];
-    uint64_t refusal = sixel_payload_finish(session->numbers, session->registers, canvas.bytes, canvas.length,
-                                            palette, report);
-    *picture = owl_picture(report);
+    uint64_t refusal = owlgantry_raw_payload_finish(session->numbers, session->registers, canvas.bytes, canvas.length,
+                                                    palette, report);
+    *picture = owlgantry_picture_of(report);
     return refusal;
 }
 
-static inline uint64_t owl_dcs_open(sixel_session *session, sixel_limits limits, sixel_canvas canvas,
-                                    const uint32_t palette[SIXEL_REGISTERS]) {
-    return sixel_dcs_open(limits.width, limits.height, limits.repeats, limits.pixels, canvas.stride, canvas.length,
-                          palette, session->numbers, session->registers);
+static inline uint64_t owlgantry_dcs_open(owlgantry_session *session, owlgantry_limits limits, owlgantry_canvas canvas,
+                                          const uint32_t palette[OWLGANTRY_REGISTERS]) {
+    return owlgantry_raw_dcs_open(limits.width, limits.height, limits.repeats, limits.pixels, canvas.stride,
+                                  canvas.length, palette, session->numbers, session->registers);
 }
 
-static inline uint64_t owl_dcs_feed(sixel_session *session, sixel_canvas canvas, const void *bytes, size_t count,
-                                    size_t allowance, sixel_fed *fed) {
+static inline uint64_t owlgantry_dcs_feed(owlgantry_session *session, owlgantry_canvas canvas, const void *bytes,
+                                          size_t count, size_t allowance, owlgantry_fed *fed) {
     uint64_t report[4];
-    uint64_t refusal = sixel_dcs_feed(session->numbers, session->registers, canvas.bytes, canvas.length,
-                                      (const uint8_t *)bytes, count, allowance, report);
-    *fed = owl_fed(report);
+    uint64_t refusal = owlgantry_raw_dcs_feed(session->numbers, session->registers, canvas.bytes, canvas.length,
+                                              (const uint8_t *)bytes, count, allowance, report);
+    *fed = owlgantry_fed_of(report);
     return refusal;
 }
 
-static inline uint64_t owl_dcs_finish(sixel_session *session, sixel_canvas canvas, uint32_t palette[SIXEL_REGISTERS],
-                                      sixel_picture *picture) {
+static inline uint64_t owlgantry_dcs_finish(owlgantry_session *session, owlgantry_canvas canvas,
+                                            uint32_t palette[OWLGANTRY_REGISTERS], owlgantry_picture *picture) {
     uint64_t report[7];
-    uint64_t refusal = sixel_dcs_finish(session->numbers, session->registers, canvas.bytes, canvas.length, palette,
-                                        report);
-    *picture = owl_picture(report);
+    uint64_t refusal =
+        owlgantry_raw_dcs_finish(session->numbers, session->registers, canvas.bytes, canvas.length, palette, report);
+    *picture = owlgantry_picture_of(report);
     return refusal;
 }
 

@@ -1,5 +1,5 @@
 /* Damaged sessions: every call answers a stated number and keeps to the memory that it is lent. Each memory ends where a
- * page begins that nobody may touch, so a step outside ends the program. */
+ * guard page begins, so a step outside ends the program. */
 #include "check.h"
 
 #include <stdio.h>
@@ -32,13 +32,12 @@ static uint64_t any(void) {
 }
 
 static void open_one(kind which) {
-    sixel_limits limits = owl_limits(STRIDE, ROWS, 99, STRIDE * ROWS);
-    uint64_t answer =
-        which == PAYLOAD
-            ? sixel_payload_open(limits.width, limits.height, limits.repeats, limits.pixels, STRIDE, 1, 1, canvas, LENGTH,
-                                 palette, numbers, registers)
-            : sixel_dcs_open(limits.width, limits.height, limits.repeats, limits.pixels, STRIDE, LENGTH, palette, numbers,
-                             registers);
+    owlgantry_limits limits = owlgantry_limits_of(STRIDE, ROWS, 99, STRIDE * ROWS);
+    uint64_t answer = which == PAYLOAD
+                          ? owlgantry_raw_payload_open(limits.width, limits.height, limits.repeats, limits.pixels,
+                                                       STRIDE, 1, 1, canvas, LENGTH, palette, numbers, registers)
+                          : owlgantry_raw_dcs_open(limits.width, limits.height, limits.repeats, limits.pixels, STRIDE,
+                                                   LENGTH, palette, numbers, registers);
     same("a session to damage", "the opening", answer, 0);
 }
 
@@ -46,13 +45,14 @@ static void open_one(kind which) {
 static uint64_t feed_one(kind which, const char *text, size_t allowance) {
     size_t count = strlen(text);
     uint8_t *bytes = memcpy(stream + 64 - count, text, count);
-    return which == PAYLOAD ? sixel_payload_feed(numbers, registers, canvas, LENGTH, bytes, count, allowance, report)
-                            : sixel_dcs_feed(numbers, registers, canvas, LENGTH, bytes, count, allowance, report);
+    return which == PAYLOAD
+               ? owlgantry_raw_payload_feed(numbers, registers, canvas, LENGTH, bytes, count, allowance, report)
+               : owlgantry_raw_dcs_feed(numbers, registers, canvas, LENGTH, bytes, count, allowance, report);
 }
 
 static uint64_t finish_one(kind which) {
-    return which == PAYLOAD ? sixel_payload_finish(numbers, registers, canvas, LENGTH, palette, report)
-                            : sixel_dcs_finish(numbers, registers, canvas, LENGTH, palette, report);
+    return which == PAYLOAD ? owlgantry_raw_payload_finish(numbers, registers, canvas, LENGTH, palette, report)
+                            : owlgantry_raw_dcs_finish(numbers, registers, canvas, LENGTH, palette, report);
 }
 
 /* Feeds whatever lies in the session's memory. */
@@ -61,7 +61,8 @@ static void check_feeds(const char *name, kind which) {
         const char *text = streams[at];
         uint64_t answer = feed_one(which, text, allowances[at % 3]);
         holds(name, "a feed answers 0 to 7, 9, 12 or 13", answer <= 7 || answer == 9 || answer == 12 || answer == 13);
-        holds(name, "a feed has a known end", report[0] <= (which == DCS ? SIXEL_DCS_INTERRUPTED : SIXEL_PAYLOAD_ENDED));
+        holds(name, "a feed has a known end",
+              report[0] <= (which == DCS ? OWLGANTRY_DCS_INTERRUPTED : OWLGANTRY_PAYLOAD_ENDED));
         holds(name, "no more is consumed than given", report[1] <= strlen(text));
         holds(name, "a byte is a byte", report[3] <= 255);
         holds(name, "a refused feed reports zeros", answer == 0 || (report[0] | report[1] | report[2] | report[3]) == 0);
@@ -72,10 +73,10 @@ static void check_finish(const char *name, kind which) {
     uint64_t answer = finish_one(which);
     holds(name, "a finish answers 0, 4 to 9 or 12", answer == 0 || (answer >= 4 && answer <= 9) || answer == 12);
     holds(name, "a refused finish reports zeros", answer == 0 || (report[0] | report[1] | report[6]) == 0);
-    for (size_t at = 0; at < SIXEL_SESSION_NUMBERS; at++) {
+    for (size_t at = 0; at < OWLGANTRY_SESSION_NUMBERS; at++) {
         same(name, "a number after a finish", numbers[at], 0);
     }
-    same(name, "a feed after a finish", feed_one(which, "~", SIZE_MAX), SIXEL_FAILED);
+    same(name, "a feed after a finish", feed_one(which, "~", SIZE_MAX), OWLGANTRY_FAILED);
 }
 
 static void check_answers(const char *name, kind which) {
@@ -86,7 +87,7 @@ static void check_answers(const char *name, kind which) {
 /* A session that was fed something, then one bit of it is flipped; it is finished at once, and again after more feeds. */
 static void flip_each_bit(kind which, const char *fed) {
     char name[80];
-    for (unsigned turn = 0; turn < 2 * 64 * SIXEL_SESSION_NUMBERS; turn++) {
+    for (unsigned turn = 0; turn < 2 * 64 * OWLGANTRY_SESSION_NUMBERS; turn++) {
         unsigned bit = turn / 2;
         snprintf(name, sizeof name, "%s session, bit %u of number %u", which == DCS ? "DCS" : "payload", bit % 64, bit / 64);
         open_one(which);
@@ -104,7 +105,7 @@ static void change_numbers(kind which, int turns) {
     for (int turn = 0; turn < turns; turn++) {
         open_one(which);
         for (uint64_t more = any() % 4 + 1; more > 0; more--) {
-            uint64_t place = any() % SIXEL_SESSION_NUMBERS, width = any() % 64;
+            uint64_t place = any() % OWLGANTRY_SESSION_NUMBERS, width = any() % 64;
             numbers[place] = any() % 5 == 0 ? UINT64_MAX - any() % 9 : any() >> width;
         }
         if (turn % 2 == 1) {
@@ -115,16 +116,16 @@ static void change_numbers(kind which, int turns) {
 }
 
 static void fill_with(kind which, int turns) {
-    memset(numbers, 0xff, 8 * SIXEL_SESSION_NUMBERS);
-    memset(registers, 0xff, 4 * SIXEL_REGISTERS);
+    memset(numbers, 0xff, 8 * OWLGANTRY_SESSION_NUMBERS);
+    memset(registers, 0xff, 4 * OWLGANTRY_REGISTERS);
     check_answers("a session of FF bytes", which);
-    memset(numbers, 0, 8 * SIXEL_SESSION_NUMBERS);
+    memset(numbers, 0, 8 * OWLGANTRY_SESSION_NUMBERS);
     check_answers("a session of zeros", which);
     for (int turn = 0; turn < turns; turn++) {
-        for (size_t at = 0; at < SIXEL_SESSION_NUMBERS; at++) {
+        for (size_t at = 0; at < OWLGANTRY_SESSION_NUMBERS; at++) {
             numbers[at] = any();
         }
-        for (size_t at = 0; at < SIXEL_REGISTERS; at++) {
+        for (size_t at = 0; at < OWLGANTRY_REGISTERS; at++) {
             registers[at] = (uint32_t)any();
         }
         check_answers("a session of random bytes", which);
@@ -143,12 +144,12 @@ static void mistake_the_kind(void) {
  * width, becomes 4: the finish reports all eight. */
 static void lower_the_limit(kind which, const char *text) {
     const char *name = which == DCS ? "a DCS session with a lowered limit" : "a payload session with a lowered limit";
-    sixel_session *session = lend(sizeof *session);
-    sixel_canvas eight = fresh_canvas(8, 12);
-    sixel_fed fed;
-    sixel_picture picture;
-    sixel_standard_palette(palette);
-    same(name, "the opening", open_session(which, session, owl_limits(8, 12, 1024, 768), eight, palette), 0);
+    owlgantry_session *session = lend(sizeof *session);
+    owlgantry_canvas eight = fresh_canvas(8, 12);
+    owlgantry_fed fed;
+    owlgantry_picture picture;
+    owlgantry_standard_palette(palette);
+    same(name, "the opening", open_session(which, session, owlgantry_limits_of(8, 12, 1024, 768), eight, palette), 0);
     same(name, "the feed", feed_session(which, session, eight, text, strlen(text), SIZE_MAX, &fed), 0);
     same(name, "the limit of width", session->numbers[0], 8);
     session->numbers[0] = 4;
@@ -163,13 +164,13 @@ static void lower_the_limit(kind which, const char *text) {
 }
 
 void test_damage(void) {
-    numbers = lend(8 * SIXEL_SESSION_NUMBERS);
-    registers = lend(4 * SIXEL_REGISTERS);
-    palette = lend(4 * SIXEL_REGISTERS);
+    numbers = lend(8 * OWLGANTRY_SESSION_NUMBERS);
+    registers = lend(4 * OWLGANTRY_REGISTERS);
+    palette = lend(4 * OWLGANTRY_REGISTERS);
     report = lend(8 * 7);
     canvas = lend(LENGTH);
     stream = lend(64);
-    sixel_standard_palette(palette);
+    owlgantry_standard_palette(palette);
     flip_each_bit(PAYLOAD, "");
     flip_each_bit(PAYLOAD, "#1;2;3~-!4");
     flip_each_bit(PAYLOAD, "!20~-!20~-\"1;1;21");

@@ -1,4 +1,4 @@
-/* Document 01's bench examples and some more, each read all at once, as a payload and as a DCS sequence, in pieces. */
+/* The bench examples (docs/RULES.md, section 12) and some more, each read all at once, as a payload and as a DCS sequence, in pieces. */
 #include "check.h"
 
 #include <stdio.h>
@@ -11,7 +11,7 @@
 /* A payload and its outcome: the refusal, or size, extent, ink, ratio and every pixel (a letter of `colour_of` each). */
 typedef struct {
     const char *payload;
-    sixel_limits limits;
+    owlgantry_limits limits;
     size_t stride, rows;
     uint64_t refusal, width, height, right, bottom, ink, ratio_kind, ratio;
     const char *pixels;
@@ -58,11 +58,11 @@ static uint32_t colour_of(char letter) {
 }
 
 /* The picture on the canvas, copied without gaps, is the example's; around it nothing changed. */
-static void check_pixels(const example *it, const char *name, sixel_canvas canvas) {
+static void check_pixels(const example *it, const char *name, owlgantry_canvas canvas) {
     static uint8_t out[4 * 1024];
     memset(out, 0xa5, sizeof out);
     size_t pixels = it->width * it->height;
-    same(name, "the copy's answer", owl_copy(canvas, it->width, it->height, out, 4 * pixels), 0);
+    same(name, "the copy's answer", owlgantry_copy(canvas, it->width, it->height, out, 4 * pixels), 0);
     for (size_t at = 0; at < pixels; at++) {
         const uint8_t *pixel = out + 4 * at;
         uint32_t colour = (uint32_t)pixel[0] << 16 | (uint32_t)pixel[1] << 8 | pixel[2];
@@ -73,7 +73,7 @@ static void check_pixels(const example *it, const char *name, sixel_canvas canva
     holds(name, "nothing changed outside the picture", untouched_outside(canvas, it->width, it->height));
 }
 
-static void check_picture(const example *it, const char *name, sixel_canvas canvas, sixel_picture picture) {
+static void check_picture(const example *it, const char *name, owlgantry_canvas canvas, owlgantry_picture picture) {
     same(name, "width", picture.width, it->width);
     same(name, "height", picture.height, it->height);
     same(name, "right", picture.right, it->right);
@@ -88,13 +88,14 @@ static void check_picture(const example *it, const char *name, sixel_canvas canv
 
 static void check_all_at_once(const example *it, const char *bytes, size_t place) {
     char name[80];
-    uint32_t palette[SIXEL_REGISTERS];
-    sixel_picture picture;
-    sixel_part part;
-    sixel_canvas canvas = fresh_canvas(it->stride, it->rows);
+    uint32_t palette[OWLGANTRY_REGISTERS];
+    owlgantry_picture picture;
+    owlgantry_part part;
+    owlgantry_canvas canvas = fresh_canvas(it->stride, it->rows);
     snprintf(name, sizeof name, "%s, all at once", it->payload);
-    sixel_standard_palette(palette);
-    same(name, "the answer", owl_read(it->limits, canvas, bytes, strlen(bytes), palette, &picture, &part), it->refusal);
+    owlgantry_standard_palette(palette);
+    same(name, "the answer", owlgantry_read(it->limits, canvas, bytes, strlen(bytes), palette, &picture, &part),
+         it->refusal);
     same(name, "the payload's place", part.place, place);
     same(name, "the payload's length", part.length, strlen(bytes) - place);
     check_picture(it, name, canvas, picture);
@@ -102,22 +103,23 @@ static void check_all_at_once(const example *it, const char *bytes, size_t place
 
 static void check_in_pieces(const example *it, kind which, const char *bytes, size_t piece) {
     char name[80];
-    uint32_t palette[SIXEL_REGISTERS];
-    sixel_session session;
-    sixel_picture picture;
-    sixel_canvas canvas = fresh_canvas(it->stride, it->rows);
+    uint32_t palette[OWLGANTRY_REGISTERS];
+    owlgantry_session session;
+    owlgantry_picture picture;
+    owlgantry_canvas canvas = fresh_canvas(it->stride, it->rows);
     snprintf(name, sizeof name, "%s, %s in pieces of %zu", it->payload, which == DCS ? "DCS" : "payload", piece);
-    sixel_standard_palette(palette);
+    owlgantry_standard_palette(palette);
     same(name, "the opening's answer", open_session(which, &session, it->limits, canvas, palette), 0);
-    progress fed = feed_in_pieces(which, &session, canvas, bytes, strlen(bytes), piece, owl_least_allowance(it->limits));
+    progress fed =
+        feed_in_pieces(which, &session, canvas, bytes, strlen(bytes), piece, owlgantry_least_allowance(it->limits));
     same(name, "the last feed's answer", fed.refusal, it->refusal);
     if (it->refusal == 0) {
         same(name, "consumed", fed.consumed, strlen(bytes));
         same(name, "ink", fed.ink, it->ink);
-        same(name, "how it ended", fed.last.how, which == DCS ? SIXEL_DCS_COMPLETE : SIXEL_PAYLOAD_ALL_READ);
+        same(name, "how it ended", fed.last.how, which == DCS ? OWLGANTRY_DCS_COMPLETE : OWLGANTRY_PAYLOAD_ALL_READ);
     }
     uint64_t finish = finish_session(which, &session, canvas, palette, &picture);
-    same(name, "the finish's answer", finish, it->refusal == 0 ? SIXEL_DONE : SIXEL_FAILED);
+    same(name, "the finish's answer", finish, it->refusal == 0 ? OWLGANTRY_DONE : OWLGANTRY_FAILED);
     check_picture(it, name, canvas, picture);
 }
 
@@ -136,19 +138,20 @@ static void test_example(const example *it) {
 /* W 8, allowance 48: 6 consumed with ink 48, then 1 with ink 48. */
 static void test_stop(void) {
     const char *name = "a stop for ink";
-    uint32_t palette[SIXEL_REGISTERS];
-    sixel_session session;
-    sixel_fed fed;
-    sixel_canvas canvas = fresh_canvas(1024, 768);
-    sixel_standard_palette(palette);
-    same(name, "the opening", open_session(PAYLOAD, &session, owl_limits(8, 768, 1024, 786432), canvas, palette), 0);
-    same(name, "allowance 47", owl_payload_feed(&session, canvas, "!8~$!8~", 7, 47, &fed), SIXEL_ALLOWANCE);
-    same(name, "the first call", owl_payload_feed(&session, canvas, "!8~$!8~", 7, 48, &fed), 0);
-    same(name, "how", fed.how, SIXEL_PAYLOAD_STOPPED);
+    uint32_t palette[OWLGANTRY_REGISTERS];
+    owlgantry_session session;
+    owlgantry_fed fed;
+    owlgantry_canvas canvas = fresh_canvas(1024, 768);
+    owlgantry_standard_palette(palette);
+    same(name, "the opening",
+         open_session(PAYLOAD, &session, owlgantry_limits_of(8, 768, 1024, 786432), canvas, palette), 0);
+    same(name, "allowance 47", owlgantry_payload_feed(&session, canvas, "!8~$!8~", 7, 47, &fed), OWLGANTRY_ALLOWANCE);
+    same(name, "the first call", owlgantry_payload_feed(&session, canvas, "!8~$!8~", 7, 48, &fed), 0);
+    same(name, "how", fed.how, OWLGANTRY_PAYLOAD_STOPPED);
     same(name, "consumed", fed.consumed, 6);
     same(name, "ink", fed.ink, 48);
-    same(name, "the second call", owl_payload_feed(&session, canvas, "~", 1, 48, &fed), 0);
-    same(name, "how", fed.how, SIXEL_PAYLOAD_ALL_READ);
+    same(name, "the second call", owlgantry_payload_feed(&session, canvas, "~", 1, 48, &fed), 0);
+    same(name, "how", fed.how, OWLGANTRY_PAYLOAD_ALL_READ);
     same(name, "consumed", fed.consumed, 1);
     same(name, "ink", fed.ink, 48);
 }
@@ -159,50 +162,51 @@ static void test_ends(void) {
         const char *bytes;
         uint64_t how, consumed, byte;
     } ends[] = {
-        {"\033Pq~\033\\x", SIXEL_DCS_COMPLETE, 6, 0},       {"\x90q~\x9cx", SIXEL_DCS_COMPLETE, 4, 0},
-        {"\x90q~\x18x", SIXEL_DCS_CANCELLED, 4, 0x18},      {"\x90q~\x1ax", SIXEL_DCS_CANCELLED, 4, 0x1a},
-        {"\x90q~\033[x", SIXEL_DCS_INTERRUPTED, 4, 0x1b},   {"\x90q~\x85x", SIXEL_DCS_INTERRUPTED, 3, 0x85},
+        {"\033Pq~\033\\x", OWLGANTRY_DCS_COMPLETE, 6, 0},       {"\x90q~\x9cx", OWLGANTRY_DCS_COMPLETE, 4, 0},
+        {"\x90q~\x18x", OWLGANTRY_DCS_CANCELLED, 4, 0x18},      {"\x90q~\x1ax", OWLGANTRY_DCS_CANCELLED, 4, 0x1a},
+        {"\x90q~\033[x", OWLGANTRY_DCS_INTERRUPTED, 4, 0x1b},   {"\x90q~\x85x", OWLGANTRY_DCS_INTERRUPTED, 3, 0x85},
     };
-    uint32_t palette[SIXEL_REGISTERS];
-    sixel_session session;
-    sixel_fed fed;
-    sixel_picture picture;
-    sixel_standard_palette(palette);
+    uint32_t palette[OWLGANTRY_REGISTERS];
+    owlgantry_session session;
+    owlgantry_fed fed;
+    owlgantry_picture picture;
+    owlgantry_standard_palette(palette);
     for (size_t at = 0; at < sizeof ends / sizeof *ends; at++) {
-        sixel_canvas canvas = fresh_canvas(8, 6);
+        owlgantry_canvas canvas = fresh_canvas(8, 6);
         const char *name = ends[at].bytes;
-        same(name, "the opening", owl_dcs_open(&session, owl_house_limits(), canvas, palette), 0);
+        same(name, "the opening", owlgantry_dcs_open(&session, owlgantry_house_limits(), canvas, palette), 0);
         holds(name, "nothing is written before `q`", untouched_outside(canvas, 0, 0));
         for (int turn = 0; turn < 2; turn++) {
-            same(name, "the feed", owl_dcs_feed(&session, canvas, name, strlen(name), 6144, &fed), 0);
+            same(name, "the feed", owlgantry_dcs_feed(&session, canvas, name, strlen(name), 6144, &fed), 0);
             same(name, "how", fed.how, ends[at].how);
             same(name, "the byte", fed.byte, ends[at].byte);
             same(name, "consumed", fed.consumed, turn == 0 ? ends[at].consumed : 0);
             same(name, "ink", fed.ink, turn == 0 ? 6 : 0);
         }
-        same(name, "the finish", owl_dcs_finish(&session, canvas, palette, &picture), 0);
+        same(name, "the finish", owlgantry_dcs_finish(&session, canvas, palette, &picture), 0);
         same(name, "width", picture.width, 1);
     }
 }
 
 /* P1 and P2 of a payload session, no bytes at all, and an end that stays unread. */
 static void test_parameters(void) {
-    uint32_t palette[SIXEL_REGISTERS];
-    sixel_session session;
-    sixel_fed fed;
-    sixel_picture picture;
-    sixel_canvas canvas = fresh_canvas(8, 6);
-    sixel_standard_palette(palette);
-    same("P1 2, P2 1", "the opening", owl_payload_open(&session, owl_house_limits(), canvas, 2, 1, palette), 0);
+    uint32_t palette[OWLGANTRY_REGISTERS];
+    owlgantry_session session;
+    owlgantry_fed fed;
+    owlgantry_picture picture;
+    owlgantry_canvas canvas = fresh_canvas(8, 6);
+    owlgantry_standard_palette(palette);
+    same("P1 2, P2 1", "the opening", owlgantry_payload_open(&session, owlgantry_house_limits(), canvas, 2, 1, palette),
+         0);
     holds("P1 2, P2 1", "pixel (0, 0) is clear", memcmp(canvas.bytes, "\0\0\0\0", 4) == 0);
     holds("P1 2, P2 1", "no other is written", untouched_outside(canvas, 1, 1));
-    same("P1 2, P2 1", "no bytes", owl_payload_feed(&session, canvas, NULL, 0, 6144, &fed), 0);
-    same("P1 2, P2 1", "the feed", owl_payload_feed(&session, canvas, "?\033\\", 3, 6144, &fed), 0);
-    same("P1 2, P2 1", "how", fed.how, SIXEL_PAYLOAD_ENDED);
+    same("P1 2, P2 1", "no bytes", owlgantry_payload_feed(&session, canvas, NULL, 0, 6144, &fed), 0);
+    same("P1 2, P2 1", "the feed", owlgantry_payload_feed(&session, canvas, "?\033\\", 3, 6144, &fed), 0);
+    same("P1 2, P2 1", "how", fed.how, OWLGANTRY_PAYLOAD_ENDED);
     same("P1 2, P2 1", "consumed", fed.consumed, 1);
     same("P1 2, P2 1", "the byte", fed.byte, 0x1b);
-    same("P1 2, P2 1", "the finish", owl_payload_finish(&session, canvas, palette, &picture), 0);
-    same("P1 2, P2 1", "the ratio's kind", picture.ratio_kind, SIXEL_RATIO_P1);
+    same("P1 2, P2 1", "the finish", owlgantry_payload_finish(&session, canvas, palette, &picture), 0);
+    same("P1 2, P2 1", "the ratio's kind", picture.ratio_kind, OWLGANTRY_RATIO_P1);
     same("P1 2, P2 1", "the ratio", picture.ratio, 2);
     same("P1 2, P2 1", "transparent", picture.transparent, 1);
     holds("P1 2, P2 1", "a blank sixel is clear", memcmp(canvas.bytes + 32, "\0\0\0\0", 4) == 0);

@@ -1,37 +1,20 @@
 /* Carries calls of the reader's exported functions: commands come in on standard input, answers go out on standard output.
    It is linked with the archive that ships, so that a program for another machine can reach that archive. All numbers are
    little-endian, as on the one machine that the archive is for. */
-#include <stdint.h>
+#include "../c/owlgantry.h"
+
 #include <stdio.h>
 #include <stdlib.h>
 #include <string.h>
 
-uint64_t sixel_read(size_t w, size_t h, size_t r, size_t m, size_t stride, uint8_t *canvas, size_t canvas_len,
-                    const uint8_t *bytes, size_t bytes_len, uint32_t palette[256], uint64_t report[9]);
-uint64_t sixel_copy(const uint8_t *canvas, size_t canvas_len, size_t stride, size_t width, size_t height, uint8_t *out,
-                    size_t out_len);
-void sixel_standard_palette(uint32_t out[256]);
-uint64_t sixel_payload_open(size_t w, size_t h, size_t r, size_t m, size_t stride, uint32_t p1, uint32_t p2, uint8_t *canvas,
-                            size_t canvas_len, const uint32_t palette[256], uint64_t session[48], uint32_t registers[256]);
-uint64_t sixel_payload_feed(uint64_t session[48], uint32_t registers[256], uint8_t *canvas, size_t canvas_len,
-                            const uint8_t *bytes, size_t bytes_len, size_t allowance, uint64_t report[4]);
-uint64_t sixel_payload_finish(uint64_t session[48], const uint32_t registers[256], uint8_t *canvas, size_t canvas_len,
-                              uint32_t palette[256], uint64_t report[7]);
-uint64_t sixel_dcs_open(size_t w, size_t h, size_t r, size_t m, size_t stride, size_t length, const uint32_t palette[256],
-                        uint64_t session[48], uint32_t registers[256]);
-uint64_t sixel_dcs_feed(uint64_t session[48], uint32_t registers[256], uint8_t *canvas, size_t canvas_len,
-                        const uint8_t *bytes, size_t bytes_len, size_t allowance, uint64_t report[4]);
-uint64_t sixel_dcs_finish(uint64_t session[48], const uint32_t registers[256], uint8_t *canvas, size_t canvas_len,
-                          uint32_t palette[256], uint64_t report[7]);
-
-/* As in the program that asks: bytes before and after the canvas, and what a call has to write over. */
+/* As in the program that asks: guard bytes on either side of the canvas, and the fill pattern that a call writes over. */
 enum { GUARD = 64, UNWRITTEN = 0xa5 };
 
 static struct {
     uint64_t framed, w, h, r, m, stride, p1, p2, size;
 } opening;
-static uint32_t palette[256], registers[256];
-static uint64_t session[48 + 16], answer[10]; /* nobody is lent the last 16 */
+static uint32_t palette[OWLGANTRY_REGISTERS], registers[OWLGANTRY_REGISTERS];
+static uint64_t session[OWLGANTRY_SESSION_NUMBERS + 16], answer[10]; /* the last 16 are a guard: nobody is lent them */
 static uint8_t *buffer, *bytes;
 static size_t room_of_bytes;
 
@@ -69,9 +52,9 @@ static uint64_t open_session(void) {
     take_opening();
     size_t len = opening.size - 2 * GUARD;
     if (opening.framed)
-        return sixel_dcs_open(opening.w, opening.h, opening.r, opening.m, opening.stride, len, palette, session, registers);
-    return sixel_payload_open(opening.w, opening.h, opening.r, opening.m, opening.stride, (uint32_t)opening.p1,
-                              (uint32_t)opening.p2, buffer + GUARD, len, palette, session, registers);
+        return owlgantry_raw_dcs_open(opening.w, opening.h, opening.r, opening.m, opening.stride, len, palette, session, registers);
+    return owlgantry_raw_payload_open(opening.w, opening.h, opening.r, opening.m, opening.stride, (uint32_t)opening.p1,
+                                      (uint32_t)opening.p2, buffer + GUARD, len, palette, session, registers);
 }
 
 static uint64_t feed(void) {
@@ -79,21 +62,21 @@ static uint64_t feed(void) {
     take(&allowance, sizeof allowance);
     take(&shorter, sizeof shorter);
     size_t size = take_bytes(), len = opening.size - 2 * GUARD - shorter;
-    return (opening.framed ? sixel_dcs_feed : sixel_payload_feed)(session, registers, buffer + GUARD, len, bytes, size,
-                                                                  allowance, answer + 1);
+    return (opening.framed ? owlgantry_raw_dcs_feed : owlgantry_raw_payload_feed)(
+        session, registers, buffer + GUARD, len, bytes, size, allowance, answer + 1);
 }
 
 static uint64_t finish(void) {
     size_t len = opening.size - 2 * GUARD;
-    return (opening.framed ? sixel_dcs_finish : sixel_payload_finish)(session, registers, buffer + GUARD, len, palette,
-                                                                      answer + 1);
+    return (opening.framed ? owlgantry_raw_dcs_finish : owlgantry_raw_payload_finish)(
+        session, registers, buffer + GUARD, len, palette, answer + 1);
 }
 
 static uint64_t read_all(void) {
     take_opening();
     size_t size = take_bytes();
-    return sixel_read(opening.w, opening.h, opening.r, opening.m, opening.stride, buffer + GUARD, opening.size - 2 * GUARD,
-                      bytes, size, palette, answer + 1);
+    return owlgantry_raw_read(opening.w, opening.h, opening.r, opening.m, opening.stride, buffer + GUARD,
+                              opening.size - 2 * GUARD, bytes, size, palette, answer + 1);
 }
 
 /* The buffer that was copied to goes out behind the number. */
@@ -102,15 +85,15 @@ static void copy(void) {
     take(&width, sizeof width);
     take(&height, sizeof height);
     size_t size = take_bytes();
-    answer[0] = sixel_copy(buffer + GUARD, opening.size - 2 * GUARD, opening.stride, width, height, bytes, size);
+    answer[0] = owlgantry_raw_copy(buffer + GUARD, opening.size - 2 * GUARD, opening.stride, width, height, bytes, size);
     give(answer, sizeof *answer);
     give(bytes, size);
 }
 
 static void standard_palette(void) {
-    uint32_t out[256];
+    uint32_t out[OWLGANTRY_REGISTERS];
     memset(out, UNWRITTEN, sizeof out);
-    sixel_standard_palette(out);
+    owlgantry_raw_standard_palette(out);
     give(out, sizeof out);
 }
 

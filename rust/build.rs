@@ -1,5 +1,5 @@
 //! Links the reader. OWLGANTRY_LIB names its archive or an object of it; without the variable it is the archive that
-//! `rt staticlib boundary` writes.
+//! `rt staticlib owlgantry` writes.
 use std::{env, fs, path::Path, path::PathBuf, process::exit, process::Command};
 
 fn main() {
@@ -7,9 +7,9 @@ fn main() {
     let out = PathBuf::from(env::var("OUT_DIR").expect("cargo names the output folder"));
     let reader = reader();
     println!("cargo:rerun-if-changed={}", reader.display());
-    put_archive(&reader, &out.join("libboundary.a"));
+    put_archive(&reader, &out.join("libowlgantry.a"));
     println!("cargo:rustc-link-search=native={}", out.display());
-    println!("cargo:rustc-link-lib=static=boundary");
+    println!("cargo:rustc-link-lib=static=owlgantry");
 }
 
 fn reader() -> PathBuf {
@@ -19,10 +19,10 @@ fn reader() -> PathBuf {
     }
     let path = named.unwrap_or_else(|| {
         let here = env::var("CARGO_MANIFEST_DIR").expect("cargo names the package's folder");
-        Path::new(&here).join("../target/staticlib/libboundary.a")
+        Path::new(&here).join("../target/staticlib/libowlgantry.a")
     });
     if !path.is_file() {
-        fail(&format!("{} is missing; `rt staticlib boundary` writes the archive", path.display()));
+        fail(&format!("{} is missing; `rt staticlib owlgantry` writes the archive", path.display()));
     }
     path
 }

@@ -1,18 +1,15 @@
 //! Whoever reads a payload: the proved reader, the Rust, and libsixel where the machine has it.
+use crate::ffi::sixbench_decode;
 use oracle::{DcsSettings, SixelDecoder};
 
 pub const STRIDE: usize = 1_024;
 pub const ROWS: usize = 768;
 
-extern "C" {
-    /// A slice is handed over as its pointer and its length.
-    fn sixbench_decode(canvas: *mut u8, canvas_len: usize, stride: usize, bytes: *const u8, bytes_len: usize, chunk: usize) -> u64;
-}
-
 /// Width and height, or the refusal's number.
 pub fn ours(canvas: &mut [u8], payload: &[u8], chunk: usize) -> Result<(usize, usize), u64> {
     // SAFETY: both slices live through the call, and the function keeps neither.
-    let answer = unsafe { sixbench_decode(canvas.as_mut_ptr(), canvas.len(), STRIDE, payload.as_ptr(), payload.len(), chunk) };
+    let answer =
+        unsafe { sixbench_decode(canvas.as_mut_ptr(), canvas.len(), STRIDE, payload.as_ptr(), payload.len(), chunk) };
     if answer < 1 << 32 {
         return Err(answer);
     }

@@ -36,7 +36,7 @@ pub fn growing() -> Vec<(&'static str, [Vec<u8>; 4])> {
     ]
 }
 
-/// Pictures of 16 x 12: what a reading costs before its pixels count, the standard palette among it.
+/// Pictures of 16 x 12: the fixed overhead of a reading, the standard palette among it.
 pub fn small() -> Vec<Input> {
     let input = |name, payload: &str| Input { name, target: 1.0, chunk: 0, payload: payload.as_bytes().to_vec() };
     let sixels = |register: usize, pair: &str| format!("#{register}{}", pair.repeat(8));
@@ -104,7 +104,8 @@ fn photo(width: usize, height: usize) -> Vec<u8> {
             grain = grain.wrapping_mul(1_664_525).wrapping_add(1_013_904_223);
             let noise = f64::from(grain >> 24) / 255.0 - 0.5;
             let (fx, fy) = (x as f64 / width as f64, y as f64 / height as f64);
-            let level = |wave: f64, steps: f64| ((wave * 0.5 + 0.5) * steps + noise * 0.8).clamp(0.0, steps - 0.01) as u8;
+            let level =
+                |wave: f64, steps: f64| ((wave * 0.5 + 0.5) * steps + noise * 0.8).clamp(0.0, steps - 0.01) as u8;
             let r = level((fx * 5.0 + fy * 2.0).sin(), 8.0);
             let g = level((fy * 7.0 - fx).cos(), 8.0);
             let b = level((fx * 3.0 + fy * 4.0).cos(), 4.0);

@@ -1,8 +1,15 @@
-//! Debian's libsixel, found when the program runs; without it that column is empty.
+//! Debian's libsixel, loaded at run time; without it that column is empty.
 use std::ffi::{c_char, c_int, c_uchar, c_void};
 
 type Decode = unsafe extern "C" fn(
-    *mut c_uchar, c_int, *mut *mut c_uchar, *mut c_int, *mut c_int, *mut *mut c_uchar, *mut c_int, *mut c_void,
+    *mut c_uchar,
+    c_int,
+    *mut *mut c_uchar,
+    *mut c_int,
+    *mut c_int,
+    *mut *mut c_uchar,
+    *mut c_int,
+    *mut c_void,
 ) -> c_int;
 
 extern "C" {
@@ -13,7 +20,7 @@ extern "C" {
 
 pub fn load() -> Option<Decode> {
     const NOW: c_int = 2;
-    // SAFETY: both names end in 0; the symbol has the type that libsixel's header gives it.
+    // SAFETY: both names are NUL-terminated; the symbol has the type that libsixel's header gives it.
     unsafe {
         let library = dlopen(c"libsixel.so.1".as_ptr(), NOW);
         if library.is_null() {
@@ -32,14 +39,20 @@ pub fn framed(payload: &[u8]) -> Vec<u8> {
     [b"\x1BPq", payload, b"\x1B\\"].concat()
 }
 
-/// The answer is registers and not pixels: libsixel leaves it to its caller to look the colours up.
+/// The answer is palette indices and not pixels: libsixel leaves the colour lookup to its caller.
 pub fn decode(decode: Decode, sequence: &mut [u8]) {
     let (mut pixels, mut palette) = (std::ptr::null_mut(), std::ptr::null_mut());
     let (mut width, mut height, mut colours) = (0, 0, 0);
-    // SAFETY: the sequence and the five places live through the call; what it hands out was allocated by malloc.
+    // SAFETY: the sequence and the five out parameters live through the call; what it hands out is from malloc.
     unsafe {
         decode(
-            sequence.as_mut_ptr(), sequence.len() as c_int, &mut pixels, &mut width, &mut height, &mut palette, &mut colours,
+            sequence.as_mut_ptr(),
+            sequence.len() as c_int,
+            &mut pixels,
+            &mut width,
+            &mut height,
+            &mut palette,
+            &mut colours,
             std::ptr::null_mut(),
         );
         free(pixels.cast());

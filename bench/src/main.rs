@@ -1,5 +1,7 @@
-//! Candidates in turn, in one run: the best processor time of each, and ours over the Rust.
+//! The benchmark: candidates in turn, in one run, the best CPU time of each, and ours over the Rust.
 mod candidates;
+#[path = "../../rust/src/ffi.rs"]
+mod ffi;
 mod inputs;
 mod libsixel;
 
@@ -16,7 +18,7 @@ extern "C" {
     fn clock_gettime(clock: i32, time: *mut Time) -> i32;
 }
 
-/// This process's processor time, in seconds.
+/// This process's CPU time, in seconds.
 fn processor_time() -> f64 {
     const PROCESS: i32 = 2;
     let mut time = Time { seconds: 0, nanoseconds: 0 };
@@ -33,7 +35,8 @@ fn timed(mut work: impl FnMut()) -> f64 {
 
 /// Both readers see the same picture, or nothing is timed.
 fn check(input: &Input, canvas: &mut [u8]) {
-    let (width, height) = ours(canvas, &input.payload, input.chunk).unwrap_or_else(|number| panic!("{}: refused {number}", input.name));
+    let (width, height) =
+        ours(canvas, &input.payload, input.chunk).unwrap_or_else(|number| panic!("{}: refused {number}", input.name));
     let (pixels, rust_width, rust_height) = rust(&input.payload, input.chunk);
     assert_eq!((width, height), (rust_width, rust_height), "{}", input.name);
     for y in 0..height {
@@ -47,7 +50,11 @@ fn best(so_far: &mut f64, time: f64) {
 }
 
 fn microseconds(time: f64) -> String {
-    if time.is_finite() { format!("{:.0}", time * 1e6) } else { "-".into() }
+    if time.is_finite() {
+        format!("{:.0}", time * 1e6)
+    } else {
+        "-".into()
+    }
 }
 
 /// Every candidate on every input.
@@ -60,16 +67,25 @@ fn compare(rounds: usize, canvas: &mut [u8]) {
         let (mut theirs, mut mine, mut others) = (f64::INFINITY, f64::INFINITY, f64::INFINITY);
         for _ in 0..rounds {
             best(&mut theirs, timed(|| drop(std::hint::black_box(rust(&input.payload, input.chunk)))));
-            best(&mut mine, timed(|| {
-                let _ = std::hint::black_box(ours(canvas, &input.payload, input.chunk));
-            }));
+            best(
+                &mut mine,
+                timed(|| {
+                    let _ = std::hint::black_box(ours(canvas, &input.payload, input.chunk));
+                }),
+            );
             if let Some(decode) = other {
                 best(&mut others, timed(|| libsixel::decode(decode, &mut sequence)));
             }
         }
         println!(
             "{} | {} | {} | {} | {} | {:.2} | {:.1}",
-            input.name, input.payload.len(), microseconds(theirs), microseconds(others), microseconds(mine), theirs / mine, input.target
+            input.name,
+            input.payload.len(),
+            microseconds(theirs),
+            microseconds(others),
+            microseconds(mine),
+            theirs / mine,
+            input.target
         );
     }
 }
@@ -83,12 +99,24 @@ fn many(rounds: usize, canvas: &mut [u8]) {
         let (mut theirs, mut mine) = (f64::INFINITY, f64::INFINITY);
         for _ in 0..rounds {
             best(&mut theirs, timed(|| (0..TIMES).for_each(|_| drop(std::hint::black_box(rust(&input.payload, 0))))));
-            best(&mut mine, timed(|| (0..TIMES).for_each(|_| {
-                let _ = std::hint::black_box(ours(canvas, &input.payload, 0));
-            })));
+            best(
+                &mut mine,
+                timed(|| {
+                    (0..TIMES).for_each(|_| {
+                        let _ = std::hint::black_box(ours(canvas, &input.payload, 0));
+                    })
+                }),
+            );
         }
         let each = |time: f64| time * 1e9 / TIMES as f64;
-        println!("{} | {} | {:.0} | {:.0} | {:.2}", input.name, input.payload.len(), each(theirs), each(mine), theirs / mine);
+        println!(
+            "{} | {} | {:.0} | {:.0} | {:.2}",
+            input.name,
+            input.payload.len(),
+            each(theirs),
+            each(mine),
+            theirs / mine
+        );
     }
 }
 
@@ -97,9 +125,11 @@ fn grow(rounds: usize, canvas: &mut [u8]) {
     println!("ours at 1, 2, 4 and 8 times the size | 1 | 2 | 4 | 8 | 8 over 1");
     for (name, payloads) in inputs::growing() {
         let times = payloads.map(|payload| {
-            let once = |_| timed(|| {
-                let _ = std::hint::black_box(ours(canvas, &payload, 0)).expect("the payload is read");
-            });
+            let once = |_| {
+                timed(|| {
+                    let _ = std::hint::black_box(ours(canvas, &payload, 0)).expect("the payload is read");
+                })
+            };
             (0..rounds).map(once).fold(f64::INFINITY, f64::min)
         });
         println!("{name} | {} | {:.2}", times.map(microseconds).join(" | "), times[3] / times[0]);
@@ -109,7 +139,11 @@ fn grow(rounds: usize, canvas: &mut [u8]) {
 fn main() {
     let rounds: usize = std::env::args().nth(1).map_or(30, |word| word.parse().expect("a number of rounds"));
     let mut canvas = vec![0_u8; 4 * STRIDE * ROWS];
-    println!("ours: {}; {} rounds, best processor time in microseconds", std::env::var("SIXEL_KIND").unwrap_or_default(), rounds);
+    println!(
+        "ours: {}; {} rounds, best processor time in microseconds",
+        std::env::var("OWLGANTRY_KIND").unwrap_or_default(),
+        rounds
+    );
     compare(rounds, &mut canvas);
     many(rounds.min(5), &mut canvas);
     grow(rounds, &mut canvas);

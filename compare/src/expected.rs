@@ -1,5 +1,5 @@
 //! The oracle's answer to a trial, and what the reader is lent for it.
-use crate::boundary::{Opening, Registers, GUARD};
+use crate::reader::{Opening, Registers, GUARD};
 use crate::trial::Trial;
 use crate::values::Settings;
 use oracle::random::Random;

@@ -1,6 +1,6 @@
 //! The same comparison under libFuzzer: the input's first bytes choose the setting, the rest is the stream.
 #![no_main]
-use compare::boundary::Linked;
+use compare::reader::Linked;
 use compare::run::{difference, smallest};
 use compare::show;
 use compare::trial::{area, Trial, LEAST};
@@ -10,12 +10,14 @@ use oracle::run::Entry;
 const MOST_PIXELS: u64 = 1 << 16;
 const HEAD: usize = 8;
 
+/// # Safety
+/// libFuzzer lends `size` bytes for the call; it may hand over a null pointer with none.
 #[no_mangle]
-pub extern "C" fn LLVMFuzzerTestOneInput(data: *const u8, size: usize) -> i32 {
-    // SAFETY: libFuzzer lends `size` bytes for the call; it may hand over a null pointer with none.
+pub unsafe extern "C" fn LLVMFuzzerTestOneInput(data: *const u8, size: usize) -> i32 {
+    // SAFETY: as the caller promises.
     let input = if size == 0 { &[] } else { unsafe { std::slice::from_raw_parts(data, size) } };
     let Some(trial) = trial(input) else { return -1 };
-    let mut reader = Linked::new();
+    let mut reader = Linked::default();
     if let Some(found) = difference(&trial, &mut reader) {
         println!("a difference:\n{}{}", show::trial(&trial), show::difference(&found));
         println!("{}", smallest(&trial, &mut reader));

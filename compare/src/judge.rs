@@ -1,7 +1,7 @@
 //! One trial put to a reader, and every answer compared with the oracle's and with the count.
-use crate::boundary::{Boundary, GUARD, SESSION, UNWRITTEN};
 use crate::expected::{settings, Expected};
 use crate::model::{Bounds, Model, ALL_READ, STOPPED};
+use crate::reader::{Reader, GUARD, SESSION, UNWRITTEN};
 use crate::same::{differs, pixels, same, same_call, Difference, Same};
 use crate::tally::{Calls, Tally};
 use crate::trial::{Trial, LEAST};
@@ -11,7 +11,7 @@ use oracle::run::{Entry, Status};
 use oracle::{DcsSettings, PixelAspectRatio, LIMITS};
 
 /// Puts the trial to the reader.
-pub fn judge(trial: &Trial, expected: &Expected, reader: &mut dyn Boundary) -> Result<Tally, Difference> {
+pub fn judge(trial: &Trial, expected: &Expected, reader: &mut dyn Reader) -> Result<Tally, Difference> {
     let bounds = Bounds {
         limits: LIMITS.map(|limit| limit as u64),
         stride: expected.opening.stride as u64,
@@ -27,14 +27,14 @@ pub fn judge(trial: &Trial, expected: &Expected, reader: &mut dyn Boundary) -> R
     if expected.answer.refusal == 0 && !trial.abort {
         copied(trial, expected, reader)?;
     }
-    if trial.before.is_empty() && trial.fill % 64 == 0 {
+    if trial.before.is_empty() && trial.fill.is_multiple_of(64) {
         same("standard palette", reader.standard_palette(), expected.before)?;
     }
     Ok(Tally::new(trial, &expected.answer, &calls))
 }
 
 /// Reading all at once.
-fn whole(trial: &Trial, expected: &Expected, reader: &mut dyn Boundary, bounds: Bounds) -> Same {
+fn whole(trial: &Trial, expected: &Expected, reader: &mut dyn Reader, bounds: Bounds) -> Same {
     let bytes = trial.stream();
     let (number, report) = reader.read(&expected.opening, &bytes);
     same("refusal", number, u64::from(expected.answer.refusal))?;
@@ -50,7 +50,7 @@ fn whole(trial: &Trial, expected: &Expected, reader: &mut dyn Boundary, bounds: 
     finished(expected, (number, finish), counted)
 }
 
-fn session(trial: &Trial, expected: &Expected, reader: &mut dyn Boundary, bounds: Bounds, calls: &mut Calls) -> Same {
+fn session(trial: &Trial, expected: &Expected, reader: &mut dyn Reader, bounds: Bounds, calls: &mut Calls) -> Same {
     same("opening", reader.open(&expected.opening), 0)?;
     let nothing = &mut |_| ();
     let mut model = match trial.entry {
@@ -84,7 +84,7 @@ fn session(trial: &Trial, expected: &Expected, reader: &mut dyn Boundary, bounds
 fn feed_piece(
     trial: &Trial,
     expected: &Expected,
-    reader: &mut dyn Boundary,
+    reader: &mut dyn Reader,
     model: &mut Model,
     calls: &mut Calls,
     piece: &[u8],
@@ -128,7 +128,7 @@ fn feed_piece(
 
 /// The canvas after a call: the oracle's picture of the bytes consumed so far, a pending command carried out where the next byte
 /// has ended it.
-fn glance(trial: &Trial, expected: &Expected, reader: &mut dyn Boundary, consumed: usize, how: u64) -> Same {
+fn glance(trial: &Trial, expected: &Expected, reader: &mut dyn Reader, consumed: usize, how: u64) -> Same {
     let bytes = &trial.stream()[..consumed];
     let begun = match trial.entry {
         Entry::Payload([p1, p2, p3]) => Some((DcsSettings::new(p1, p2, p3), bytes)),
@@ -141,7 +141,7 @@ fn glance(trial: &Trial, expected: &Expected, reader: &mut dyn Boundary, consume
 }
 
 /// Calls with too small an allowance and too short a canvas change nothing.
-fn poke(reader: &mut dyn Boundary, bytes: &[u8]) -> Same {
+fn poke(reader: &mut dyn Reader, bytes: &[u8]) -> Same {
     let before = reader.memory().clone();
     same("allowance below 6W", reader.feed(bytes, LEAST - 1, 0), (13, [0; 4]))?;
     same("canvas one byte short", reader.feed(bytes, LEAST - 1, 1), (12, [0; 4]))?;
@@ -192,7 +192,7 @@ fn finished(expected: &Expected, ours: (u64, [u64; 7]), counted: Result<[u64; 7]
 }
 
 /// Every byte that was lent.
-fn memory(trial: &Trial, expected: &Expected, reader: &mut dyn Boundary) -> Same {
+fn memory(trial: &Trial, expected: &Expected, reader: &mut dyn Reader) -> Same {
     let (answer, opening) = (&expected.answer, &expected.opening);
     let memory = reader.memory();
     let theirs = if answer.refusal == 0 && !trial.abort { &expected.after } else { &expected.before };
@@ -215,7 +215,7 @@ fn memory(trial: &Trial, expected: &Expected, reader: &mut dyn Boundary) -> Same
 }
 
 /// The picture's rows without gaps at the front of a buffer, whose later bytes stay; and 14 where it is too short.
-fn copied(trial: &Trial, expected: &Expected, reader: &mut dyn Boundary) -> Same {
+fn copied(trial: &Trial, expected: &Expected, reader: &mut dyn Reader) -> Same {
     let answer = &expected.answer;
     let mut theirs = answer.pixels.clone();
     let size = theirs.len();

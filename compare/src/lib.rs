@@ -1,8 +1,10 @@
-//! The oracle and the proved reader side by side. `README.md` beside this crate says how it is run.
-pub mod boundary;
+//! Differential testing: oracle and proved reader side by side. `README.md` beside this crate says how it is run.
 pub mod expected;
+#[path = "../../rust/src/ffi.rs"]
+mod ffi;
 pub mod judge;
 pub mod model;
+pub mod reader;
 pub mod recorded;
 pub mod run;
 pub mod same;

@@ -21,13 +21,13 @@ fn readers() -> Readers {
 }
 
 #[cfg(linked)]
-fn linked() -> Box<dyn compare::boundary::Boundary + Send> {
-    Box::new(compare::boundary::Linked::new())
+fn linked() -> Box<dyn compare::reader::Reader + Send> {
+    Box::new(compare::reader::Linked::default())
 }
 
 #[cfg(not(linked))]
-fn linked() -> Box<dyn compare::boundary::Boundary + Send> {
-    fail("built without SIXEL_OBJECT, so that there is no reader to compare")
+fn linked() -> Box<dyn compare::reader::Reader + Send> {
+    fail("built without OWLGANTRY_LIB, so that there is no reader to compare")
 }
 
 /// `run NAME CLASSES SEED STREAMS THREADS STATE`

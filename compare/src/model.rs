@@ -1,4 +1,4 @@
-//! Document 01's rules of reading, without pixels and colours: what each call has to answer, and the ink of every draw.
+//! The rules of reading (docs/RULES.md), without pixels and colours: what each call has to answer, and the ink of every draw.
 //!
 //! Written from the document and not from either reader, so that calls, stops and ink are counted by a third party.
 use crate::values::{ends, header_byte, skipped, Settings, Values};

@@ -1,8 +1,8 @@
-//! A reader whose calls and answers are put down in words, so that a difference can be read.
-use crate::boundary::{Boundary, Memory, Opening, Registers};
+//! A reader whose calls and answers are logged in words, so that a difference can be read.
+use crate::reader::{Memory, Opening, Reader, Registers};
 
 pub struct Recorded<'a> {
-    pub inner: &'a mut dyn Boundary,
+    pub inner: &'a mut dyn Reader,
     pub lines: String,
 }
 
@@ -12,7 +12,7 @@ impl Recorded<'_> {
     }
 }
 
-impl Boundary for Recorded<'_> {
+impl Reader for Recorded<'_> {
     fn open(&mut self, opening: &Opening) -> u64 {
         let number = self.inner.open(opening);
         self.note("open", number);

@@ -1,7 +1,7 @@
-//! Many trials in order, by one reader or two, with a progress line and a state from which a run goes on.
-use crate::boundary::Boundary;
+//! Many trials in order, by one reader or two, with a progress line and a checkpoint from which a run resumes.
 use crate::expected::Expected;
 use crate::judge::judge;
+use crate::reader::Reader;
 use crate::recorded::Recorded;
 use crate::same::Difference;
 use crate::show;
@@ -16,10 +16,10 @@ use std::{fs, thread};
 pub const CLASSES: u64 = 8;
 /// One in so many streams goes through the archive as well.
 const THROUGH_ARCHIVE: u64 = 50;
-/// So many streams are handed out at once, and a state stands between two such blocks.
+/// So many streams are handed out at once, and a checkpoint stands between two such blocks.
 const BLOCK: u64 = 4_096;
 const PROGRESS: Duration = Duration::from_secs(5);
-/// After so many differences a run is broken off.
+/// After so many differences a run is aborted.
 const ENOUGH: u64 = 10;
 
 pub struct Plan {
@@ -34,8 +34,8 @@ pub struct Plan {
 
 /// Whoever is asked: the reader at hand, and the archive where it is another.
 pub struct Readers {
-    pub linked: Box<dyn Boundary + Send>,
-    pub archive: Option<Box<dyn Boundary + Send>>,
+    pub linked: Box<dyn Reader + Send>,
+    pub archive: Option<Box<dyn Reader + Send>>,
 }
 
 #[derive(Clone, Copy, Default)]
@@ -104,7 +104,7 @@ impl Plan {
 
     /// Whether the stream goes through the archive too: all classes have their share.
     fn through_archive(&self, number: u64) -> bool {
-        number / CLASSES % THROUGH_ARCHIVE == 0
+        (number / CLASSES).is_multiple_of(THROUGH_ARCHIVE)
     }
 }
 
@@ -174,8 +174,8 @@ fn one(plan: &Plan, readers: &mut Readers, number: u64, state: &mut State) {
     let archive = readers.archive.as_deref_mut().filter(|_| plan.through_archive(number));
     state.done += 1;
     state.through_archive += u64::from(archive.is_some());
-    let mut asked: Vec<(&str, &mut dyn Boundary)> = vec![("linked", readers.linked.as_mut())];
-    asked.extend(archive.map(|archive| ("archive", archive as &mut dyn Boundary)));
+    let mut asked: Vec<(&str, &mut dyn Reader)> = vec![("linked", readers.linked.as_mut())];
+    asked.extend(archive.map(|archive| ("archive", archive as &mut dyn Reader)));
     for (name, result) in answers(&trial, &mut asked) {
         match result {
             Ok(tally) if name == "linked" => state.tally.add(&tally),
@@ -192,7 +192,7 @@ fn one(plan: &Plan, readers: &mut Readers, number: u64, state: &mut State) {
 }
 
 /// One answer of the oracle for all readers.
-fn answers<'a>(trial: &Trial, asked: &mut [(&'a str, &mut dyn Boundary)]) -> Vec<(&'a str, Result<Tally, Difference>)> {
+fn answers<'a>(trial: &Trial, asked: &mut [(&'a str, &mut dyn Reader)]) -> Vec<(&'a str, Result<Tally, Difference>)> {
     let expected = match catch_unwind(|| Expected::of(trial)) {
         Ok(expected) => expected,
         Err(_) => return vec![(asked[0].0, Err(oracle_failed()))],
@@ -205,13 +205,13 @@ fn oracle_failed() -> Difference {
 }
 
 /// The difference between the oracle and one reader, where there is one.
-pub fn difference(trial: &Trial, reader: &mut dyn Boundary) -> Option<Difference> {
+pub fn difference(trial: &Trial, reader: &mut dyn Reader) -> Option<Difference> {
     let judged = catch_unwind(AssertUnwindSafe(|| judge(trial, &Expected::of(trial), reader)));
     judged.unwrap_or_else(|_| Err(oracle_failed())).err()
 }
 
 /// The smallest trial that differs, how it does, and both answers.
-pub fn smallest(trial: &Trial, reader: &mut dyn Boundary) -> String {
+pub fn smallest(trial: &Trial, reader: &mut dyn Reader) -> String {
     let found = shrink(trial, &mut |candidate| difference(candidate, reader).is_some());
     let mut recorded = Recorded { inner: reader, lines: String::new() };
     let how = difference(&found, &mut recorded).map_or("  not seen again\n".into(), |how| show::difference(&how));

@@ -1,5 +1,5 @@
 //! Differences: two answers that are not the same, and canvases that do not show the same.
-use crate::boundary::GUARD;
+use crate::reader::GUARD;
 use std::fmt::Debug;
 
 pub struct Difference {

@@ -1,5 +1,5 @@
-//! The reader in a program of its own (`servant.c`), reached by its standard input and output.
-use crate::boundary::{Boundary, Memory, Opening, Registers};
+//! The reader in a subprocess (`servant.c`), reached through pipes: its standard input and output.
+use crate::reader::{Memory, Opening, Reader, Registers};
 use std::io::{BufReader, BufWriter, Read, Write};
 use std::process::{Child, ChildStdin, ChildStdout, Command, Stdio};
 
@@ -69,7 +69,7 @@ impl Servant {
     }
 }
 
-impl Boundary for Servant {
+impl Reader for Servant {
     fn open(&mut self, opening: &Opening) -> u64 {
         self.give(b"o");
         self.give_opening(opening);

@@ -1,4 +1,4 @@
-//! The smallest trial that still fails, found by leaving things out.
+//! Shrinking: the smallest trial that still fails, found by leaving things out.
 use crate::trial::{Trial, LEAST};
 use oracle::run::Entry;
 

@@ -1,6 +1,6 @@
-//! A plain reader in the proved one's place, for the tests: the model with a canvas and colours.
-use crate::boundary::{Boundary, Memory, Opening, Registers, SESSION};
+//! A test double of the proved reader: the model with a canvas and colours.
 use crate::model::{Bounds, Effect, Model};
+use crate::reader::{Memory, Opening, Reader, Registers, SESSION};
 use crate::values::{self, Settings};
 use oracle::decoder::{peek_hls, peek_percent};
 use oracle::SixelDecoder;
@@ -92,7 +92,7 @@ fn numbered<const N: usize>(result: Result<[u64; N], u64>) -> (u64, [u64; N]) {
     result.map_or_else(|number| (number, [0; N]), |report| (0, report))
 }
 
-impl Boundary for StandIn {
+impl Reader for StandIn {
     fn open(&mut self, opening: &Opening) -> u64 {
         let bounds = self.start(opening);
         let Self { memory, canvas, .. } = self;

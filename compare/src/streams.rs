@@ -1,4 +1,4 @@
-//! Random streams that follow the grammar: mostly sound, near and past every limit, some of them damaged.
+//! Grammar-based random streams: mostly sound, near and past every limit, some of them mutated.
 use oracle::grammar::damaged;
 use oracle::random::Random;
 use oracle::run::Entry;

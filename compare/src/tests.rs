@@ -1,7 +1,7 @@
-//! That the comparison can fail, at each thing it compares, and that shrinking finds the smallest stream.
-use crate::boundary::{Boundary, Memory, Opening, Registers, GUARD, SESSION};
+//! Mutation testing: that the comparison can fail, at each thing it compares, and that shrinking works.
 use crate::expected::Expected;
 use crate::judge::judge;
+use crate::reader::{Memory, Opening, Reader, Registers, GUARD, SESSION};
 use crate::run::{difference, smallest};
 use crate::shrink::shrink;
 use crate::stand_in::StandIn;
@@ -58,7 +58,7 @@ impl Damaged {
     }
 }
 
-impl Boundary for Damaged {
+impl Reader for Damaged {
     fn open(&mut self, opening: &Opening) -> u64 {
         self.ended = false;
         self.inner.open(opening) + if self.is(Damage::Opening) { 11 } else { 0 }

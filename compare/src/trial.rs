@@ -15,9 +15,9 @@ pub struct Trial {
     pub pieces: Vec<Vec<u8>>,
     /// Taken in turn, one a call; never empty, each at least 6W.
     pub allowances: Vec<usize>,
-    /// Columns, rows and bytes that the canvas has beyond the picture.
+    /// Margins: columns, rows and bytes that the canvas has beyond the picture.
     pub room: [usize; 3],
-    /// What the canvas holds at the opening.
+    /// The fill pattern that the canvas holds at the opening.
     pub fill: u64,
     /// Calls that must be refused by 12 and 13 and change nothing are put between the others.
     pub poked: bool,

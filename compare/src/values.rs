@@ -1,4 +1,4 @@
-//! Kinds of bytes, the numbers of commands, and the header of a DCS sequence, by document 01.
+//! Kinds of bytes, the numbers of commands, and the header of a DCS sequence, by docs/RULES.md, sections 2 and 7.
 
 /// P1 and P2, each at most 65,535 or none.
 pub type Settings = [Option<u16>; 2];

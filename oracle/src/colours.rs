@@ -99,7 +99,7 @@ pub fn ties() -> Vec<[i32; 3]> {
                 if channels(h, l, s).iter().any(|c| (510 * c + 600_000) % 1_200_000 == 0) {
                     seen += 1;
                     // There are many: a few hundred spread over all of them will do.
-                    if seen % 97 == 0 {
+                    if seen.is_multiple_of(97) {
                         all.push([h as i32, l as i32, s as i32]);
                     }
                 }
@@ -109,7 +109,7 @@ pub fn ties() -> Vec<[i32; 3]> {
     all
 }
 
-/// The exact channels C of document 01, of which 1,200,000 make two of 255 levels.
+/// The exact channels C of rule 9.5, of which 1,200,000 make two of 255 levels.
 fn channels(h: i64, l: i64, s: i64) -> [i64; 3] {
     let hue = (h + 240) % 360;
     let q = if l < 50 { l * (100 + s) } else { 100 * l + 100 * s - l * s };

@@ -1,4 +1,4 @@
-//! Random streams that follow the grammar, and damaged copies of streams.
+//! Grammar-based random streams, and mutated copies of streams.
 use crate::random::Random;
 use crate::LIMITS;
 
@@ -40,7 +40,7 @@ pub fn one_shot(random: &mut Random, parts: u64) -> Vec<u8> {
     out
 }
 
-/// A copy with one to three bytes changed, left out, put in or doubled, or with its end cut off.
+/// A mutated copy, with one to three bytes changed, left out, put in or doubled, or with its end cut off.
 pub fn damaged(random: &mut Random, stream: &[u8]) -> Vec<u8> {
     let mut out = stream.to_vec();
     for _ in 0..=random.below(3) {

@@ -1,4 +1,4 @@
-//! A seeded generator of numbers (SplitMix64): the same seed gives the same list on every machine.
+//! A seeded pseudorandom number generator (SplitMix64): the same seed gives the same list on every machine.
 
 pub struct Random(u64);
 

@@ -86,7 +86,7 @@ pub fn pack(records: &[u8]) -> Vec<u8> {
     while at < records.len() {
         let length = u32::from_le_bytes([records[at], records[at + 1], records[at + 2], records[at + 3]]) as usize;
         assert!(length <= BLOCK - BLOCK_HEAD, "a record fits a block");
-        if blocks.last().map_or(true, |(_, block)| block.len() + length > BLOCK - BLOCK_HEAD) {
+        if blocks.last().is_none_or(|(_, block)| block.len() + length > BLOCK - BLOCK_HEAD) {
             blocks.push((0, Vec::new()));
         }
         let (count, block) = blocks.last_mut().expect("one was just made");

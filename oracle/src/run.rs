@@ -29,7 +29,7 @@ pub enum Status {
 }
 
 pub struct Answer {
-    /// Document 01's number, 0 where nothing was refused.
+    /// The number of rule 5.1, 0 where nothing was refused.
     pub refusal: u8,
     pub at_finish: bool,
     /// Status and bytes consumed over all calls that were not refused.
@@ -77,7 +77,8 @@ pub fn run(decoder: &mut SixelDecoder, case: &Case) -> Answer {
         Entry::OneShot => (peek_part(&bytes), peek_part(&bytes).map_or(0, |(_, rest)| rest.len())),
     };
     // A DCS session finished too early refuses before its pending command is looked at.
-    let carries_out = !case.abort && !(case.entry == Entry::Dcs && calls.status == Status::More);
+    let unended = case.entry == Entry::Dcs && calls.status == Status::More;
+    let carries_out = !case.abort && !unended;
     let standing = begun.map(|(settings, rest)| before.follow(settings, rest, carries_out));
     answer(calls, standing, part, decoder.registers())
 }
@@ -171,7 +172,7 @@ fn calls(mut session: impl Session, case: &Case) -> Calls {
     calls
 }
 
-/// Document 01's refusal 9, for which the Rust has these words.
+/// Refusal 9, for which the Rust has these words.
 fn has_failed(mut session: impl Session) -> bool {
     let tried = [session.give(b"").err(), session.give(b"~").err(), session.end().err()];
     tried.iter().all(|error| error.as_ref().is_some_and(|error| error.to_string().contains("has failed")))
@@ -182,7 +183,7 @@ fn one_shot(decoder: &mut SixelDecoder, bytes: &[u8]) -> Calls {
     Calls { status: Status::More, consumed: 0, at_finish: false, result }
 }
 
-/// Document 01's number for an error of the Rust; `inside` is the payload's own, where it was reached.
+/// The number of rule 5.1 for an error of the Rust; `inside` is the payload's own, where it was reached.
 fn number(error: &SixelError, inside: u8) -> u8 {
     let SixelError::InvalidData(words) = error else {
         assert!(matches!(error, SixelError::NoSixelData), "no reading reaches another error");

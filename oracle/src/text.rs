@@ -81,7 +81,7 @@ fn plain(text: &str) -> Option<Vec<u8>> {
 }
 
 fn hex(word: &str) -> Option<Vec<u8>> {
-    if !word.is_ascii() || word.len() % 2 != 0 {
+    if !word.is_ascii() || !word.len().is_multiple_of(2) {
         return None;
     }
     (0..word.len() / 2).map(|at| u8::from_str_radix(&word[2 * at..2 * at + 2], 16).ok()).collect()
@@ -109,7 +109,8 @@ pub fn show(answer: &Answer, full: bool) -> String {
     let ([w, h], [x, y]) = (answer.size, answer.reach);
     let (pixels, registers) = (bytes(&answer.pixels, full), bytes(&answer.registers, full));
     format!(
-        "{outcome} status {status} consumed {} part {} size {w} {h} reach {x} {y} ratio {ratio} background {background} pixels {pixels} registers {registers}",
+        "{outcome} status {status} consumed {} part {} size {w} {h} reach {x} {y} ratio {ratio} \
+         background {background} pixels {pixels} registers {registers}",
         answer.consumed, answer.part
     )
 }

@@ -8,8 +8,8 @@ use crate::{
 /// What is allocated: where the limits allow at most 1,048,576 pixels (width x height), a canvas of that size, from the
 /// start. Else a canvas of 64 x 6 pixels, whose width and height double as the picture needs it; so it comes to less than
 /// twice as many pixels as the limits allow. A picture that outgrows its canvas is read again from its first byte on the
-/// larger one, and so a stream decoder keeps the bytes that it has read. The finished picture is copied into the image. A
-/// canvas that can't be had is [`SixelError::OutOfMemory`](crate::SixelError::OutOfMemory).
+/// larger one, and so a streaming decoder buffers the bytes that it has read. The finished picture is copied into the
+/// image. A canvas that can't be had is [`SixelError::OutOfMemory`](crate::SixelError::OutOfMemory).
 ///
 /// [`Self::decode_onto`] allocates nothing.
 #[derive(Clone, Debug)]

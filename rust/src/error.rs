@@ -1,32 +1,32 @@
 use std::fmt;
 
-/// Why a call was refused; each has its number.
+/// Why a call was refused; each has its number (docs/RULES.md, section 5: rule 5.1 has the table, 5.2 and 5.3 the orders).
 #[derive(Clone, Copy, Debug, PartialEq, Eq)]
 #[repr(u8)]
 pub enum Refusal {
-    /// The first byte of a DCS sequence is not 1B or 90, or the byte after 1B is not `P`.
+    /// A DCS sequence does not begin with 90, or with 1B and `P`.
     Introducer = 1,
-    /// A header byte is 18, 1A, 1B or 80-9F.
+    /// 18, 1A, 1B or 80-9F stands in the header.
     HeaderEnded = 2,
-    /// A header byte is any other than a digit, `;`, `q` or a skipped one.
+    /// Another byte stands in the header that does not belong there.
     HeaderByte = 3,
-    /// A repeat command ends with a value above the limit.
+    /// A repeat is above the limit.
     Repeat = 4,
-    /// A sixel or raster size exceeds the limit of width or height.
+    /// A sixel or raster needs more than the limit of width or height.
     Size = 5,
-    /// The visible area, or a raster size, would exceed the limit of pixels.
+    /// The visible area would have more pixels than the limit.
     Pixels = 6,
-    /// The width is above the stride or the height above the rows.
+    /// A sixel or raster needs more than the canvas's stride or rows.
     Room = 7,
-    /// A DCS sequence was finished before its end, or has an introducer but no `q`.
+    /// A DCS sequence has not come to its end; read all at once, it has an introducer but no `q`.
     Unfinished = 8,
-    /// The session has already been refused by 1 to 7.
+    /// 1 to 7 refused this session before, or there is none.
     Failed = 9,
     /// Retired: nothing gives it.
     FinalSize = 10,
-    /// An opening number is out of its range, or the canvas has no whole row.
+    /// A limit or the stride is out of range, or the canvas has no whole row.
     Opening = 11,
-    /// The canvas's length differs from the opening's, or the picture does not fit it.
+    /// The canvas has another length than at the opening, or no such picture.
     Canvas = 12,
     /// The allowance is below six times the limit of width.
     Allowance = 13,

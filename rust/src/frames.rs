@@ -1,4 +1,4 @@
-//! The stream decoders, each a session for a decoder that owns the palette.
+//! The streaming decoders, each a session for a decoder that owns the palette.
 use crate::stream::Stream;
 use crate::{DcsSession, DcsSettings, DcsStatus, PayloadSession, PayloadStatus, Result, SixelDecoder, SixelImage};
 
@@ -44,7 +44,7 @@ pub struct SixelDcsFeedResult {
     pub status: SixelDcsFeedStatus,
 }
 
-/// Reads one payload, in pieces of any size, for a decoder that owns the palette.
+/// Reads one payload as a stream, in pieces of any size, for a decoder that owns the palette.
 ///
 /// Dropping it, aborting it and every error leave the decoder's palette as it was.
 ///
@@ -89,7 +89,7 @@ impl<'a> SixelStreamDecoder<'a> {
     pub fn abort(self) {}
 }
 
-/// Reads one whole DCS sequence, in pieces of any size, for a decoder that owns the palette.
+/// Reads one whole DCS sequence as a stream, in pieces of any size, for a decoder that owns the palette.
 ///
 /// Dropping it, aborting it and every error leave the decoder's palette as it was. Where the decoder's limits are out of
 /// their range, or there is no memory for a canvas, every call says so.

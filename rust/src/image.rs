@@ -92,10 +92,10 @@ impl PixelAspectRatio {
     }
 }
 
-/// A picture in memory of its own.
+/// A picture in memory of its own, on the heap.
 #[derive(Clone, Debug, PartialEq, Eq)]
 pub struct SixelImage {
-    /// Red, green, blue and alpha of each pixel, row by row without gaps.
+    /// Red, green, blue and alpha of each pixel, row by row, tightly packed.
     pub pixels: Vec<u8>,
     /// Width in pixels.
     pub width: usize,

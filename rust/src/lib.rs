@@ -2,13 +2,13 @@
 //!
 //! Two ways to use it:
 //!
-//! - [`SixelDecoder`], its two stream decoders and [`SixelImage`] are what a user of icy_sixel knows. They allocate a
-//!   canvas for the picture; the page of [`SixelDecoder`] says how much. There is no encoder.
+//! - [`SixelDecoder`], its two streaming decoders and [`SixelImage`] are what a user of icy_sixel knows. They allocate
+//!   a canvas for the picture; the page of [`SixelDecoder`] says how much. There is no encoder.
 //! - [`PayloadSession`], [`DcsSession`], [`read`] and [`copy`] draw on a canvas that the caller lends, tell the ink, stop
 //!   at an allowance, and allocate nothing.
 //!
 //! Both answer a refusal with the number that [`Refusal`] lists. What the reader answers and paints is proved; this crate
-//! around it is plain Rust and tested. Its unsafe code is one module that hands slices over as pointers and lengths.
+//! around it is plain Rust and tested. Its unsafe code is one module of FFI calls: slices become pointers and lengths.
 //!
 //! ```
 //! let mut decoder = owlgantry::SixelDecoder::new();
@@ -20,9 +20,10 @@
 #![deny(unsafe_code)]
 #![warn(missing_docs)]
 
+#[allow(unsafe_code)]
+mod calls;
 mod decoder;
 mod error;
-#[allow(unsafe_code)]
 mod ffi;
 mod frames;
 mod image;

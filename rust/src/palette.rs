@@ -1,4 +1,4 @@
-use crate::ffi;
+use crate::{calls, ffi};
 
 /// 256 colour registers. A picture that is finished hands its registers on to the next.
 #[derive(Clone, PartialEq, Eq)]
@@ -7,7 +7,7 @@ pub struct Palette(pub(crate) ffi::Registers);
 impl Palette {
     /// The standard registers.
     pub fn standard() -> Self {
-        Self(ffi::standard_palette())
+        Self(calls::standard_palette())
     }
 
     /// A register's red, green and blue; 255's above 255.

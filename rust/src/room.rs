@@ -1,4 +1,4 @@
-//! A canvas that is as large as a picture turns out to need.
+//! A growable canvas, as large as a picture turns out to need.
 use crate::{copy, Limits, Picture, Refusal, Result, SixelError, SixelImage};
 
 /// Where the limits allow no more pixels than this, the canvas has room for every picture from the start.

@@ -1,5 +1,5 @@
 //! Reading on a canvas that the caller lends: four bytes a pixel, rows of `stride` pixels. Nothing is allocated.
-use crate::ffi;
+use crate::calls;
 use crate::{BackgroundMode, DcsSettings, Limits, Palette, PixelAspectRatio, Refusal};
 use std::ops::Range;
 
@@ -57,7 +57,7 @@ pub struct Picture {
     pub width: usize,
     /// Height in pixels.
     pub height: usize,
-    /// The rightmost column that a sixel reached, plus 1.
+    /// The extent's columns: the rightmost column that a sixel reached, plus 1 (rule 4.4).
     pub right: usize,
     /// The lowest row of a band with ink, plus 1.
     pub bottom: usize,
@@ -95,7 +95,7 @@ impl Picture {
 /// A session for a payload, without its DCS header. Every call is lent the same canvas.
 #[derive(Clone)]
 #[must_use]
-pub struct PayloadSession(ffi::Memory);
+pub struct PayloadSession(calls::Memory);
 
 impl PayloadSession {
     /// Opens a session and gives pixel (0, 0) the background.
@@ -106,7 +106,7 @@ impl PayloadSession {
         canvas: &mut [u8],
         palette: &Palette,
     ) -> Result<Self, Refusal> {
-        let (answer, memory) = ffi::payload_open(limits, stride, settings.numbers(), canvas, &palette.0);
+        let (answer, memory) = calls::payload_open(limits, stride, settings.numbers(), canvas, &palette.0);
         Refusal::judge(answer).map(|()| Self(memory))
     }
 
@@ -115,7 +115,7 @@ impl PayloadSession {
     /// Refusals 4 to 7 fail the session; 9, 12 and 13 leave it as it was. The allowance is at least
     /// [`Limits::least_allowance`].
     pub fn feed(&mut self, canvas: &mut [u8], bytes: &[u8], allowance: usize) -> Result<Fed<PayloadStatus>, Refusal> {
-        let (answer, [how, consumed, ink, byte]) = ffi::payload_feed(&mut self.0, canvas, bytes, allowance);
+        let (answer, [how, consumed, ink, byte]) = calls::payload_feed(&mut self.0, canvas, bytes, allowance);
         let status = match how {
             0 => PayloadStatus::AllRead,
             1 => PayloadStatus::StoppedForInk,
@@ -126,7 +126,7 @@ impl PayloadSession {
 
     /// Carries a pending command out. The palette becomes the picture's; after a refusal it is as it was.
     pub fn finish(mut self, canvas: &mut [u8], palette: &mut Palette) -> Result<Picture, Refusal> {
-        let (answer, report) = ffi::payload_finish(&mut self.0, canvas, &mut palette.0);
+        let (answer, report) = calls::payload_finish(&mut self.0, canvas, &mut palette.0);
         Refusal::judge(answer).map(|()| Picture::of_report(report))
     }
 
@@ -137,18 +137,18 @@ impl PayloadSession {
 /// A session for a whole DCS sequence: introducer, header, payload and end. Every call is lent the same canvas.
 #[derive(Clone)]
 #[must_use]
-pub struct DcsSession(ffi::Memory);
+pub struct DcsSession(calls::Memory);
 
 impl DcsSession {
     /// Opens a session for a canvas of a length, to which nothing is written before `q`.
     pub fn open(limits: Limits, stride: usize, length: usize, palette: &Palette) -> Result<Self, Refusal> {
-        let (answer, memory) = ffi::dcs_open(limits, stride, length, &palette.0);
+        let (answer, memory) = calls::dcs_open(limits, stride, length, &palette.0);
         Refusal::judge(answer).map(|()| Self(memory))
     }
 
     /// As [`PayloadSession::feed`], with introducer, header and ends.
     pub fn feed(&mut self, canvas: &mut [u8], bytes: &[u8], allowance: usize) -> Result<Fed<DcsStatus>, Refusal> {
-        let (answer, [how, consumed, ink, byte]) = ffi::dcs_feed(&mut self.0, canvas, bytes, allowance);
+        let (answer, [how, consumed, ink, byte]) = calls::dcs_feed(&mut self.0, canvas, bytes, allowance);
         let status = match how {
             0 => DcsStatus::AllRead,
             1 => DcsStatus::StoppedForInk,
@@ -161,7 +161,7 @@ impl DcsSession {
 
     /// As [`PayloadSession::finish`], at an end; before it the answer is refusal 8.
     pub fn finish(mut self, canvas: &mut [u8], palette: &mut Palette) -> Result<Picture, Refusal> {
-        let (answer, report) = ffi::dcs_finish(&mut self.0, canvas, &mut palette.0);
+        let (answer, report) = calls::dcs_finish(&mut self.0, canvas, &mut palette.0);
         Refusal::judge(answer).map(|()| Picture::of_report(report))
     }
 
@@ -181,13 +181,13 @@ pub struct Reading {
 /// Reads all at once: the payload after the first DCS header, or all bytes where there is no introducer. The palette
 /// becomes the picture's; after a refusal it is as it was.
 pub fn read(limits: Limits, stride: usize, canvas: &mut [u8], bytes: &[u8], palette: &mut Palette) -> Reading {
-    let (answer, report) = ffi::read(limits, stride, canvas, bytes, &mut palette.0);
+    let (answer, report) = calls::read(limits, stride, canvas, bytes, &mut palette.0);
     let [numbers @ .., place, length] = report;
     let payload = place as usize..(place + length) as usize;
     Reading { picture: Refusal::judge(answer).map(|()| Picture::of_report(numbers)), payload }
 }
 
-/// Copies a picture's rows, without gaps, to the front of `out`, whose later bytes stay.
+/// Copies a picture's rows, tightly packed, to the front of `out`, whose later bytes stay.
 pub fn copy(canvas: &[u8], stride: usize, width: usize, height: usize, out: &mut [u8]) -> Result<(), Refusal> {
-    Refusal::judge(ffi::copy(canvas, stride, width, height, out))
+    Refusal::judge(calls::copy(canvas, stride, width, height, out))
 }

@@ -74,7 +74,7 @@ impl Session for DcsSession {
     }
 }
 
-/// A session, its canvas, and the bytes that it has read, which are read again on a larger canvas.
+/// A session, its canvas, and a buffer of the bytes that it has read, which are read again on a larger canvas.
 pub struct Stream<S> {
     settings: DcsSettings,
     room: Room,

@@ -49,7 +49,7 @@ rows-more (j ∷ ks) k = ap (max here) (rows-more ks k) ∙ go (eqb (k .bits) 0)
 
 module _ {s : Setting} (bounded : Bounded s) (opening : List ℕ) {d : Drawing} (sound : Sound s d) (bits : ℕ)
     (allowed : Allowed s (d .area) (d .pen .column + d .pen .repeats) (d .pen .row + 6)) where
-  -- its row is not held
+  -- its row is not saturated
   row-known : min (d .pen .row) rowCeiling ≡ d .pen .row
   row-known = omega (arith, allowed .height, bounded .height)
 

@@ -129,7 +129,7 @@ module _ {s : Setting} {d : Drawing} (sound : Sound s d) (background : List ℕ)
       seen-sized w (row + 6) (leb-true _ _ (fits .0)) (leb-true _ _ (fits .1)))
       (λ _. raster-sized w (row + 6)))
 
-  -- a row above the height limit is refused, held or not
+  -- a row above the height limit is refused, saturated or not
   low-refused : (a : Area) (w h : ℕ) → s .limits .height < h → sizeRefusal s a w h ≡ some 5
   unfolding sizeRefusal
   low-refused a w h k = rw (lt-ltb _ _ k, or-true)

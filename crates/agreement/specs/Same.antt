@@ -1,4 +1,4 @@
--- When the code's ground, frame, palette and canvas stand for a reading of the definition under a setting.
+-- The simulation relation: when the code's ground, frame, palette and canvas stand for a reading of the definition under a setting.
 use Prim.Native.Nat.{ℕ, _≤_, min, _^_}
 use mathlib.Core.Path.{_≡_}
 use mathlib.Core.Bool.{cond}
@@ -35,7 +35,7 @@ groundOf s background =
       background = background;
     }
 
--- the pen, its row held at the ceiling, its colour that of its register
+-- the pen, its row saturated at the ceiling, its colour that of its register
 unfoldable pub penOf : Palette → Pen → codePen.Pen
 penOf p d =
     record {

@@ -1,1 +1,1 @@
-// That the frame's step is the definition's: specs/ says what it is for the two to agree, proofs/ that they do.
+// That the frame's step refines the definition's: specs/ has the simulation relation in which the two agree, proofs/ that they do.

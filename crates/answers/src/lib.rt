@@ -1,4 +1,4 @@
-// What a stored list of answers is made of: numbers of four bytes, the lowest first, Adler-32 checksums, of a palette too, and the
+// What a stored list of answers is made of: little-endian numbers of four bytes, Adler-32 checksums, of a palette too, and the
 // Rust's ratios.
 ghost use mathlib.Core.Path.{_≡_};
 ghost use Prim.Native.Nat.{_+_, _*_};

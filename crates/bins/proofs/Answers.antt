@@ -188,7 +188,7 @@ refused-alike {A} {B} p n s inside a b m e =
     refused-told : _≡_ {A = Answer A} (refused m) (told a) → ⊥
     refused-told q = let never : _≡_ {A = ℕ} 0 1 = cc in omega arith
 
--- ---- 12 and 15, one for each way through `judge`
+-- ---- 12 and 15, one for each path through `judge`
 
 module _ {t : Bool} (p : Shape) (n : ℕ) (s : Setting) (e : t ≡ pictureFits p n) where
   pub judge-misfit : not t ≡ true → (r : Refusal) → numberOf r ≡ 12 → judgedAs (Refused r) ≡ judgement p n s

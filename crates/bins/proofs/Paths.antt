@@ -1,4 +1,4 @@
--- One law for each way through `bin`, `first_column`, `columns` and `top`: what was judged, what the tests said, and so the answer.
+-- One law for each path through `bin`, `first_column`, `columns` and `top`: what was judged, what the tests said, and so the answer.
 -- Assumes nothing.
 use mathlib.Core.Path.{_≡_, refl, sym, ap, ap₂, _∙_}
 use mathlib.Core.Bool.{true}

@@ -1,4 +1,4 @@
--- Laws of pixels: the bytes of one, when two are the same, and one for each way through `is_colour`.
+-- Laws of pixels: the bytes of one, when two are the same, and one for each path through `is_colour`.
 -- Assumes nothing.
 use mathlib.Core.Path.{_≡_, refl, sym, ap, _∙_}
 use mathlib.Core.Bool.{Bool, true, false, _&&_}
@@ -55,7 +55,7 @@ module _ (a b : List ℕ) where
         and-both (each 0) (and-both (each 1) (and-both (each 2) (each 3))),
   )
 
--- ---- one for each way through `is_colour`
+-- ---- one for each path through `is_colour`
 
 module _ (canvas colour : List ℕ) (p : ℕ) where
   -- the test by the canvas's bytes

@@ -1,5 +1,5 @@
 // The bin reader of the bench, over a picture in a lent canvas: which bin a pixel column belongs to, which columns a bin has, and the topmost
-// row in which a bin holds a colour. Nothing is kept between calls, and no byte is written.
+// row in which a bin holds a colour. The calls are stateless, and no byte is written.
 ghost use mathlib.Core.Path.{_≡_};
 ghost use Prim.Native.Nat.{_+_, _*_, _≤_};
 ghost use lib.Dec.{ltb};
@@ -72,7 +72,7 @@ enum Judged {
     Refused(Refusal),
 }
 
-// Says whether a setting is in range and lies in a picture of this width. The product of count and width is not formed: it could wrap.
+// Says whether a setting is in range and lies in a picture of this width. The product of count and width is not formed: it could overflow.
 fn setting_fits(setting: Setting, picture_width: usize) -> bool
     ensures { λ r. ⌜ r ≡ settingFits setting «picture_width» ⌝ }
 {

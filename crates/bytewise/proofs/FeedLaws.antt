@@ -161,7 +161,7 @@ byte-twice {t} f g b left p l e o =
 
 -- ---- the bytes that are left
 
--- the loop: the bytes from `consumed` on lead to where all lead, and what the next step asks holds
+-- the loop's invariant: the bytes from `consumed` on lead to where all lead, and what the next step asks holds
 pub record Going (g : Ground) (allowance : ℕ) (bytes : List ℕ) (whole : Reached) (room : ℕ) (p : Palette) (l : List ℕ) (f : Frame) (consumed ink : ℕ) : Type 0 where
   pub same : feedFrom g allowance (drop consumed bytes) consumed ink f p l ≡ whole
   pub within : consumed ≤ length bytes
@@ -169,7 +169,7 @@ pub record Going (g : Ground) (allowance : ℕ) (bytes : List ℕ) (whole : Reac
   pub fits : Fits f g (length l)
   pub long : length l ≡ room
 
--- what is left to do: two turns a byte, and one for a pending command
+-- the loop's measure, what is left to do: two turns a byte, and one for a pending command
 abbrev pub left-over : List ℕ → ℕ → Frame → ℕ
 left-over bytes consumed f = 2 * (length bytes - consumed) + pending (f .command .kind)
 

@@ -1,4 +1,4 @@
--- Laws of a step: one for each way through a function of `step`, and what each asks of its callees.
+-- Laws of a step: one for each path through a function of `step`, and what each asks of its callees.
 use Prim.Native.Nat.{ℕ, _+_, _-_, _*_, _≤_, _<_, min, max}
 use mathlib.Core.Bool.{Bool, true, false, cond, _&&_}
 use mathlib.Core.List.{List, [], _∷_}

@@ -21,7 +21,7 @@ use frame::sizes::Needed;
 use frame::sizes::larger;
 use frame::sizes::sixel_area;
 
-// The row stops here, above every height limit.
+// The row saturates here, above every height limit.
 const ROW_CEILING: usize = 1_000_002;
 
 pub fn row_below(row: usize) -> usize

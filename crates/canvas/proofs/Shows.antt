@@ -1,4 +1,4 @@
--- What a reader carries from byte to byte: the canvas shows the strokes so far. Each law takes the equation that the
+-- The invariant that a reader carries from byte to byte: the canvas shows the strokes so far. Each law takes the equation that the
 -- painting function ensures, last, and gives what the canvas shows then.
 -- Assumes nothing.
 use mathlib.Core.Path.{_≡_, refl, sym, ap, _∙_}

@@ -9,8 +9,8 @@ use mathlib.Core.List.{List, [], _∷_, map}
 use lib.ListN.{getD}
 use lib.Dec.{leb, ltb, eqb}
 
--- one sixel's mark: its repeat's columns from `column`, six rows from `row`, the six bits, a pixel of four bytes, and
--- the register that the pixel came from
+-- rule 3.9: one sixel's mark: its repeat's columns from `column`, six rows from `row`, the six bits, a pixel of four bytes, and the register that the
+-- pixel came from
 pub record Stroke : Type 0 where
   pub column : ℕ
   pub row : ℕ
@@ -19,7 +19,7 @@ pub record Stroke : Type 0 where
   pub colour : List ℕ
   pub register : ℕ
 
--- the visible area: columns below `width`, rows below `height`
+-- rule 4.1: the visible area: columns below `width`, rows below `height`
 pub record Area : Type 0 where
   pub width : ℕ
   pub height : ℕ
@@ -32,7 +32,7 @@ areaOf w h = record { width = w; height = h }
 unfoldable pub span : ℕ → ℕ → ℕ → Bool
 span first last n = leb first n && ltb n last
 
--- bit k of a number, the lowest being bit 0
+-- rule 2.2: bit k of a number, the lowest being bit 0
 unfoldable pub bit : ℕ → ℕ → Bool
 bit bits k = eqb (bits / 2 ^ k % 2) 1
 
@@ -40,7 +40,7 @@ bit bits k = eqb (bits / 2 ^ k % 2) 1
 unfoldable pub inSixel : ℕ → ℕ → ℕ → ℕ → ℕ → ℕ → Bool
 inSixel column row repeat bits x y = span column (column + repeat) x && (span row (row + 6) y && bit bits (y - row))
 
--- a stroke covers the pixels of its sixel
+-- rule 3.10: a stroke covers the pixels of its sixel
 unfoldable pub covers : Stroke → ℕ → ℕ → Bool
 covers s x y = inSixel (s .column) (s .row) (s .repeat) (s .bits) x y
 
@@ -50,7 +50,7 @@ orHere (some n) here = some (suc n)
 orHere none true = some zero
 orHere none false = none
 
--- the place of the last stroke that covers (x, y), counted from 0 and the oldest first
+-- rule 3.10: the place of the last stroke that covers (x, y), counted from 0 and the oldest first
 unfoldable pub lastStroke : List Stroke → ℕ → ℕ → Option ℕ
 lastStroke [] x y = none
 lastStroke (s ∷ later) x y = orHere (lastStroke later x y) (covers s x y)
@@ -60,7 +60,7 @@ unfoldable pub colourAt : List ℕ → List Stroke → Option ℕ → List ℕ
 colourAt background strokes none = background
 colourAt background strokes (some n) = getD (map (λ (s : Stroke). s .colour) strokes) n background
 
--- the colour shown at (x, y)
+-- rule 3.10: the colour shown at (x, y)
 unfoldable pub shownColour : List ℕ → List Stroke → ℕ → ℕ → List ℕ
 shownColour background strokes x y = colourAt background strokes (lastStroke strokes x y)
 
@@ -77,14 +77,14 @@ unfoldable pub replaced : ℕ → (ℕ → ℕ → ℕ) → List ℕ → List �
 replaced k f [] = []
 replaced k f (b ∷ bs) = f k b ∷ replaced (suc k) f bs
 
--- every byte of the canvas: in the area byte k is byte k % 4 of what pixel k / 4 shows, elsewhere it is the opening's
+-- rule 3.10: every byte of the canvas: in the area byte k is byte k % 4 of what pixel k / 4 shows, elsewhere it is the opening's
 unfoldable pub picture : ℕ → Area → List ℕ → List Stroke → List ℕ → List ℕ
 picture stride area background strokes opening =
     replaced 0
     (λ k b. cond (grid stride (visible area) (k / 4)) (getD (grid stride (shownColour background strokes) (k / 4)) (k % 4) 0) b)
     opening
 
--- the whole rows of a canvas of so many bytes; none where the stride is 0
+-- rule 1.3: the whole rows of a canvas of so many bytes; none where the stride is 0
 unfoldable pub rowsOf : ℕ → ℕ → ℕ
 rowsOf length stride = length / 4 / stride
 
@@ -101,10 +101,10 @@ unfoldable pub allInside : Area → List Stroke → Bool
 allInside area [] = true
 allInside area (s ∷ later) = inside area s && allInside area later
 
--- an area grown to a width and a height, where it does not have them
+-- rule 4.1: an area grown to a width and a height, where it does not have them
 unfoldable pub grownTo : Area → ℕ → ℕ → Area
 grownTo area w h = areaOf (max (area .width) w) (max (area .height) h)
 
--- an area grown to a stroke's columns and its six rows
+-- rule 4.1: an area grown to a stroke's columns and its six rows
 unfoldable pub reach : Area → Stroke → Area
 reach area s = grownTo area (s .column + s .repeat) (s .row + 6)

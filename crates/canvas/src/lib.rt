@@ -19,7 +19,7 @@ pub fn rows(length: usize, stride: usize) -> usize
     length / 4 / stride
 }
 
-// Paints the pixels from `from` up to `to`, counted through the canvas: four stores a pixel, which the compiler joins.
+// Paints the pixels from `from` up to `to`, counted through the canvas: four stores a pixel, which the compiler merges.
 // Inner: asks that the pixels are on the canvas.
 pub fn fill_span(canvas: &mut [u8], from: usize, to: usize, px: [u8; 4])
     requires { ⌜ (from ≤ to) × (4 * to ≤ length (now canvas)) ⌝ }
@@ -55,7 +55,7 @@ pub fn paint_sixel(
         let bit = rest % 2;
         rest = rest / 2;
         k += 1;
-        // Last in the turn: the two ways then need not meet again.
+        // Last in the turn: the two branches then need not be joined.
         if bit == 1 {
             let from = y * stride + column;
             fill_span(canvas, from, from + repeat, px);
@@ -162,7 +162,7 @@ fn copy_rows(canvas: &[u8], stride: usize, width: usize, height: usize, out: &mu
     }
 }
 
-// Copies a picture's rows without gaps to the front of `out`, or says why not and writes nothing.
+// Copies a picture's rows, tightly packed, to the front of `out`, or says why not and writes nothing.
 pub fn copy_picture(
     canvas: &[u8],
     stride: usize,

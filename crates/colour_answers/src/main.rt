@@ -9,7 +9,7 @@ use libc::STDOUT_FILENO;
 ghost use mathlib.Core.Path.{_≡_};
 ghost use lib.ListN.{length};
 
-// Room for the file, which has 185,450 bytes.
+// The buffer for the file, which has 185,450 bytes.
 fn room() -> [u8; 262144]
     ensures { λ r. ⌜ 262144 ≡ length r ⌝ }
 {

@@ -1,4 +1,4 @@
--- Laws of colours: packing and reading back is the identity, and the shifts of the code pack.
+-- Laws of colours: the round trip of packing and reading back is the identity, and the shifts of the code pack.
 -- Assumes nothing.
 use mathlib.Core.Path.{_≡_, ap, _∙_}
 use mathlib.Core.List.{List, [], _∷_}

@@ -7,13 +7,13 @@ use Prim.Native.Nat.{ℕ, _+_, _≤_}
 use lib.IntN.{pos}
 use Rattle.hls.specs.Percent.{percentByte}
 
--- the pixel of a grey: three equal channels, each the byte of one percent
+-- rule 9.7: the pixel of a grey: three equal channels, each the byte of one percent
 unfoldable pub greyPixel : ℕ → List ℕ
 greyPixel percent =
     let channel = percentByte (pos percent) in
     channel ∷ channel ∷ channel ∷ 255 ∷ []
 
--- two pixels are greys, the second lighter by 4 or 5 percent. Up to 100 no two percents have one byte, so that `within` leaves no choice
+-- rule 9.7: two pixels are greys, the second lighter by 4 or 5 percent. Up to 100 no two percents have one byte, so that `within` leaves no choice
 pub record EvenStep (px next : List ℕ) : Type 0 where
   pub percent : ℕ
   pub step : ℕ

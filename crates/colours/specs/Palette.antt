@@ -1,4 +1,4 @@
--- Document 01, Colours: a palette, read and set by register. Only `ofTable`, `registerOf` and `stored` look inside one.
+-- A palette, read and set by register (docs/RULES.md, section 9). Only `ofTable`, `registerOf` and `stored` look inside one.
 -- Assumes nothing.
 use Prim.Native.Nat.{ℕ, min}
 use mathlib.Core.List.{List}
@@ -11,7 +11,7 @@ use Rattle.colours.specs.declared.Palette.{Palette}
 use Rattle.colours.specs.Packing.{packed, pixelOf}
 use Rattle.colours.specs.Standard.{standardAt, listed}
 
--- a palette has this many registers
+-- rule 9.1: a palette has this many registers
 abbrev pub registerCount : ℕ
 registerCount = 256
 
@@ -19,19 +19,19 @@ registerCount = 256
 unfoldable pub ofTable : List ℕ → Palette
 ofTable colors = record { colors = colors }
 
--- the standard palette
+-- rule 9.6: the standard palette
 unfoldable pub standard : Palette
 standard = ofTable (listed standardAt 0 registerCount)
 
--- the pixel of register n; above 255 that of 255
+-- rule 9.1: the pixel of register n; above 255 that of 255
 unfoldable pub registerOf : Palette → ℕ → List ℕ
 registerOf p n = pixelOf (getD (p .colors) (min n 255) 0)
 
--- register n holds the colour; above 255 nothing changes
+-- rule 9.1: register n holds the colour; above 255 nothing changes
 unfoldable pub stored : Palette → ℕ → ℕ → Palette
 stored p n color = pick (ltb n registerCount) (ofTable (set (p .colors) n color)) p
 
--- register n set by percents of red, green and blue
+-- rule 9.3: register n set by percents of red, green and blue
 unfoldable pub setRgb : Palette → ℕ → ℤ → ℤ → ℤ → Palette
 setRgb p n r g b = stored p n (packed (percentByte r) (percentByte g) (percentByte b))
 
@@ -39,6 +39,6 @@ setRgb p n r g b = stored p n (packed (percentByte r) (percentByte g) (percentBy
 unfoldable pub packedBytes : List ℕ → ℕ
 packedBytes rgb = packed (getD rgb 0 0) (getD rgb 1 0) (getD rgb 2 0)
 
--- register n set by hue, lightness and saturation
+-- rule 9.4: register n set by hue, lightness and saturation
 unfoldable pub setHls : Palette → ℕ → ℤ → ℤ → ℤ → Palette
 setHls p n h l s = stored p n (packedBytes (hlsBytes h l s))

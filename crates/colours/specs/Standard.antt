@@ -1,4 +1,4 @@
--- Document 01, Colours: the 256 standard registers by their three rules.
+-- The 256 standard registers by their three rules (docs/RULES.md, section 9).
 -- Assumes nothing.
 use Prim.Native.Nat.{ℕ, zero, suc, _-_, _*_, _/_, _%_}
 use mathlib.Core.List.{List, [], _∷_}
@@ -13,7 +13,7 @@ use Rattle.colours.specs.Packing.{packed}
 unfoldable pub percents : ℕ → ℕ → ℕ → ℕ
 percents r g b = packed (percentByte (pos r)) (percentByte (pos g)) (percentByte (pos b))
 
--- registers 0 to 15: BASE of the Rust
+-- rule 9.6: registers 0 to 15: BASE of the Rust
 unfoldable pub base : List ℕ
 base =
     percents 0 0 0
@@ -34,15 +34,15 @@ base =
     ∷ percents 80 80 80
     ∷ []
 
--- registers 16 to 231, the k-th of 216: each channel 0 to 100 by 20, blue fastest
+-- rule 9.6: registers 16 to 231, the k-th of 216: each channel 0 to 100 by 20, blue fastest
 unfoldable pub cube : ℕ → ℕ
 cube k = percents (20 * (k / 36)) (20 * (k / 6 % 6)) (20 * (k % 6))
 
--- registers 232 to 255, the k-th of 24: a grey of 100k / 23 percent, rounded down
+-- rule 9.6: registers 232 to 255, the k-th of 24: a grey of 100k / 23 percent, rounded down
 unfoldable pub grey : ℕ → ℕ
 grey k = percents (100 * k / 23) (100 * k / 23) (100 * k / 23)
 
--- the colour of standard register n
+-- rule 9.6: the colour of standard register n
 unfoldable pub standardAt : ℕ → ℕ
 standardAt n = pick (ltb n 16) (getD base n 0) (pick (ltb n 232) (cube (n - 16)) (grey (n - 232)))
 

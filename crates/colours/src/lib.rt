@@ -1,4 +1,4 @@
-// Document 01's palette: 256 registers, each a colour packed into one number, read as pixels and set by percents or by HLS.
+// The palette (docs/RULES.md, section 9): 256 registers, each a colour packed into one number, read as pixels and set by percents or by HLS.
 // A caller lends a palette's table in a loop, and takes it out and puts it back around that.
 mod standard;
 

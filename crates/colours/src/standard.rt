@@ -1,5 +1,5 @@
-// The 256 standard registers, worked out from percents by their three rules. Each rule is by itself and its loops are short, since such
-// loops a compiler works out: a palette then costs a reading no more than a copy of 256 numbers.
+// The 256 standard registers, computed from percents by their three rules. Each rule is by itself and its loops are short, since such
+// loops a compiler unrolls and constant-folds: a palette then costs a reading no more than a copy of 256 numbers.
 use crate::pack_rgb;
 ghost use mathlib.Core.Path.{_≡_};
 ghost use Prim.Native.Nat.{_+_, _≤_};

@@ -35,13 +35,14 @@ use Rattle.payload.proofs.Openings as openings
 use Rattle.dcs.specs.declared.Phase.{Phase}
 use Rattle.dcs.specs.declared.Phase.the-variants as phases
 use Rattle.dcs.specs.declared.Session.{Session}
-use Rattle.dcs.specs.declared.lead.Lead.{Lead}
-use Rattle.dcs.specs.declared.lead.Led.{Led}
-use Rattle.dcs.specs.declared.lead.Led.the-variants as leds
-use Rattle.dcs.specs.declared.lead.Place.{Place}
-use Rattle.dcs.specs.declared.lead.Step as leadStep
-use Rattle.dcs.specs.Lead.{leadAt, leadOn, leadFrom}
-use Rattle.dcs.specs.Session.{sessionOf, settingsFrom, fedPayload, ledTo}
+use Rattle.header.specs.declared.Lead.{Lead}
+use Rattle.header.specs.declared.Led.{Led}
+use Rattle.header.specs.declared.Led.the-variants as leds
+use Rattle.header.specs.declared.Place.{Place}
+use Rattle.header.specs.declared.Step as leadStep
+use Rattle.header.specs.Lead.{leadAt, leadOn, leadFrom}
+use Rattle.header.specs.Settings.{settingsFrom}
+use Rattle.dcs.specs.Session.{sessionOf, fedPayload, ledTo}
 use Rattle.dcs.specs.History.{SamePlace, atStart, atIntroduced, inHeader, before, refused, Feeds}
 use Rattle.dcs.specs.Meant.{answerMeant}
 use Rattle.dcs.proofs.Runs.{call-dry, call-refuses, after-one}

@@ -1,9 +1,8 @@
--- No call consumes more bytes than it has.
+-- No call of a payload session consumes more bytes than it has.
 use Prim.Native.Nat.{ℕ, suc, _+_, _-_, _≤_}
 use mathlib.Core.List.{List, [], _∷_}
 use native.Mathlib.Omega.{arith}
 use lib.ListN.{length}
-use Rattle.numbers.specs.declared.Parameters.{Parameters}
 use Rattle.colours.specs.declared.Palette.{Palette}
 use Rattle.frame.specs.declared.Frame.{Frame}
 use Rattle.frame.specs.declared.Ground.{Ground}
@@ -21,28 +20,6 @@ use Rattle.payload.specs.declared.judge.Judged.{Judged}
 use Rattle.payload.specs.declared.judge.Judged.the-variants as judged
 use Rattle.payload.specs.Judge.{feedJudged}
 use Rattle.payload.specs.Session.{answeredIn, answeredBy, fedLive, fedIn, fedAs, fedBy}
-use Rattle.dcs.specs.declared.lead.Place.{Place}
-use Rattle.dcs.specs.declared.lead.Led.{Led}
-use Rattle.dcs.specs.declared.lead.Led.the-variants as leds
-use Rattle.dcs.specs.declared.lead.Step.{Step}
-use Rattle.dcs.specs.declared.lead.Lead.{Lead}
-use Rattle.dcs.specs.Lead.{leadByte, leadOn, leadFrom}
-
--- ---- introducer and header
-
-led-bound : (led : Led) (s : Step) (n m : ℕ) (later : ℕ → Place → Parameters → Lead)
-    → ((t : Place) (h : Parameters) → later (n + 1) t h .consumed ≤ n + 1 + m) → leadOn led s n later .consumed ≤ n + suc m
-unfolding leadOn
-led-bound leds.On s n m later k = omega (arith, k (s .place) (s .header))
-led-bound leds.Begins s n m later k = omega arith
-led-bound (leds.Refused r) s n m later k = omega arith
-
-pub lead-bound : (bs : List ℕ) (n : ℕ) (t : Place) (h : Parameters) → leadFrom bs n t h .consumed ≤ n + length bs
-unfolding leadFrom
-lead-bound [] n t h = omega arith
-lead-bound (b ∷ bs) n t h = led-bound (leadByte t h b .led) (leadByte t h b) n (length bs) _ (λ t′ h′. lead-bound bs (n + 1) t′ h′)
-
--- ---- a payload
 
 go-bound : (o : Outcome) (t : Turned) (n i m : ℕ) (later : ℕ → ℕ → Frame → Palette → List ℕ → Reached)
     → ((i : ℕ) (f : Frame) (p : Palette) (l : List ℕ) → later (n + 1) i f p l .progress .consumed ≤ n + 1 + m)

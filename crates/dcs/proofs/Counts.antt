@@ -21,12 +21,14 @@ use Rattle.dcs.specs.declared.Fed.{Fed}
 use Rattle.dcs.specs.declared.Phase.{Phase}
 use Rattle.dcs.specs.declared.Phase.the-variants as phases
 use Rattle.dcs.specs.declared.Session.{Session}
-use Rattle.dcs.specs.declared.lead.Lead.{Lead}
-use Rattle.dcs.specs.declared.lead.Led.{Led}
-use Rattle.dcs.specs.declared.lead.Led.the-variants as leds
-use Rattle.dcs.specs.Lead.{leadFrom}
-use Rattle.dcs.specs.Session.{sessionOf, settingsFrom, overAs, escapedBy, closedBy, passedOn, fedPayload, ledTo, fedLead, fedIn, fedAs, fedBy}
-use Rattle.dcs.proofs.Bounds.{AtMost, fed-bound, lead-bound}
+use Rattle.header.specs.declared.Lead.{Lead}
+use Rattle.header.specs.declared.Led.{Led}
+use Rattle.header.specs.declared.Led.the-variants as leds
+use Rattle.header.specs.Lead.{leadFrom}
+use Rattle.header.specs.Settings.{settingsFrom}
+use Rattle.header.proofs.Bounds.{lead-bound}
+use Rattle.dcs.specs.Session.{sessionOf, overAs, escapedBy, closedBy, passedOn, fedPayload, ledTo, fedLead, fedIn, fedAs, fedBy}
+use Rattle.dcs.proofs.Bounds.{AtMost, fed-bound}
 
 -- an answer's count is at most this
 abbrev pub Within : ℕ → Answer → Type 0

@@ -1,4 +1,3 @@
-pub mod LeadLaws
 pub mod Bounds
 pub mod SessionLaws
 pub mod Runs

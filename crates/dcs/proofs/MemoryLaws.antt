@@ -1,4 +1,4 @@
--- A session in numbers and registers: what the functions come to, and that a session read back is the same.
+-- A session in numbers and registers: what the functions come to, and the round trip: a session read back is the same.
 use Prim.Native.Nat.{ℕ, _+_, _%_, _<_}
 use native.Mathlib.Omega.{arith}
 use mathlib.Core.List.{List}
@@ -17,8 +17,8 @@ use Rattle.dcs.specs.declared.Ending.the-variants as endings
 use Rattle.dcs.specs.declared.Phase.{Phase}
 use Rattle.dcs.specs.declared.Phase.the-variants as phases
 use Rattle.dcs.specs.declared.Session.{Session}
-use Rattle.dcs.specs.declared.lead.Place.{Place}
-use Rattle.dcs.specs.declared.lead.Place.the-variants as places
+use Rattle.header.specs.declared.Place.{Place}
+use Rattle.header.specs.declared.Place.the-variants as places
 use Rattle.dcs.specs.Memory.{placeNumber, endingNumber, phaseNumber, phaseFrom, nineWritten, numbersOf, tableOf, sessionFrom, EndingRanged, PhaseRanged, Ranged}
 
 -- ---- what the functions come to
@@ -45,7 +45,7 @@ pub session-of : (ns table : List ℕ) {s : payloadSession.Session} {h : Paramet
 unfolding sessionFrom
 session-of ns table eh et es = rw (eh, et, es) refl
 
--- ---- there and back
+-- ---- the round trip
 
 cancelled-back : (b : ℕ) → b < 256 → phaseFrom (b + 256) ≡ phases.Over (endings.Cancelled b)
 unfolding phaseFrom

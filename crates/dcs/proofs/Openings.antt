@@ -1,4 +1,4 @@
--- When an opening is ready and when it is 11 (document 01, 'Refusal numbers'), and what its session stands for.
+-- When an opening is ready and when it is 11 (rule 1.4), and what its session stands for.
 use Prim.Native.Nat.{ℕ}
 use mathlib.Core.Bool.{true, false}
 use mathlib.Core.List.{List}

@@ -1,11 +1,11 @@
--- Laws of a DCS session: one for each way through a function.
+-- Laws of a DCS session: one for each path through a function.
 use Prim.Native.Nat.{ℕ, _+_, _-_, _≤_, _<_}
 use mathlib.Core.Bool.{Bool, true, false, cond, _||_}
 use mathlib.Core.List.{List, [], _∷_}
 use mathlib.Core.Path.{_≡_, refl, sym, ap, ap₂, subst, _∙_}
 use native.Mathlib.Numerals.{add-one}
 use native.Mathlib.Omega.{arith}
-use borrow.Author.Tests.{le-leb, lt-leb, eq-eqb, ne-eqb}
+use borrow.Author.Tests.{eq-eqb, ne-eqb}
 use denote.Enum.Declared.{tagOf}
 use lib.Dec.{eqb}
 use lib.ListN.{length, getD, take, drop, drop-of-length-le, length-drop}
@@ -13,7 +13,6 @@ use lib.Seq.{drop-cons, drop-drop, take-length}
 use types.Run.{OneOf, miss}
 use Rattle.numbers.specs.declared.Parameters.{Parameters}
 use Rattle.numbers.specs.Step as numbers
-use Rattle.numbers.specs.Values.{held16}
 use Rattle.numbers.proofs.Laws.{cond-yes, cond-no}
 use Rattle.colours.specs.declared.Palette.{Palette}
 use Rattle.frame.specs.declared.Limits.{Limits}
@@ -24,8 +23,6 @@ use Rattle.payload.specs.declared.Answer.the-variants as payloadAnswers
 use Rattle.payload.specs.declared.Fed as payloadFed
 use Rattle.payload.specs.declared.Finished.{Finished}
 use Rattle.payload.specs.declared.Finishing.the-variants as finishes
-use Rattle.payload.specs.declared.Given.{Given}
-use Rattle.payload.specs.declared.Given.the-variants as givens
 use Rattle.payload.specs.declared.Opened as payloadOpened
 use Rattle.payload.specs.declared.Session as payloadSession
 use Rattle.payload.specs.declared.Settings.{Settings}
@@ -43,17 +40,19 @@ use Rattle.dcs.specs.declared.Phase.{Phase}
 use Rattle.dcs.specs.declared.Phase.the-variants as phases
 use Rattle.dcs.specs.declared.Session.{Session}
 use Rattle.dcs.specs.declared.Told.{Told}
-use Rattle.dcs.specs.declared.lead.Lead.{Lead}
-use Rattle.dcs.specs.declared.lead.Led.{Led}
-use Rattle.dcs.specs.declared.lead.Led.the-variants as leds
-use Rattle.dcs.specs.declared.lead.Place.{Place}
-use Rattle.dcs.specs.declared.lead.Place.the-variants as places
-use Rattle.dcs.specs.Lead.{leadFrom}
-use Rattle.dcs.specs.Session.{sessionOf, openedBy, givenAt, settingsFrom, movedTo, overAs, escapedBy, closedBy, overTold, escapedTold, closedTold, countOf, passedTold, toldOf, passedOn, fedPayload, ledTo, fedLead, fedIn, fedAs, fedBy, endJudged, finishedIn, finishedAs, finishedBy}
-use Rattle.dcs.proofs.Bounds.{AtMost, fed-bound, lead-bound}
+use Rattle.header.specs.declared.Lead.{Lead}
+use Rattle.header.specs.declared.Led.{Led}
+use Rattle.header.specs.declared.Led.the-variants as leds
+use Rattle.header.specs.declared.Place.{Place}
+use Rattle.header.specs.declared.Place.the-variants as places
+use Rattle.header.specs.Lead.{leadFrom}
+use Rattle.header.specs.Settings.{settingsFrom}
+use Rattle.header.proofs.Bounds.{lead-bound}
+use Rattle.dcs.specs.Session.{sessionOf, openedBy, movedTo, overAs, escapedBy, closedBy, overTold, escapedTold, closedTold, countOf, passedTold, toldOf, passedOn, fedPayload, ledTo, fedLead, fedIn, fedAs, fedBy, endJudged, finishedIn, finishedAs, finishedBy}
+use Rattle.dcs.proofs.Bounds.{AtMost, fed-bound}
 use Rattle.dcs.proofs.Phase as PhaseType
 
--- ---- opening, and the header's parameters
+-- ---- opening
 
 pub opened-as : {o : payloadOpened.Opened} {h : Parameters} {s : Session} (l : Limits) (stride : ℕ) (p : Palette) (size : ℕ)
     → o ≡ reservedBy l stride p size → h ≡ numbers.opened 3
@@ -63,20 +62,7 @@ opened-as {o} l stride p size e k d =
     ap (λ (x : Session). record { answer = o .answer; session = x }) d
     ∙ ap₂ (λ (x : payloadOpened.Opened) (h : Parameters). record { answer = x .answer; session = sessionOf (x .session) h (phases.Before places.Start) }) e k
 
-pub given-none : {n : ℕ} (v : Parameters) (i : ℕ) → n ≡ v .count → n ≤ i → givens.Nothing ≡ givenAt v i
-unfolding givenAt
-given-none v i e h = sym (cond-yes _ _ (le-leb (v .count) i (omega arith)))
-
-pub given-some : {n k m : ℕ} (v : Parameters) (i : ℕ) → n ≡ v .count → i < n → k ≡ numbers.valueAt v i → m ≡ held16 k → givens.Number m ≡ givenAt v i
-unfolding givenAt
-given-some v i e h k m = ap givens.Number (m ∙ ap held16 k) ∙ sym (cond-no _ _ (lt-leb (v .count) i (omega arith)))
-
-pub settings-as : {v : Parameters} {a b : Given} (h : Parameters) → v ≡ numbers.finished h → a ≡ givenAt v 0 → b ≡ givenAt v 1
-    → _≡_ {A = Settings} (record { p1 = a; p2 = b }) (settingsFrom h)
-unfolding settingsFrom
-settings-as h e a b = rw (a, b, e) refl
-
-pub ruleset openings-laws = (opened-as, given-none, given-some, settings-as)
+pub ruleset openings-laws = (opened-as)
 
 -- ---- the end
 
@@ -240,7 +226,7 @@ pub ruleset payloads = (passed-as, passed-ended, passed-bound, payload-fed)
 
 -- ---- before it
 
-module _ (p : payloadSession.Session) (h : Parameters) (t : Place) (canvas bytes : List ℕ) (allowance : ℕ) {l : Lead} (lead : l ≡ leadFrom bytes 0 t h) where
+module _ (p : payloadSession.Session) (h : Parameters) (t : Place) (canvas bytes : List ℕ) (allowance : ℕ) {l : Lead} (lead : l ≡ leadFrom (drop 0 bytes) 0 t h) where
   pub led-bound : l .consumed ≤ length bytes
   led-bound = omega (arith, lead-bound bytes 0 t h, ap (λ (x : Lead). x .consumed) lead)
 

@@ -31,13 +31,14 @@ use Rattle.dcs.specs.declared.Fed.{Fed}
 use Rattle.dcs.specs.declared.Phase.{Phase}
 use Rattle.dcs.specs.declared.Phase.the-variants as phases
 use Rattle.dcs.specs.declared.Session.{Session}
-use Rattle.dcs.specs.declared.lead.Lead.{Lead}
-use Rattle.dcs.specs.declared.lead.Led.{Led}
-use Rattle.dcs.specs.declared.lead.Led.the-variants as leds
-use Rattle.dcs.specs.declared.lead.Place.{Place}
-use Rattle.dcs.specs.declared.lead.Place.the-variants as places
-use Rattle.dcs.specs.declared.lead.Step.{Step}
-use Rattle.dcs.specs.Lead.{ledTo, startByte, introducedByte, headerByte, leadByte, leadOn, leadFrom}
+use Rattle.header.specs.declared.Lead.{Lead}
+use Rattle.header.specs.declared.Led.{Led}
+use Rattle.header.specs.declared.Led.the-variants as leds
+use Rattle.header.specs.declared.Place.{Place}
+use Rattle.header.specs.declared.Place.the-variants as places
+use Rattle.header.specs.declared.Step.{Step}
+use Rattle.header.specs.Lead.{ledTo, startByte, introducedByte, headerByte, leadByte, leadOn, leadFrom}
+use Rattle.header.specs.Settings.{givenAt, settingsFrom}
 use Rattle.dcs.specs.Memory.{EndingRanged, PhaseRanged, Ranged}
 use Rattle.dcs.specs.Session as said
 
@@ -88,12 +89,12 @@ lead-ranged (b ∷ bs) n t h k =
     let s : Step = leadByte t h b in
     on-ranged (s .led) s n (λ n′ t′ h′. leadFrom bs n′ t′ h′) (byte-ranged h k t b) (λ n′ t′ h′ j. lead-ranged bs n′ t′ h′ j)
 
-given-ranged : (v : Parameters) (i : ℕ) → GivenRanged (said.givenAt v i)
-unfolding said.givenAt held16
+given-ranged : (v : Parameters) (i : ℕ) → GivenRanged (givenAt v i)
+unfolding givenAt held16
 given-ranged v i = cond-case GivenRanged (leb (v .count) i) (λ _. tt) (λ _. omega arith)
 
-settings-ranged : (h : Parameters) → SettingsRanged (said.settingsFrom h)
-unfolding said.settingsFrom
+settings-ranged : (h : Parameters) → SettingsRanged (settingsFrom h)
+unfolding settingsFrom
 settings-ranged h = record { p1 = given-ranged (numbers.finished h) 0; p2 = given-ranged (numbers.finished h) 1 }
 
 -- ---- the end
@@ -154,9 +155,9 @@ led-ranged : (led : Led) (l : Lead) (s : Session) (canvas bs : List ℕ) (allowa
 unfolding said.ledTo
 led-ranged leds.On l s canvas bs allowance j h k = record { payload = h .payload; header = j; phase = tt }
 led-ranged leds.Begins l s canvas bs allowance j h k =
-    let b : payloadSession.Session × List ℕ = begunBy (s .payload) (said.settingsFrom (l .header)) canvas in
+    let b : payloadSession.Session × List ℕ = begunBy (s .payload) (settingsFrom (l .header)) canvas in
     payload-ranged (said.sessionOf (b .0) (l .header) phases.Within) (b .1) (drop (l .consumed) bs) (l .consumed) allowance
-    (record { payload = begun-ranged (s .payload) (said.settingsFrom (l .header)) canvas (h .payload) (settings-ranged (l .header)); header = j; phase = tt }) (bytes-drop (l .consumed) bs k)
+    (record { payload = begun-ranged (s .payload) (settingsFrom (l .header)) canvas (h .payload) (settings-ranged (l .header)); header = j; phase = tt }) (bytes-drop (l .consumed) bs k)
 led-ranged (leds.Refused r) l s canvas bs allowance j h k = record { payload = failed-ranged (s .payload) (h .payload); header = j; phase = tt }
 
 module _ (s : Session) (h : Ranged s) (canvas bs : List ℕ) (allowance : ℕ) (k : Bytes bs) where

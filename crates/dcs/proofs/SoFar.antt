@@ -1,5 +1,4 @@
--- After every call of the code, stopped or not, the canvas holds the definition's picture of exactly the bytes consumed so far (document 01,
--- 'Ink').
+-- After every call of the code, stopped or not, the canvas holds the definition's picture of exactly the bytes consumed so far (rule 6.5).
 use Prim.Native.Nat.{ℕ, _*_, _≤_}
 use native.Mathlib.Omega.{arith}
 use mathlib.Core.Bool.{true, false, true≢false}

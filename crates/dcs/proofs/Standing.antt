@@ -37,16 +37,16 @@ use Rattle.payload.specs.Meant as payloadMeant
 use Rattle.payload.proofs.Openings as openings
 use Rattle.payload.proofs.Judgements as judgements
 use Rattle.payload.proofs.Finishings as finishings
+use Rattle.header.proofs.Cases.{both}
 use Rattle.dcs.specs.declared.Answer.the-variants as answers
 use Rattle.dcs.specs.declared.Phase.{Phase}
 use Rattle.dcs.specs.declared.Phase.the-variants as phases
 use Rattle.dcs.specs.declared.Session.{Session}
-use Rattle.dcs.specs.declared.lead.Place.{Place}
-use Rattle.dcs.specs.declared.lead.Place.the-variants as places
+use Rattle.header.specs.declared.Place.{Place}
+use Rattle.header.specs.declared.Place.the-variants as places
 use Rattle.dcs.specs.Session.{sessionOf, openedBy, overAs, escapedBy, fedPayload, fedLead, fedIn, fedAs, fedBy, finishedIn, finishedAs, finishedBy}
 use Rattle.dcs.specs.History.{SamePlace, atStart, atIntroduced, inHeader, heldAt, Stands, before, refused, inside, escaped, ended, Opens, isReady, isRefused, Feeds}
 use Rattle.dcs.specs.Meant.{endMeant, answerMeant}
-use Rattle.dcs.proofs.Runs.{both}
 use Rattle.dcs.proofs.Within.{here, dcsCall, answered, over-feeds, escaped-feeds, payload-feeds}
 use Rattle.dcs.proofs.Before.{waiting, place-area, place-unfinished, lead-feeds}
 

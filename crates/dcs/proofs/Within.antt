@@ -35,6 +35,7 @@ use Rattle.payload.specs.History as payload
 use Rattle.payload.specs.Meant as payloadMeant
 use Rattle.payload.proofs.Judgements as judgements
 use Rattle.payload.proofs.Feedings as feedings
+use Rattle.header.proofs.Cases.{both}
 use Rattle.dcs.specs.declared.Ending.{Ending}
 use Rattle.dcs.specs.declared.Ending.the-variants as endings
 use Rattle.dcs.specs.declared.Fed.{Fed}
@@ -44,7 +45,7 @@ use Rattle.dcs.specs.declared.Session.{Session}
 use Rattle.dcs.specs.Session.{sessionOf, movedTo, overAs, escapedBy, closedBy, passedOn, fedPayload, fedBy}
 use Rattle.dcs.specs.History.{heldAt, Stands, refused, inside, escaped, ended, Feeds}
 use Rattle.dcs.specs.Meant.{endMeant, answerMeant}
-use Rattle.dcs.proofs.Runs.{both, after-one, halted-at, endCall, framedCall, within-call, escape-call}
+use Rattle.dcs.proofs.Runs.{after-one, halted-at, endCall, framedCall, within-call, escape-call}
 
 -- ---- what an answer of the payload session means, read back
 

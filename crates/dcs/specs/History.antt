@@ -1,4 +1,4 @@
--- When a DCS session of the code and its canvas stand for a session of the definition, and its callers.
+-- The simulation relation: when a DCS session of the code and its canvas stand for a session of the definition, and its callers.
 use Prim.Native.Nat.{ℕ}
 use mathlib.Core.Bool.{Bool, true, false}
 use mathlib.Core.Option.{none}
@@ -30,8 +30,8 @@ use Rattle.dcs.specs.declared.Fed.{Fed}
 use Rattle.dcs.specs.declared.Opened.{Opened}
 use Rattle.dcs.specs.declared.Phase.the-variants as phases
 use Rattle.dcs.specs.declared.Session.{Session}
-use Rattle.dcs.specs.declared.lead.Place.{Place}
-use Rattle.dcs.specs.declared.lead.Place.the-variants as places
+use Rattle.header.specs.declared.Place.{Place}
+use Rattle.header.specs.declared.Place.the-variants as places
 use Rattle.dcs.specs.Session.{sessionOf, fedBy}
 use Rattle.dcs.specs.Meant.{endMeant, answerMeant}
 

@@ -1,4 +1,3 @@
-pub mod Lead
 pub mod Session
 pub mod Meant
 pub mod History

@@ -13,8 +13,8 @@ use Rattle.dcs.specs.declared.Ending.the-variants as endings
 use Rattle.dcs.specs.declared.Phase.{Phase}
 use Rattle.dcs.specs.declared.Phase.the-variants as phases
 use Rattle.dcs.specs.declared.Session.{Session}
-use Rattle.dcs.specs.declared.lead.Place.{Place}
-use Rattle.dcs.specs.declared.lead.Place.the-variants as places
+use Rattle.header.specs.declared.Place.{Place}
+use Rattle.header.specs.declared.Place.the-variants as places
 
 -- 0 to 2 before the payload, 3 in it, 4 after the 1B that ended it, 5 complete
 unfoldable pub placeNumber : Place → ℕ

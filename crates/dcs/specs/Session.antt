@@ -2,11 +2,10 @@
 use Prim.Native.Nat.{ℕ, _+_}
 use mathlib.Core.Bool.{cond, _||_}
 use mathlib.Core.List.{List, [], _∷_}
-use lib.Dec.{leb, eqb}
+use lib.Dec.{eqb}
 use lib.ListN.{length, drop}
 use Rattle.numbers.specs.declared.Parameters.{Parameters}
 use Rattle.numbers.specs.Step as numbers
-use Rattle.numbers.specs.Values.{held16}
 use Rattle.colours.specs.declared.Palette.{Palette}
 use Rattle.frame.specs.declared.Limits.{Limits}
 use Rattle.frame.specs.declared.Refusal.the-variants as refusals
@@ -14,11 +13,8 @@ use Rattle.payload.specs.declared.Answer as payloadAnswer
 use Rattle.payload.specs.declared.Answer.the-variants as payloadAnswers
 use Rattle.payload.specs.declared.Fed as payloadFed
 use Rattle.payload.specs.declared.Finished.{Finished}
-use Rattle.payload.specs.declared.Given.{Given}
-use Rattle.payload.specs.declared.Given.the-variants as givens
 use Rattle.payload.specs.declared.Opened as payloadOpened
 use Rattle.payload.specs.declared.Session as payloadSession
-use Rattle.payload.specs.declared.Settings.{Settings}
 use Rattle.payload.specs.declared.judge.Judged.{Judged}
 use Rattle.payload.specs.declared.judge.Judged.the-variants as judged
 use Rattle.payload.specs.Begin.{reservedBy, begunBy, failedOf}
@@ -33,12 +29,13 @@ use Rattle.dcs.specs.declared.Phase.{Phase}
 use Rattle.dcs.specs.declared.Phase.the-variants as phases
 use Rattle.dcs.specs.declared.Session.{Session}
 use Rattle.dcs.specs.declared.Told.{Told}
-use Rattle.dcs.specs.declared.lead.Lead.{Lead}
-use Rattle.dcs.specs.declared.lead.Led.{Led}
-use Rattle.dcs.specs.declared.lead.Led.the-variants as leds
-use Rattle.dcs.specs.declared.lead.Place.{Place}
-use Rattle.dcs.specs.declared.lead.Place.the-variants as places
-use Rattle.dcs.specs.Lead.{leadFrom}
+use Rattle.header.specs.declared.Lead.{Lead}
+use Rattle.header.specs.declared.Led.{Led}
+use Rattle.header.specs.declared.Led.the-variants as leds
+use Rattle.header.specs.declared.Place.{Place}
+use Rattle.header.specs.declared.Place.the-variants as places
+use Rattle.header.specs.Lead.{leadFrom}
+use Rattle.header.specs.Settings.{settingsFrom}
 
 -- ---- opening
 
@@ -57,17 +54,6 @@ unfoldable pub openedBy : Limits → ℕ → Palette → ℕ → Opened
 openedBy l stride p size =
     let o : payloadOpened.Opened = reservedBy l stride p size in
     record { answer = o .answer; session = sessionOf (o .session) (numbers.opened 3) (phases.Before places.Start) }
-
--- ---- the header's parameters
-
--- a value, where there are so many; it has 16 bits
-unfoldable pub givenAt : Parameters → ℕ → Given
-givenAt v i = cond (leb (v .count) i) givens.Nothing (givens.Number (held16 (numbers.valueAt v i)))
-
--- `q` closes the last number
-unfoldable pub settingsFrom : Parameters → Settings
-unfolding givenAt
-settingsFrom h = record { p1 = givenAt (numbers.finished h) 0; p2 = givenAt (numbers.finished h) 1 }
 
 -- ---- the end
 
@@ -150,7 +136,7 @@ fedPayload s canvas bs n allowance =
 
 -- where introducer and header led to: on, to the payload, or to a refusal, which fails the session
 unfoldable pub ledTo : Led → Lead → Session → List ℕ → List ℕ → ℕ → Fed × List ℕ
-unfolding fedPayload settingsFrom
+unfolding fedPayload
 ledTo leds.On l s canvas bs allowance =
     (record { answer = answers.More (l .consumed) 0; session = sessionOf (s .payload) (l .header) (phases.Before (l .place)) }, canvas)
 ledTo leds.Begins l s canvas bs allowance =

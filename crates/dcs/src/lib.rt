@@ -1,23 +1,21 @@
 // A DCS session: introducer, header, payload and end of one sequence, over a payload session. The Rust's
 // SixelDcsStreamDecoder, by value.
-pub mod lead;
 pub mod memory;
 
 ghost use mathlib.Core.Path.{_≡_};
 ghost use Prim.Native.Nat.{_+_, _≤_};
 ghost use lib.ListN.{length, drop};
-ghost use Rattle.dcs.specs.Session.{givenAt, settingsFrom, openedBy, sessionOf, within, before, toldOf, overTold, escapedTold, closedTold, countOf, passedTold, fedPayload, fedLead, fedIn, fedBy, endJudged, finishedBy};
+ghost use Rattle.dcs.specs.Session.{openedBy, sessionOf, within, before, toldOf, overTold, escapedTold, closedTold, countOf, passedTold, fedPayload, fedLead, fedIn, fedBy, endJudged, finishedBy};
 use colours::Palette;
 use frame::Limits;
 use frame::Refusal;
-use lead::Led;
-use lead::Place;
-use lead::read_lead;
+use header::Led;
+use header::Place;
+use header::read_lead;
+use header::settings_from;
 use numbers::Parameters;
 use payload::Finished;
 use payload::Finishing;
-use payload::Given;
-use payload::Settings;
 use payload::begin;
 use payload::judge;
 use payload::judge::Judged;
@@ -90,27 +88,6 @@ pub fn open(limits: Limits, stride: usize, palette: Palette, length: usize) -> O
     Opened {
         answer,
         session: session_of(opened.session, header, Phase::Before(Place::Start)),
-    }
-}
-
-// A header's value, where it has so many.
-fn given(values: Parameters, at: usize) -> Given
-    ensures { λ r. ⌜ r ≡ givenAt values at ⌝ }
-{
-    if values.count() <= at {
-        return Given::Nothing;
-    }
-    Given::Number(numbers::hold16(values.value(at)))
-}
-
-// P1 and P2 of a header that `q` closes.
-fn settings_from(header: Parameters) -> Settings
-    ensures { λ r. ⌜ r ≡ settingsFrom header ⌝ }
-{
-    let values = header.finish();
-    Settings {
-        p1: given(values, 0),
-        p2: given(values, 1),
     }
 }
 
@@ -253,7 +230,7 @@ fn feed_lead(
 ) -> Fed
     ensures { λ r. ⌜ (r, now (canvas .exit)) ≡ fedLead (before inner header place) place (now (canvas .entry)) (now (bytes .entry)) allowance ⌝ }
 {
-    let lead = read_lead(place, header, bytes);
+    let lead = read_lead(place, header, bytes, 0);
     let values = lead.header;
     let consumed = lead.consumed;
     let here = lead.place;

@@ -5,7 +5,7 @@ ghost use Rattle.dcs.specs.Memory.{placeNumber, endingNumber, phaseNumbe
 use crate::Ending;
 use crate::Phase;
 use crate::Session;
-use crate::lead::Place;
+use header::Place;
 use numbers::memory::numbers_of as header_numbers;
 use numbers::memory::parameters_from;
 use payload::memory::numbers_of as payload_numbers;

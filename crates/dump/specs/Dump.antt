@@ -1,5 +1,5 @@
--- What `sixdump` prints (document 01, "Bench examples"): for a picture a line for each field and one for each row; a refusal is one line.
--- A text that the buffer has no room for ends where the room ends.
+-- What `sixdump` prints (docs/RULES.md, section 13): for a picture a line for each field and one for each row; a refusal is one line.
+-- A text that is longer than the buffer is truncated.
 use Prim.Native.Nat.{ℕ, zero, suc, _+_, _-_, _*_}
 use mathlib.Core.Bool.{Bool, true, false, cond}
 use mathlib.Core.List.{List, [], _++_}

@@ -1,4 +1,4 @@
--- Document 01's sample text, computed: two columns and six rows, of which the upper two are red, on a canvas of three columns.
+-- The text of rule 13.4, computed: two columns and six rows, of which the upper two are red, on a canvas of three columns.
 use mathlib.Core.Path.{_≡_, refl}
 use mathlib.Core.Bool.{false}
 use mathlib.Core.List.{List, [], _∷_, _++_}

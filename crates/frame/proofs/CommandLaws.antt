@@ -1,4 +1,4 @@
--- Laws of commands: one for each way through a function of `commands`.
+-- Laws of commands: one for each path through a function of `commands`.
 use Prim.Native.Nat.{ℕ, _*_, _≤_, _<_, max}
 use mathlib.Core.Bool.{Bool, true, false, _&&_}
 use mathlib.Core.List.{List, [], _∷_}

@@ -1,4 +1,4 @@
--- Laws of sizes: one for each way through a function of `sizes`, and what an area that is needed has.
+-- Laws of sizes: one for each path through a function of `sizes`, and what an area that is needed has.
 use Prim.Native.Nat.{ℕ, _+_, _-_, _*_, _/_, _≤_, _<_, max}
 use mathlib.Core.Bool.{Bool, true, false, _&&_, true≢false}
 use mathlib.Core.Path.{_≡_, refl, sym, ap, ap₂, _∙_}

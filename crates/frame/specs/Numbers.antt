@@ -1,8 +1,9 @@
--- Document 01's number of each refusal. 10 is retired: nothing gives it, and the others keep their numbers.
+-- The numbers of refusals (docs/RULES.md, section 5).
 use Prim.Native.Nat.{ℕ}
 use Rattle.frame.specs.declared.Refusal.{Refusal}
 use Rattle.frame.specs.declared.Refusal.the-variants.{Introducer, HeaderEnded, HeaderByte, Repeat, Size, Pixels, Room, Unfinished, Failed, FinalSize, Opening, Canvas, Allowance, Buffer}
 
+-- rule 5.1: each refusal's number; 10 is retired: nothing gives it, and the others keep theirs
 unfoldable pub numberOf : Refusal → ℕ
 numberOf Introducer = 1
 numberOf HeaderEnded = 2

@@ -155,7 +155,7 @@ pub struct Selected {
 }
 
 // Redefines and selects the register. Whoever ends a command calls this and `measure` with the few numbers
-// that matter: handed over, the frame would have to lie in memory while bytes are read.
+// that matter: handed over, the frame would be spilled to memory while bytes are read.
 fn select(begun: Parameters, colors: &mut [u32; 256]) -> Selected
     ensures { λ r. ⌜ (ofTable (now (colors .exit)) ≡ paletteAfter (ofTable (now (colors .entry))) (finished begun)) × (r ≡ selectedIn (ofTable (now (colors .exit))) (finished begun)) ⌝ }
 {
@@ -219,7 +219,7 @@ pub fn end_command(frame: Frame, ground: Ground, colors: &mut [u32; 256]) -> Ste
     }
 }
 
-// The same once more, for the loop alone: a function that finishing calls too is not made part of the loop, and the loop
+// The same once more, for the loop alone: a function that finishing calls too is not inlined into the loop, and the loop
 // then takes three times as long.
 pub fn end_in_loop(frame: Frame, ground: Ground, colors: &mut [u32; 256]) -> Stepped
     ensures { λ r. ⌜ record { stepped = r; palette = ofTable (now (colors .exit)) } ≡ ended frame ground (ofTable (now (colors .entry))) ⌝ }

@@ -24,7 +24,7 @@ pub struct Ground {
     pub background: [u8; 4],
 }
 
-// Document 01's refusals, in the order of their numbers.
+// The refusals of rule 5.1, in the order of their numbers.
 pub enum Refusal {
     Introducer,
     HeaderEnded,
@@ -43,7 +43,7 @@ pub enum Refusal {
     Buffer,
 }
 
-// Document 01's number of a refusal.
+// A refusal's number (rule 5.1).
 pub fn number(refusal: Refusal) -> u8
     ensures { λ r. ⌜ r ≡ numberOf refusal ⌝ }
 {

@@ -1,4 +1,4 @@
-// Sizes against the limits, for any numbers: no sum and no product can wrap.
+// Sizes against the limits, for any numbers: no sum and no product can overflow.
 ghost use mathlib.Core.Path.{_≡_};
 ghost use Prim.Native.Nat.{_+_, _*_, max};
 ghost use mathlib.Core.Bool.{_&&_};

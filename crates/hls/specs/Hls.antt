@@ -85,7 +85,7 @@ upperBy t lum sat = pick t (mul lum (add f1 sat)) (sub (add lum sat) (mul lum sa
 unfoldable pub upper : Float → Float → Float
 upper lum sat = upperBy (lt lum f½) lum sat
 
--- a channel's byte: rounded down, held to 0 to 255 (of a negative number 0, of one from 255 on 255)
+-- a channel's byte: rounded down, clamped to 0 to 255 (of a negative number 0, of one from 255 on 255)
 unfoldable pub channelByte : Float → ℕ
 channelByte c = toUnsigned 8 (add (mul c f255) f½)
 
@@ -103,7 +103,7 @@ coloured hue lum sat = between (sub (mul f2 lum) (upper lum sat)) (upper lum sat
 unfoldable pub grey : ℕ → List ℕ
 grey b = b ∷ b ∷ b ∷ []
 
--- saturation 0 or less is grey
+-- rule 9.4: saturation 0 or less is grey
 unfoldable pub hlsBytes : ℤ → ℤ → ℤ → List ℕ
 hlsBytes h l s =
     pick (leZ s (pos 0)) (grey (percentByte l)) (coloured (over (turned h) f360) (over (held l) f100) (over (held s) f100))

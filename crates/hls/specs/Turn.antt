@@ -1,4 +1,4 @@
--- A hue in whole degrees, of document 01's section Colours.
+-- A hue in whole degrees (docs/RULES.md, section 9).
 use Prim.Native.Nat.{ℕ, _+_, _-_, _%_}
 use lib.IntN.{ℤ, pos, negsuc}
 
@@ -7,6 +7,6 @@ unfoldable pub modulo360 : ℤ → ℕ
 modulo360 (pos n) = n % 360
 modulo360 (negsuc n) = 359 - n % 360
 
--- the hue with SIXEL's offset
+-- rule 9.4: the hue with SIXEL's offset
 unfoldable pub turned : ℤ → ℕ
 turned h = (modulo360 h + 240) % 360

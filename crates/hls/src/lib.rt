@@ -19,7 +19,7 @@ fn clamp_percent(v: i32) -> u32
     v as u32
 }
 
-// Any number is a percent: it is held to 0 to 100.
+// Any number is a percent: it is clamped to 0 to 100.
 pub fn percent_to_byte(value: i32) -> u8
     ensures { λ r. ⌜ r ≡ percentByte value ⌝ }
 {

@@ -1,4 +1,4 @@
--- Laws of an argument that is read whole: its bytes one by one, and the ways through the functions of `argument`.
+-- Laws of an argument that is read whole: its bytes one by one, and the paths through the functions of `argument`.
 use Prim.Native.Nat.{ℕ, _+_, _-_, _*_, _≤_, _<_, min}
 use mathlib.Core.Bool.{Bool, true, false, cond, _&&_}
 use mathlib.Core.List.{List, _∷_}
@@ -116,7 +116,7 @@ written-more {n} {end} bytes i w more t few =
       repeat = passes-then (w .repeat) (passes-as (ap counting (digit-counted n (getD bytes end 0) t few)) (repeat-digit bytes end n more t));
     }
 
--- ---- the ways through the functions of `argument`
+-- ---- the paths through the functions of `argument`
 
 pub none-written {ℓ} : {X : Type ℓ} {r : Number} → r ≡ record { value = 0; end = 0 } → 1 ≤ r .end → X
 none-written e h = absurd (not-suc-le-zero (rw e at h))

@@ -1,4 +1,4 @@
--- Laws of a run: one for each way through a function of `run`, and how the loop goes on after one.
+-- Laws of a run: one for each path through a function of `run`, and how the loop goes on after one.
 use Prim.Native.Nat.{ℕ, zero, suc, _+_, _-_, _*_, _/_, _≤_, _<_}
 use mathlib.Core.Bool.{Bool, true, false, cond, _&&_, true≢false}
 use mathlib.Core.List.{List, [], _∷_}
@@ -131,7 +131,7 @@ no-runs {l} f g bytes i most fits within e =
       same = λ allowance spent p h. rw (add-zero i, add-zero spent);
     })
 
--- ---- the ways through a run's functions
+-- ---- the paths through a run's functions
 
 pub single-yes : (f : Frame) → f .command .kind ≡ kinds.Data → eqb (f .pen .repeat) 1 ≡ single f
 unfolding single idle

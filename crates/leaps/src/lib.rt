@@ -176,7 +176,7 @@ fn leap_run(
 }
 
 // Paints one sixel on an area that holds it, unless its ink exceeds what is left. The plain step has the same, called from
-// there alone, so that the compiler can make each part of its own loop.
+// there alone, so that the compiler can inline each into its own loop.
 fn put_sixel(
     frame: Frame,
     ground: Ground,

@@ -1,4 +1,4 @@
--- Demand 3 for payload and DCS sessions: under document 01's premises (the unread bytes come next, the canvas comes back unaltered) the number
+-- Demand 3 for payload and DCS sessions: under the premises of rule 6.7 (the unread bytes come next, the canvas comes back unaltered) the number
 -- of calls is bounded, the outcome is the definition's, and the ink adds up to the definition's.
 -- A caller's turns are proper for A where each call may be made and has an allowance of at least A.
 use Prim.Native.Nat.{ℕ, _+_, _-_, _*_, _/_, _≤_}

@@ -1,4 +1,4 @@
--- After each call, stopped or not, a session holds what exactly the bytes consumed so far mean (document 01, 'Ink').
+-- After each call, stopped or not, a session holds what exactly the bytes consumed so far mean (rule 6.5).
 use Prim.Native.Nat.{ℕ, _*_, _≤_}
 use native.Mathlib.Omega.{arith}
 use mathlib.Core.Path.{_≡_, refl, sym, ap, _∙_}

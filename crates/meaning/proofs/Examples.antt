@@ -1,4 +1,4 @@
--- Worked examples: document 01's bench examples, its five slips, and what else a wrong reading would get wrong.
+-- Worked examples (docs/RULES.md, section 12): the bench examples, the five slips, and what else a wrong reading would get wrong.
 -- Each row has an input and what is said of its outcome; one test computes a whole table. `\u{90}` is the byte 90.
 use mathlib.Core.Path.{_≡_, refl}
 use mathlib.Core.Bool.{true}
@@ -9,7 +9,7 @@ use Rattle.meaning.specs.Sessions.{complete, cancelled, interrupted}
 use Rattle.meaning.specs.Calls.{needsMore, stoppedForInk, ended, told, refused}
 use Rattle.meaning.proofs.Trials.{Row, limited, onCanvas, row, under, partly, dcs, once, size, extent, ink, shows, ratio, transparent, opaque, refusal, ends, goesOn, leaves, rowsHold, Calls, houseCalls, calls, feeding, finishing, fed, sized, declined, heard, computed}
 
--- document 01's bench examples, and the program's
+-- the bench examples, and the program's
 bench : List Row
 bench =
     row "" (size 1 1 ∷ [])
@@ -77,7 +77,7 @@ commands =
     ∷ row "!3\u{9f}~" (size 1 1 ∷ leaves "\u{9f}~" ∷ [])
     ∷ []
 
--- registers, and numbers that are held
+-- registers, and numbers that saturate
 colours : List Row
 colours =
     row "#256~" (shows 0 0 0xFFFFFFFF ∷ [])
@@ -179,21 +179,22 @@ shots =
     ∷ once "\u{90}q!1025~" (refusal 4 ∷ leaves "!1025~" ∷ [])
     ∷ []
 
--- all of them
+-- rules 12.1, 12.2: all of them
 pub table : List Row
 unfolding bench slips commands colours rasters pending sequences shots
 table = bench ++ (slips ++ (commands ++ (colours ++ (rasters ++ (pending ++ (sequences ++ shots))))))
 
--- document 01's examples and all the others are read as their rows say
+-- the bench examples and all the others are read as their rows say
 pub table-holds : rowsHold table ≡ true
 unfolding computed rowsHold table
 table-holds = refl
 
 -- ---- calls
 
+-- rule 12.1: callers, and what each of their calls is told
 pub callTable : List Calls
 callTable =
-    -- document 01's: a stop for ink and the sixel that it left unread; an allowance below 6W
+    -- the bench examples': a stop for ink and the sixel that it left unread; an allowance below 6W
     houseCalls (feeding 3145728 48 "!8~$!8~" ∷ feeding 3145728 48 "~" ∷ finishing 3145728 ∷ [])
     (fed (told 6 48 stoppedForInk) ∷ fed (told 1 48 needsMore) ∷ sized 8 6 ∷ [])
     ∷ houseCalls (feeding 3145728 47 "!8~$!8~" ∷ []) (fed (refused 13) ∷ [])

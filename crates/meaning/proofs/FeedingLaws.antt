@@ -1,4 +1,4 @@
--- Laws of any session's feed and finish, by the refusals that come before the bytes (document 01, 'Refusal numbers').
+-- Laws of any session's feed and finish, by the refusals that come before the bytes (rules 5.2, 5.3).
 use Prim.Native.Nat.{ℕ, _*_, _≤_}
 use mathlib.Core.Bool.{false}
 use mathlib.Core.Option.{Option, none, some}

@@ -1,4 +1,4 @@
--- What a session has read, whatever bytes come after a stop for ink (document 01, 'Ink').
+-- What a session has read, whatever bytes come after a stop for ink (rule 6.3).
 use Prim.Native.Nat.{ℕ}
 use mathlib.Core.List.{List, [], _∷_, _++_, map}
 use lib.ListN.{take, drop}

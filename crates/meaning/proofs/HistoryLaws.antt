@@ -1,4 +1,4 @@
--- Laws of what a session has read, whatever bytes come after a stop; under document 01's premises the marks of stops change nothing.
+-- Laws of what a session has read, whatever bytes come after a stop; under the premises of rule 6.7 the marks of stops change nothing.
 use Prim.Native.Nat.{ℕ, _-_, _<_}
 use native.Mathlib.Nat.{add-zero}
 use mathlib.Core.Path.{_≡_, refl, sym, ap, fun-ext, _∙_}
@@ -81,7 +81,7 @@ module _ {S : Type 0} (step : S → ℕ → Step S) (rest : S → S) where
       ∙ continued-same (readItems step rest s before) _ _ (item-as step rest (rest u) b later (rest-law u t b i e some ∙ sym e))
       ∙ sym (items-append step rest s before (byte b ∷ later))
 
--- ---- under document 01's premises the marks change nothing
+-- ---- under the premises of rule 6.7 the marks change nothing
 
 module _ {S : Type 0} (step : S → ℕ → Step S) (rest : S → S) where
   -- an ended caller stays so, whatever piece comes next

@@ -255,7 +255,7 @@ ended-halts : (s : Setting) (r : Reading) (b : ℕ) (out : Outcome) → Halts (�
 unfolding endedAt payloadStep
 ended-halts s r b out = option-case (Halts (λ u. payloadStep s u b ≡ halt u)) (out .refusal) (λ _. refl) (λ n _. tt)
 
--- halting once more changes nothing
+-- halting is idempotent
 pub payload-halt : (s : Setting) (r : Reading) (b : ℕ) {t : Reading} → payloadStep s r b ≡ halt t → payloadStep s t b ≡ halt t
 payload-halt s r b e =
     subst Again e
@@ -365,7 +365,7 @@ pub dcs-rest : (s : Setting) (p : Palette) (t : Phase) (b : ℕ) {u : Phase} {i 
     → dcsStep s p (dcsRested s t) b ≡ next u i
 dcs-rest s p t b e = subst (InkedIs (dcsStep s p (dcsRested s t) b)) e (does-rest s p b (dcs-does s p b t))
 
--- halting once more changes nothing
+-- halting is idempotent
 pub dcs-halt : (s : Setting) (p : Palette) (t : Phase) (b : ℕ) {u : Phase} → dcsStep s p t b ≡ halt u → dcsStep s p u b ≡ halt u
 dcs-halt s p t b e = subst (Halts (λ u. dcsStep s p u b ≡ halt u)) e (does-halt s p b (dcs-does s p b t))
 

@@ -1,4 +1,4 @@
--- What every step of a session's state keeps, and every stop, the session keeps in any calls, refused or not.
+-- Invariants: what every step of a session's state keeps, and every stop, the session keeps in any calls, refused or not.
 use Prim.Native.Nat.{ℕ}
 use mathlib.Core.Bool.{true}
 use mathlib.Core.Option.{Option, none, some}

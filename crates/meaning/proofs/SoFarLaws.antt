@@ -47,7 +47,7 @@ module _ {S : Type 0} (step : S → ℕ → Step S) (rest : S → S) where
       → step here b ≡ next t i → 0 < i → LeftBy step rest h here state unread
   stop-left p q r e some = rw (p, q, r) (stoppedAt e some)
 
-  -- the bytes read are the first of those given, as many as were consumed
+  -- the bytes read are the prefix of those given that has as many as were consumed
   pub so-far-read : {s : S} {xs : List ℕ} {c : Caller S} (f : SoFar step rest s xs c) → f .read ≡ take (c .consumed) xs
   so-far-read {s} {xs} {c} f =
       let all : readFrom step s (f .read) .consumed ≡ length (f .read) = read-all step s (f .read) (ap (λ (r : Run S). r .how) (f .ran)) in

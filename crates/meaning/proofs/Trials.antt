@@ -23,7 +23,7 @@ use Rattle.canvas.specs.Picture.{Area, shownColour}
 use Rattle.meaning.specs.Commands as Commands
 use Rattle.meaning.specs.Drawing as Strokes
 use Rattle.meaning.specs.Drawing.{houseLimits, Limits, Setting, Drawing, Outcome, inkOfAll, blank}
-use Rattle.meaning.specs.Payload.{Parameters, Ratio, byRaster, leftToP1, Report, Finished, finished, turnedDown, payload, drawnSoFar, payloadInk, reportOf, finish}
+use Rattle.meaning.specs.Payload.{noParameters, Ratio, byRaster, leftToP1, Report, Finished, finished, turnedDown, payload, drawnSoFar, payloadInk, reportOf, finish}
 use Rattle.meaning.specs.Reader.{Run, How, readAll, stopped, halted, refusedBy, readFrom, call}
 use Rattle.meaning.specs.Sessions.{Reading, opened, payloadStep, rested, End, complete, cancelled, interrupted, Phase, start, dcsStep, finishDcs}
 use Rattle.meaning.specs.OneShot.{Found, found, lacking, refusedWith, findPayload, partOf, oneShot}
@@ -108,9 +108,6 @@ pub record Result : Type 0 where
 -- an answer, a drawing and its ink, an end, and so many bytes consumed of an input
 unfoldable pub resulting : Finished → Drawing → ℕ → Option End → ℕ → List ℕ → Result
 resulting f d i e n bs = record { answer = f; drawing = d; ink = i; end = e; presented = length bs; consumed = n; left = drop n bs }
-
-abbrev pub noParameters : Parameters
-noParameters = record { p1 = none; p2 = none }
 
 -- the payload as a whole, and byte by byte for its ink and what stays unread
 unfoldable pub payloadResult : Setting → List ℕ → Result

@@ -1,4 +1,4 @@
--- Callers of any session, and what they learn from its answers (document 01, 'Ink'). Nothing of SIXEL stands here: `H` is what a caller holds
+-- Callers of any session, and what they learn from its answers (docs/RULES.md, section 6). Nothing of SIXEL stands here: `H` is what a caller holds
 -- between its calls, as a session and its canvas.
 use Prim.Native.Nat.{ℕ, _+_}
 use mathlib.Core.Bool.{Bool, true, _&&_}
@@ -77,6 +77,7 @@ module _ {H E : Type 0} (feed : Feed H (Answer E)) where
       let x : H × Answer E = feed (c .state) presented (allowanceOf t) in
       afterFeed c presented (x .0) (x .1)
 
+  -- rule 6.7: where a caller stands after its calls
   unfoldable pub callsOf : Caller H → List Turn → Caller H
   unfolding called
   callsOf c [] = c
@@ -89,7 +90,7 @@ module _ {H E : Type 0} (feed : Feed H (Answer E)) where
   lastStatus before c (t ∷ ts) =
       lastStatus (statusTold before (feed (c .state) (c .unread ++ pieceOf t) (allowanceOf t) .1)) (called c t) ts
 
-  -- each call is one that may be made after the answer before it, with an allowance of at least A
+  -- rule 6.7: each call is one that may be made after the answer before it, with an allowance of at least A
   unfoldable pub properCalls : ℕ → Caller H → List Turn → Bool
   unfolding called
   properCalls A c [] = true

@@ -1,4 +1,4 @@
--- Opening, feeding and finishing a session, with the order of their refusals (document 01, 'Refusal numbers').
+-- Opening, feeding and finishing a session, with the order of their refusals (docs/RULES.md, sections 1, 5 and 6).
 -- Said once for a payload and a DCS session: `S` is what the session reads with, `E` how it can end.
 use Prim.Native.Nat.{ℕ, _*_, _^_}
 use mathlib.Core.Bool.{Bool, true, false, cond, not, _&&_, _||_}
@@ -19,17 +19,17 @@ use Rattle.meaning.specs.Sessions.{Reading, opened, settled, payloadStep
 unfoldable pub ranges : ℕ → ℕ → Bool
 ranges most n = leb 1 n && leb n most
 
--- W and H are 1 to 1,000,000, R and M 1 to 10^12
+-- rule 1.1: W and H are 1 to 1,000,000, R and M 1 to 10^12
 unfoldable pub limitsHold : Limits → Bool
 unfolding ranges
 limitsHold l =
     ranges 1000000 (l .width) && (ranges 1000000 (l .height) && (ranges (10 ^ 12) (l .repeats) && ranges (10 ^ 12) (l .pixels)))
 
--- a session on a canvas of so many bytes
+-- rule 1.3: a session on a canvas of so many bytes
 unfoldable pub settingFor : Limits → ℕ → ℕ → Setting
 settingFor l stride length = record { limits = l; stride = stride; rows = rowsOf length stride }
 
--- the stride is 1 to 1,000,000, and there is a whole row; else the opening is 11
+-- rule 1.4: the stride is 1 to 1,000,000, and there is a whole row; else the opening is 11
 unfoldable pub opens : Limits → ℕ → ℕ → Bool
 unfolding limitsHold
 opens l stride length = limitsHold l && (ranges 1000000 stride && leb 1 (rowsOf length stride))
@@ -58,6 +58,7 @@ pub data Opened (S : Type 0) : Type 0 where
   isOpen : Session S → Opened S
   notOpened : ℕ → Opened S
 
+-- rule 1.4: a session where it may be opened, and else 11
 unfoldable pub openWith : {S : Type 0} → Limits → ℕ → ℕ → S → Opened S
 unfolding opens settingFor
 openWith l stride length state =
@@ -70,7 +71,7 @@ pub data Status (E : Type 0) : Type 0 where
   needsMore stoppedForInk : Status E
   ended : E → Status E
 
--- the answer of a feed: bytes consumed, ink and status, or a refusal's number and no counts
+-- rule 5.6: the answer of a feed: bytes consumed, ink and status, or a refusal's number and no counts
 pub data Answer (E : Type 0) : Type 0 where
   told : ℕ → ℕ → Status E → Answer E
   refused : ℕ → Answer E
@@ -79,7 +80,7 @@ pub record Fed (S E : Type 0) : Type 0 where
   pub answer : Answer E
   pub session : Session S
 
--- whether the end has come
+-- rule 6.4: whether the end has come
 unfoldable pub atEnd : {E : Type 0} → Option E → Status E
 atEnd none = needsMore
 atEnd (some e) = ended e
@@ -93,7 +94,7 @@ unfoldable pub tells : {S E : Type 0} → Session S → Run S → Status E → F
 unfolding sessionAfter
 tells s r status = record { answer = told (r .consumed) (r .ink) status; session = sessionAfter s (r .state) false }
 
--- a stopped call says so; any other says whether the end has come; a refusal fails the session
+-- rules 5.6, 6.4: a stopped call says so; any other says whether the end has come; a refusal fails the session
 unfoldable pub answered : {S E : Type 0} → (S → Option E) → Session S → Run S → Fed S E
 unfolding tells atEnd
 answered end s r =
@@ -109,7 +110,7 @@ module _ {S : Type 0} (areaOf : S → Area) where
   unfoldable pub misfits : Session S → ℕ → Bool
   misfits s length = not (eqb length (s .length)) || not (fits (s .setting .stride) length (areaOf (s .state)))
 
-  -- feed: 9, 12, 13
+  -- rules 5.2, 6.2: feed: 9, 12, 13
   unfoldable pub feedRefusal : Session S → ℕ → ℕ → Option ℕ
   unfolding misfits firstOf
   feedRefusal s length allowance =
@@ -119,7 +120,7 @@ module _ {S : Type 0} (areaOf : S → Area) where
       ∷ record { holds = ltb allowance (6 * s .setting .limits .width); number = 13 }
       ∷ [])
 
-  -- finish: 9, 12, and then what the state says
+  -- rule 5.3: finish: 9, 12, and then what the state says
   unfoldable pub finishSession : (Setting → S → Finished) → Session S → ℕ → Finished
   unfolding misfits firstOf
   finishSession finishState s length =
@@ -128,7 +129,7 @@ module _ {S : Type 0} (areaOf : S → Area) where
         | some n ↦ turnedDown n
       ]
 
-  -- a call on a canvas of so many bytes, with an allowance; a refused one leaves the session as it is
+  -- rules 5.2, 5.6: a call on a canvas of so many bytes, with an allowance; a refused one leaves the session as it is
   unfoldable pub feed : {E : Type 0} → (Setting → S → ℕ → Step S) → (Setting → S → S) → (S → Option E) → Session S → ℕ → ℕ → List ℕ → Fed S E
   unfolding feedRefusal answered
   feed step rest end s length allowance bs =
@@ -139,7 +140,7 @@ module _ {S : Type 0} (areaOf : S → Area) where
 
 -- ---- the two kinds
 
--- how a DCS sequence ended
+-- rule 7.6: how a DCS sequence ended
 unfoldable pub dcsEnd : Phase → Option End
 dcsEnd start = none
 dcsEnd introduced = none
@@ -177,29 +178,29 @@ unfoldable pub visibleArea : Option Drawing → Area
 visibleArea none = record { width = 0; height = 0 }
 visibleArea (some d) = d .area
 
--- what the canvas shows: the drawing's picture on the bytes of the opening; before the payload nothing is written
+-- rule 6.5: what the canvas shows: the drawing's picture on the bytes of the opening; before the payload nothing is written
 unfoldable pub shown : ℕ → Option Drawing → List ℕ → List ℕ
 shown stride none opening = opening
 shown stride (some d) opening = picture stride (d .area) (d .background) (d .strokes) opening
 
--- After an opening and after every call the canvas shows the drawing of the session's state; a payload session opens with the blank drawing,
--- which is pixel (0,0) in the background, and a DCS session has none before `q`.
--- After a call that read all its bytes the pending command is not yet carried out; after a stop (`call` of Reader) or an end it is.
+-- Rules 1.7, 6.5. After an opening and after every call the canvas shows the drawing of the session's state; a payload session opens with the blank
+-- drawing, which is pixel (0,0) in the background, and a DCS session has none before `q`. After a call that read all its bytes the pending command is
+-- not yet carried out; after a stop (`call` of Reader) or an end it is.
 unfoldable pub payloadShown : Session Reading → List ℕ → List ℕ
 unfolding shown
 payloadShown s opening = shown (s .setting .stride) (some (s .state .drawing)) opening
 
--- the same of a DCS session
+-- rules 1.7, 6.5: the same of a DCS session
 unfoldable pub dcsShown : Session Phase → List ℕ → List ℕ
 unfolding drawingOf shown
 dcsShown s opening = shown (s .setting .stride) (drawingOf (s .state)) opening
 
--- after finishing it shows the drawing with the pending command carried out; a finish that is 12 writes nothing
+-- rule 6.6: after finishing it shows the drawing with the pending command carried out; a finish that is 12 writes nothing
 unfoldable pub payloadShownAtFinish : Session Reading → List ℕ → List ℕ
 unfolding shown settled
 payloadShownAtFinish s opening = shown (s .setting .stride) (some (settled (s .setting) (s .state) .drawing)) opening
 
--- the same of a DCS session; before its end, which is 8, it stays as it is
+-- rule 6.6: the same of a DCS session; before its end, which is 8, it stays as it is
 unfoldable pub dcsShownAtFinish : Session Phase → List ℕ → List ℕ
 unfolding shown drawingAtFinish
 dcsShownAtFinish s opening = shown (s .setting .stride) (drawingAtFinish (s .setting) (s .state)) opening
@@ -210,16 +211,18 @@ drawingFound s p (found o part) = some (payload s o p part .drawing)
 drawingFound s p lacking = none
 drawingFound s p (refusedWith n) = none
 
--- after a one-shot the canvas shows that; where there is no payload, and on 11, nothing is written
+-- rule 8.4: after a one-shot the canvas shows that; where there is no payload, and on 11, nothing is written
 unfoldable pub oneShotShown : Limits → ℕ → ℕ → Palette → List ℕ → List ℕ → List ℕ
 unfolding opens settingFor drawingFound shown
 oneShotShown l stride length p bs opening =
     cond (opens l stride length) (shown stride (drawingFound (settingFor l stride length) p (findPayload bs)) opening) opening
 
+-- rule 1.5: a payload session is told P1 and P2
 unfoldable pub openPayload : Limits → ℕ → ℕ → Parameters → Palette → Opened Reading
 unfolding openWith
 openPayload l stride length o p = openWith l stride length (opened o p)
 
+-- rule 1.5: a DCS session finds them in its header
 unfoldable pub openDcs : Limits → ℕ → ℕ → Opened Phase
 unfolding openWith
 openDcs l stride length = openWith l stride length start
@@ -240,17 +243,17 @@ unfoldable pub finishDcsSession : Session Phase → ℕ → Finished
 unfolding finishSession
 finishDcsSession = finishSession (λ t. visibleArea (drawingOf t)) finishDcs
 
--- all at once: 11, then what the bytes give
+-- rule 8.3: all at once: 11, then what the bytes give
 unfoldable pub readOneShot : Limits → ℕ → ℕ → Palette → List ℕ → Finished
 unfolding opens settingFor
 readOneShot l stride length p bs = cond (opens l stride length) (oneShot (settingFor l stride length) p bs) (turnedDown 11)
 
--- the part that it hands back: on 11 an empty one
+-- rule 8.2: the part that it hands back: on 11 an empty one
 unfoldable pub partHandedBack : Limits → ℕ → ℕ → List ℕ → List ℕ
 unfolding opens
 partHandedBack l stride length bs = cond (opens l stride length) (partOf (findPayload bs)) []
 
--- ---- callers that present what was left unread (document 01, 'Ink')
+-- ---- callers that present what was left unread (rule 6.7)
 
 -- where a caller of a payload session stands after its turns, from the opening on
 abbrev pub payloadTurns : Setting → Parameters → Palette → List Turn → Caller Reading

@@ -1,4 +1,4 @@
--- From bytes to commands, each with its place in the input (document 01, 'Reading the payload').
+-- From bytes to commands, each with its place in the input (docs/RULES.md, section 2).
 -- Places are counted from 0. A command's place is that of its first byte.
 use Prim.Native.Nat.{ℕ, suc, _-_}
 use mathlib.Core.Bool.{Bool, false, cond, _||_}
@@ -7,7 +7,7 @@ use mathlib.Core.List.{List, [], _∷_, _++_}
 use lib.Dec.{eqb}
 use Rattle.numbers.specs.Bytes.{skipped, digit, sixel, ends, semicolon, bang, quote, hash, dollar, dash}
 
--- the commands that take an argument: `!`, `#` and `"`
+-- rule 2.3: the commands that take an argument: `!`, `#` and `"`
 pub data Kind : Type 0 where
   repeat colour raster : Kind
 
@@ -34,7 +34,7 @@ pub record Begun : Type 0 where
 unfoldable pub ofValues : ℕ → Bool
 ofValues b = digit b || eqb b semicolon
 
--- the bytes that lengthen a command
+-- rule 2.4: the bytes that lengthen a command
 unfoldable pub lengthens : Kind → ℕ → Bool
 unfolding ofValues
 lengthens repeat b = digit b
@@ -70,7 +70,7 @@ begins at before k = record { begun = some (record { place = at; kind = k; argum
 unfoldable pub does : ℕ → List Placed → Command → Scanned
 does at before c = record { begun = none; ended = before ++ (record { place = at; command = c } ∷ []) }
 
--- a byte's own effect; other bytes do nothing
+-- rules 2.3, 2.6: a byte's own effect; other bytes do nothing
 unfoldable pub own : ℕ → ℕ → List Placed → Scanned
 unfolding begins does
 own at b before =
@@ -82,7 +82,7 @@ own at b before =
     (cond (sixel b) (does at before (draw (b - 63)))
     (record { begun = none; ended = before }))))))
 
--- one byte: skipped, or taken by the begun command, or else it ends that command and then has its own effect
+-- rule 2.5: one byte: skipped, or taken by the begun command, or else it ends that command and then has its own effect
 unfoldable pub scanByte : ℕ → Option Begun → ℕ → Scanned
 unfolding taken longer closed own
 scanByte at c b =
@@ -90,7 +90,7 @@ scanByte at c b =
     (cond (taken c b) (record { begun = longer c b; ended = [] })
     (own at b (closed c)))
 
--- the bytes from a place on
+-- rule 2.5: the bytes from a place on
 unfoldable pub scan : ℕ → Option Begun → List ℕ → Scanned
 unfolding scanByte
 scan at c [] = record { begun = c; ended = [] }
@@ -99,22 +99,22 @@ scan at c (b ∷ bs) =
     let later : Scanned = scan (suc at) (s .begun) bs in
     record { begun = later .begun; ended = s .ended ++ later .ended }
 
--- the bytes before the first that ends the payload
+-- rule 2.7: the bytes before the first that ends the payload
 unfoldable pub body : List ℕ → List ℕ
 body [] = []
 body (b ∷ bs) = cond (ends b) [] (b ∷ body bs)
 
--- the byte that ends the payload; it stays unread
+-- rule 2.7: the byte that ends the payload; it stays unread
 unfoldable pub endOf : List ℕ → Option ℕ
 endOf [] = none
 endOf (b ∷ bs) = cond (ends b) (some b) (endOf bs)
 
--- the commands of a payload, the one that its end cuts off with them
+-- rule 2.7: the commands of a payload, the one that its end cuts off with them
 unfoldable pub commands : List ℕ → List Placed
 unfolding scan body closed
 commands bs = let s : Scanned = scan 0 none (body bs) in s .ended ++ closed (s .begun)
 
--- the commands that have ended among some bytes: one that is still pending is not yet among them, and the payload's end ends it too
+-- rule 6.5: the commands that have ended among some bytes: one that is still pending is not yet among them, and the payload's end ends it too
 unfoldable pub endedCommands : List ℕ → List Placed
 unfolding scan endOf commands
 endedCommands bs = elim (endOf bs) [ none ↦ scan 0 none bs .ended | some b ↦ commands bs ]

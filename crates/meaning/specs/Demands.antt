@@ -27,12 +27,13 @@ pub record Concluded : Type 0 where
   pub palette : Palette
   pub canvas : List ℕ
 
--- a report: its palette is the owner's now, and the canvas shows the picture; a refusal: the owner's palette and the canvas are as they were
+-- rules 1.8, 5.7: a report: its palette is the owner's now, and the canvas shows the picture; a refusal: the owner's palette and the canvas are as
+-- they were
 unfoldable pub concluded : List ℕ → Palette → List ℕ → Finished → Concluded
 concluded picture owner canvas (finished r) = record { answer = finished r; palette = r .palette; canvas = picture }
 concluded picture owner canvas (turnedDown n) = record { answer = turnedDown n; palette = owner; canvas = canvas }
 
--- an abort commits nothing: the owner's palette is as it was
+-- rule 1.8: an abort commits nothing: the owner's palette is as it was
 unfoldable pub aborted : Palette → Palette
 aborted owner = owner
 
@@ -108,9 +109,9 @@ module _ {H E : Type 0} (feed : Feed H (Answer E)) (h : H) (ts : List Turn) wher
   abbrev pub Through : Type 0
   Through = AllRead × (isRefused (now .how) ≡ false)
 
--- However the stream is split. A refusal is given exactly when reading the whole comes to it; else the status told last, the bytes consumed in
--- all and the finish are the whole's. So is the canvas; after a stop it shows what the bytes consumed draw, the command before the unread
--- sixel with them.
+-- Rule 6.7. However the stream is split. A refusal is given exactly when reading the whole comes to it; else the status told last, the bytes consumed
+-- in all and the finish are the whole's. So is the canvas; after a stop it shows what the bytes consumed draw, the command before the unread sixel
+-- with them.
 pub record DemandTwo {H E : Type 0} (feed : Feed H (Answer E)) (canvas : H → List ℕ) (finish : H → Palette → Concluded)
     (meant : List ℕ → Whole E) (h : H) (ts : List Turn) : Type 0 where
   pub refusal : AllRead feed h ts → (n : ℕ) → (now feed h ts .how ≡ refusedBy n) ↔ (meant (stream ts) .refusal ≡ some n)
@@ -122,7 +123,7 @@ pub record DemandTwo {H E : Type 0} (feed : Feed H (Answer E)) (canvas : H → L
       → finish (now feed h ts .state) owner
       ≡ concluded (meant (stream ts) .settled) owner (canvas (now feed h ts .state)) (meant (stream ts) .finish)
 
--- The calls are at most the pieces and I / (A - 6W + 1), rounded down, where A is the smallest allowance and I the ink that the definition
+-- Rule 6.8. The calls are at most the pieces and I / (A - 6W + 1), rounded down, where A is the smallest allowance and I the ink that the definition
 -- draws; and with no refusal the ink told adds up to I.
 pub record DemandThree {H E : Type 0} (feed : Feed H (Answer E)) (meant : List ℕ → Whole E) (W A : ℕ) (h : H) (ts : List Turn) : Type 0 where
   pub calls : length ts ≤ pieces ts + meant (stream ts) .ink / (A - 6 * W + 1)
@@ -166,7 +167,7 @@ module _ {H E : Type 0} (feed : Feed H (Answer E)) (lend : H → List ℕ → H)
   abbrev pub Fits : Type 0
   Fits = length lent ≡ size
 
-  -- Feed 9, 12, 13, each exactly when document 01 says; and all is left as it was.
+  -- Feed 9, 12, 13, each exactly when rule 5.1 says; and all is left as it was.
   pub record FeedRefusals (W : ℕ) (bs : List ℕ) (a : ℕ) : Type 0 where
     pub nine : (feed held bs a .1 ≡ refused 9) ↔ (haveFailed (fedAll feed h cs .answers) ≡ true)
     pub twelve : (feed held bs a .1 ≡ refused 12) ↔ (Live × ¬ Fits)

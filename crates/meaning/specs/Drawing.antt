@@ -1,4 +1,4 @@
--- From commands to strokes (document 01, 'Reading the payload'): what each command does to a drawing, and what it is refused for.
+-- From commands to strokes (docs/RULES.md, sections 3 and 4): what each command does to a drawing, and what it is refused for.
 -- The repeat's number, columns, rows and ink have no bound here.
 use Prim.Native.Nat.{ℕ, _+_, _*_, min, max}
 use mathlib.Core.Bool.{Bool, false, cond, _||_}
@@ -14,27 +14,28 @@ use Rattle.colours.specs.Palette.{registerOf, setRgb, setHls}
 use Rattle.canvas.specs.Picture.{Stroke, Area, grownTo, reach}
 use Rattle.meaning.specs.Commands.{repeat, colour, raster, Command, argued, return, line, draw, Placed}
 
--- W, H, R and M
+-- rule 1.1: W, H, R and M
 pub record Limits : Type 0 where
   pub width : ℕ
   pub height : ℕ
   pub repeats : ℕ
   pub pixels : ℕ
 
--- the house's own limits, and those that the Rust has built in
+-- rule 1.2: the house limits
 abbrev pub houseLimits : Limits
 houseLimits = record { width = 1024; height = 768; repeats = 1024; pixels = 786432 }
 
+-- rule 1.2: the crate limits, which the Rust has compiled in
 abbrev pub crateLimits : Limits
 crateLimits = record { width = 1000000; height = 1000000; repeats = 65535; pixels = 67108864 }
 
--- what a session was opened with: its limits, and the canvas's stride and whole rows
+-- rule 1.3: what a session was opened with: its limits, and the canvas's stride and whole rows
 pub record Setting : Type 0 where
   pub limits : Limits
   pub stride : ℕ
   pub rows : ℕ
 
--- where the next sixel goes, how often, and in which register's colour
+-- rule 3.1: where the next sixel goes, how often, and in which register's colour
 pub record Pen : Type 0 where
   pub column : ℕ
   pub row : ℕ
@@ -56,17 +57,17 @@ pub record Drawing : Type 0 where
   pub palette : Palette
   pub background : List ℕ
 
--- the background is transparent exactly when P2 is 1
+-- rule 1.6: the background is transparent exactly when P2 is 1
 unfoldable pub transparent : Option ℕ → Bool
 transparent none = false
 transparent (some n) = eqb n 1
 
--- 0,0,0,0 where it is transparent, else register 0 at the start
+-- rule 1.6: 0,0,0,0 where it is transparent, else register 0 at the start
 unfoldable pub backgroundOf : Palette → Option ℕ → List ℕ
 unfolding transparent
 backgroundOf p p2 = cond (transparent p2) (0 ∷ 0 ∷ 0 ∷ 0 ∷ []) (registerOf p 0)
 
--- the drawing before the first byte
+-- rules 1.7, 3.1: the drawing before the first byte
 unfoldable pub blank : Palette → Option ℕ → Drawing
 unfolding backgroundOf
 blank p p2 =
@@ -96,22 +97,24 @@ withRegister p n = record { column = p .column; row = p .row; repeats = p .repea
 unfoldable pub withRepeats : Pen → ℕ → Pen
 withRepeats p n = record { column = p .column; row = p .row; repeats = n; register = p .register }
 
+-- rule 3.6: the pen in another column and row
 unfoldable pub moved : Pen → ℕ → ℕ → Pen
 moved p column row = record { column = column; row = row; repeats = p .repeats; register = p .register }
 
--- ---- repeat: above R it is 4, and 0 means 1; it waits for the next sixel, and a later one replaces it
+-- ---- repeat
 
+-- rules 3.2, 3.3: above R it is 4, and 0 means 1; it waits for the next sixel, and a later one replaces it
 unfoldable pub repeated : Setting → ℕ → Drawing → Drawn
 unfolding withPen withRepeats
 repeated s n d = cond (ltb (s .limits .repeats) n) (refused 4) (drawn (withPen d (withRepeats (d .pen) (max 1 n))))
 
 -- ---- colour
 
--- no value selects register 0, and a number above 255 selects 255
+-- rule 3.4: no value selects register 0, and a number above 255 selects 255
 unfoldable pub selected : List ℕ → ℕ
 selected vs = min (getD vs 0 0) 255
 
--- with five values, space 1 (HLS) or 2 (RGB) redefines the register
+-- rule 3.5: with five values, space 1 (HLS) or 2 (RGB) redefines the register
 unfoldable pub redefined : Palette → ℕ → List ℕ → Palette
 redefined p n vs =
     cond (eqb (length vs) 5)
@@ -120,6 +123,7 @@ redefined p n vs =
     p))
     p
 
+-- rule 3.5: a colour command selects its register, and redefines it where its values say so
 unfoldable pub coloured : List ℕ → Drawing → Drawing
 unfolding withRegister selected redefined
 coloured vs d =
@@ -132,11 +136,12 @@ coloured vs d =
       background = d .background;
     }
 
--- ---- sizes: 5 above W or H, then 6 where the visible area would exceed M pixels, then 7 above the stride or the rows
+-- ---- sizes
 
 unfoldable pub pixelsOf : Area → ℕ
 pixelsOf a = a .width * a .height
 
+-- rule 4.2: 5 above W or H, then 6 where the visible area would exceed M pixels, then 7 above the stride or the rows
 unfoldable pub sizeRefusal : Setting → Area → ℕ → ℕ → Option ℕ
 unfolding pixelsOf grownTo
 sizeRefusal s a w h =
@@ -144,14 +149,14 @@ sizeRefusal s a w h =
     (cond (ltb (s .limits .pixels) (pixelsOf (grownTo a w h))) (some 6)
     (cond (ltb (s .stride) w || ltb (s .rows) h) (some 7) none))
 
--- a drawing unless its size is refused
+-- rule 4.2: a drawing unless its size is refused
 unfoldable pub unless : Option ℕ → Drawing → Drawn
 unless none d = drawn d
 unless (some n) d = refused n
 
 -- ---- raster
 
--- a quotient of exactly 1, 2, 3 or 5 is the ratio; another clears it
+-- rule 3.7: a quotient of exactly 1, 2, 3 or 5 is the ratio; another clears it
 unfoldable pub quotient : ℕ → ℕ → Option ℕ
 quotient v h =
     cond (eqb v h) (some 1)
@@ -159,15 +164,16 @@ quotient v h =
     (cond (eqb v (3 * h)) (some 3)
     (cond (eqb v (5 * h)) (some 5) none)))
 
--- the first two values, a 0 raised to 1, are vertical:horizontal; one value alone changes no ratio
+-- rule 3.7: the first two values, a 0 raised to 1, are vertical:horizontal; one value alone changes no ratio
 unfoldable pub ratioAfter : Option ℕ → List ℕ → Option ℕ
 unfolding quotient
 ratioAfter old vs = cond (leb 2 (length vs)) (quotient (max 1 (getD vs 0 0)) (max 1 (getD vs 1 0))) old
 
--- a width or height above 0 is kept
+-- rule 3.8: a width or height above 0 is kept
 unfoldable pub kept : ℕ → ℕ → ℕ
 kept old n = cond (ltb 0 n) n old
 
+-- rule 3.8: what a raster command's values leave of ratio, width and height
 unfoldable pub rasterAfter : Raster → List ℕ → Raster
 unfolding ratioAfter kept
 rasterAfter r vs =
@@ -178,21 +184,21 @@ unfoldable pub withRaster : Drawing → Raster → Area → Drawing
 withRaster d r a =
     record { pen = d .pen; strokes = d .strokes; area = a; raster = r; palette = d .palette; background = d .background }
 
--- the visible area grows to a raster's size, a missing width or height counting 1
+-- rule 3.8: the visible area grows to a raster's size, a missing width or height counting 1
 unfoldable pub stretched : Setting → Raster → Drawing → Drawn
 unfolding withRaster sizeRefusal unless
 stretched s r d =
     unless (sizeRefusal s (d .area) (max 1 (r .width)) (max 1 (r .height)))
     (withRaster d r (grownTo (d .area) (max 1 (r .width)) (max 1 (r .height))))
 
--- it does so if a width or a height is kept
+-- rule 3.8: it does so if a width or a height is kept
 unfoldable pub rastered : Setting → Raster → Drawing → Drawn
 unfolding stretched
 rastered s r d = cond (eqb (r .width + r .height) 0) (drawn (withRaster d r (d .area))) (stretched s r d)
 
 -- ---- sixel
 
--- the stroke that a sixel's bits make at the pen; no answer reads its register yet
+-- rule 3.9: the stroke that a sixel's bits make at the pen; no answer reads its register yet
 unfoldable pub strokeOf : ℕ → Drawing → Stroke
 strokeOf bits d =
     record {
@@ -204,7 +210,7 @@ strokeOf bits d =
       register = d .pen .register;
     }
 
--- the drawing with a stroke more: the area grows to it, the column advances, the repeat is spent
+-- rules 3.3, 3.9: the drawing with a stroke more: the area grows to it, the column advances, the repeat is spent
 unfoldable pub stroked : Drawing → Stroke → Drawing
 unfolding moved withRepeats
 stroked d k =
@@ -217,7 +223,7 @@ stroked d k =
       background = d .background;
     }
 
--- it needs columns up to position + repeat and rows up to position + 6
+-- rule 3.9: it needs columns up to position + repeat and rows up to position + 6
 unfoldable pub sixelled : Setting → ℕ → Drawing → Drawn
 unfolding strokeOf stroked sizeRefusal unless
 sixelled s bits d =
@@ -225,6 +231,7 @@ sixelled s bits d =
 
 -- ---- commands
 
+-- rule 3.6: what each command does; `$` goes back to column 0, and `-` to column 0 of the next six rows
 unfoldable pub drawCommand : Setting → Command → Drawing → Drawn
 unfolding repeated coloured rastered sixelled rasterAfter withPen moved
 drawCommand s (argued repeat bs) d = repeated s (decimal bs) d
@@ -239,11 +246,12 @@ pub record Outcome : Type 0 where
   pub drawing : Drawing
   pub refusal : Option ℕ
 
--- a command's outcome, and what follows it
+-- rule 5.4: a command's outcome, and what follows it
 unfoldable pub andThen : Drawing → Drawn → (Drawing → Outcome) → Outcome
 andThen before (drawn d) later = later d
 andThen before (refused n) later = record { drawing = before; refusal = some n }
 
+-- rule 3.11: commands in their order, up to the first that is refused
 unfoldable pub drawAll : Setting → List Placed → Drawing → Outcome
 unfolding drawCommand andThen
 drawAll s [] d = record { drawing = d; refusal = none }
@@ -251,10 +259,11 @@ drawAll s (c ∷ cs) d = andThen d (drawCommand s (c .command) d) (drawAll s cs)
 
 -- ---- ink and extent
 
--- a sixel's ink: the repeat times the ones among its six bits
+-- rule 6.1: a sixel's ink: the repeat times the ones among its six bits
 unfoldable pub inkOf : Stroke → ℕ
 inkOf k = k .repeat * ones (k .bits)
 
+-- rule 6.1: the ink of all of some strokes
 unfoldable pub inkOfAll : List Stroke → ℕ
 unfolding inkOf
 inkOfAll [] = 0
@@ -264,16 +273,17 @@ inkOfAll (k ∷ ks) = inkOf k + inkOfAll ks
 unfoldable pub strokesSince : Drawing → Drawing → List Stroke
 strokesSince before now = drop (length (before .strokes)) (now .strokes)
 
--- the rightmost column that any sixel reached, blank or not, plus 1
+-- rule 4.4: the rightmost column that any sixel reached, blank or not, plus 1
 unfoldable pub columnsReached : List Stroke → ℕ
 columnsReached [] = 1
 columnsReached (k ∷ ks) = max (k .column + k .repeat) (columnsReached ks)
 
--- the lowest row of any band with ink, plus 1
+-- rule 4.4: the lowest row of any band with ink, plus 1
 unfoldable pub rowsReached : List Stroke → ℕ
 rowsReached [] = 1
 rowsReached (k ∷ ks) = max (cond (eqb (k .bits) 0) 1 (k .row + 6)) (rowsReached ks)
 
+-- rule 4.4: both
 unfoldable pub extentOf : List Stroke → Area
 unfolding columnsReached rowsReached
 extentOf ks = record { width = columnsReached ks; height = rowsReached ks }

@@ -1,4 +1,4 @@
--- Any reader that goes byte by byte, and what a call of it with an ink allowance does (document 01, 'Ink').
+-- Any reader that goes byte by byte, and what a call of it with an ink allowance does (docs/RULES.md, section 6).
 -- Nothing of SIXEL stands here: a reader is a step for each byte, and what a stop leaves.
 use Prim.Native.Nat.{ℕ, suc, _+_, _-_}
 use mathlib.Core.Bool.{Bool, true, false, cond, _&&_}
@@ -77,9 +77,10 @@ module _ {S : Type 0} (step : S → ℕ → Step S) where
   unfolding continued readFrom
   thenRead r ys = continued r (λ t. readFrom t ys)
 
-  -- A call with an allowance. It stops exactly when the next byte is one that is read, so not refused, and its ink exceeds what is left. That
-  -- byte stays unread. What is pending before it has taken effect: `rest` says what a stop leaves.
+  -- `rest` says what a stop leaves: what is pending has taken effect
   module _ (rest : S → S) where
+    -- Rule 6.3. A call with an allowance. It stops exactly when the next byte is one that is read, so not refused, and its ink exceeds what is left.
+    -- That byte stays unread.
     unfoldable pub call : ℕ → S → List ℕ → Run S
     unfolding still after follow
     call left s [] = still s readAll
@@ -101,12 +102,13 @@ unfoldable pub allowanceOf : Turn → ℕ
 allowanceOf (fresh p a) = a
 allowanceOf (again a) = a
 
--- the stream of a caller's pieces, and how many they are
+-- the stream of a caller's pieces
 unfoldable pub stream : List Turn → List ℕ
 unfolding pieceOf
 stream [] = []
 stream (t ∷ ts) = pieceOf t ++ stream ts
 
+-- rule 6.8: how many they are
 unfoldable pub pieces : List Turn → ℕ
 pieces [] = 0
 pieces (fresh p a ∷ ts) = suc (pieces ts)

@@ -1,4 +1,4 @@
--- A payload read byte by byte, and a DCS sequence around it (document 01, 'Reading the payload', 'DCS framing and one-shot').
+-- A payload read byte by byte, and a DCS sequence around it (docs/RULES.md, sections 2 and 7).
 use Prim.Native.Nat.{ℕ, suc}
 use mathlib.Core.Bool.{cond, _||_}
 use mathlib.Core.Option.{Option, none, some, Option·map}
@@ -25,6 +25,7 @@ pub record Reading : Type 0 where
   pub drawing : Drawing
   pub over : Option ℕ
 
+-- rule 1.7: before its first byte: the blank drawing, which is pixel (0, 0) in the background
 unfoldable pub opened : Parameters → Palette → Reading
 opened o p = record { parameters = o; passed = 0; begun = none; drawing = blank p (o .p2); over = none }
 
@@ -32,7 +33,7 @@ opened o p = record { parameters = o; passed = 0; begun = none; drawing = blank 
 unfoldable pub settled : Setting → Reading → Outcome
 settled s r = drawAll s (closed (r .begun)) (r .drawing)
 
--- what a stop leaves (`call` of Reader): the begun command is carried out
+-- rule 6.3: what a stop leaves (`call` of Reader): the begun command is carried out
 unfoldable pub rested : Setting → Reading → Reading
 unfolding settled
 rested s r = record { parameters = r .parameters; passed = r .passed; begun = none; drawing = settled s r .drawing; over = r .over }
@@ -45,7 +46,7 @@ endedAt b r out =
       | some n ↦ refuse (record { parameters = r .parameters; passed = r .passed; begun = none; drawing = out .drawing; over = none }) n
     ]
 
--- another byte: the commands that it ends or is are carried out, and its ink is that of the strokes that they draw
+-- rule 5.4: another byte: the commands that it ends or is are carried out, and its ink is that of the strokes that they draw
 unfoldable pub wentOn : Reading → Scanned → Outcome → Step Reading
 wentOn r c out =
     elim (out .refusal) [
@@ -63,12 +64,12 @@ readByte s r b =
     let c : Scanned = scanByte (r .passed) (r .begun) b in
     cond (ends b) (endedAt b r (settled s r)) (wentOn r c (drawAll s (c .ended) (r .drawing)))
 
--- an ended payload reads no more
+-- rule 7.6: an ended payload reads no more
 unfoldable pub payloadStep : Setting → Reading → ℕ → Step Reading
 unfolding readByte
 payloadStep s r b = elim (r .over) [ none ↦ readByte s r b | some e ↦ halt r ]
 
--- finishing carries the pending command out
+-- rules 5.3, 7.7: finishing carries the pending command out
 unfoldable pub finishReading : Setting → Reading → Finished
 finishReading s r = finish (r .parameters) (settled s r)
 
@@ -101,7 +102,7 @@ pub data Phase : Type 0 where
 abbrev pub escape : ℕ
 escape = 0x1B
 
--- the first two of a header's three values, none where it has fewer; P3 reaches no answer
+-- rule 7.2: the first two of a header's three values, none where it has fewer; P3 reaches no answer
 unfoldable pub parametersOf : List ℕ → Parameters
 parametersOf bs =
     record {
@@ -109,11 +110,11 @@ parametersOf bs =
       p2 = Option·map held16 (getElem? (values 3 bs) 1);
     }
 
--- the first byte is 1B or 90
+-- rule 7.1: the first byte is 1B or 90
 unfoldable pub startStep : ℕ → Step Phase
 startStep b = cond (eqb b escape) (next introduced 0) (cond (eqb b 0x90) (next (header []) 0) (refuse start 1))
 
--- the byte after 1B is `P`
+-- rule 7.1: the byte after 1B is `P`
 unfoldable pub introducedStep : ℕ → Step Phase
 introducedStep b = cond (eqb b 0x50) (next (header []) 0) (refuse introduced 1)
 
@@ -123,7 +124,7 @@ pub data HeaderByte : Type 0 where
   settles : Parameters → HeaderByte
   wrong : ℕ → HeaderByte
 
--- it is skipped, or belongs to the three values, or is `q`; else it is 2 or 3
+-- rules 5.5, 7.2: it is skipped, or belongs to the three values, or is `q`; else it is 2 or 3
 unfoldable pub headerByte : List ℕ → ℕ → HeaderByte
 unfolding parametersOf ofValues
 headerByte bs b =
@@ -141,7 +142,8 @@ headerStep p bs b =
       | wrong n ↦ refuse (header bs) n
     ]
 
--- the byte that ends a payload: 1B is consumed and waits for the next, 9C and 18 and 1A are consumed, another C1 byte stays unread
+-- rules 7.3, 7.4, 7.5: the byte that ends a payload: 1B is consumed and waits for the next, 9C and 18 and 1A are consumed, another C1 byte stays
+-- unread
 unfoldable pub endStep : Reading → ℕ → Step Phase
 endStep r b =
     cond (eqb b escape) (next (afterEscape r) 0)
@@ -158,11 +160,11 @@ withinStep s r b =
       | refuse t n ↦ refuse (within t) n
     ]
 
--- after 1B, `\` completes and is consumed; another byte stays unread
+-- rules 7.3, 7.5: after 1B, `\` completes and is consumed; another byte stays unread
 unfoldable pub escapeStep : Reading → ℕ → Step Phase
 escapeStep r b = cond (eqb b 0x5C) (next (over complete r) 0) (halt (over (interrupted escape) r))
 
--- One byte of a DCS sequence; the palette is the one that the session was opened with. Sequence says it of the whole, and the two are one:
+-- Rule 7.6. One byte of a DCS sequence; the palette is the one that the session was opened with. Sequence says it of the whole, and the two are one:
 -- proofs/SequenceLaws, and of its finish `sequence-finish` of proofs/DcsLaws.
 unfoldable pub dcsStep : Setting → Palette → Phase → ℕ → Step Phase
 unfolding startStep introducedStep headerStep withinStep escapeStep
@@ -173,7 +175,7 @@ dcsStep s p (within r) b = withinStep s r b
 dcsStep s p (afterEscape r) b = escapeStep r b
 dcsStep s p (over e r) b = halt (over e r)
 
--- what a stop leaves
+-- rule 6.3: what a stop leaves
 unfoldable pub dcsRested : Setting → Phase → Phase
 unfolding rested
 dcsRested s start = start
@@ -183,7 +185,7 @@ dcsRested s (within r) = within (rested s r)
 dcsRested s (afterEscape r) = afterEscape r
 dcsRested s (over e r) = over e r
 
--- finishing before the end is 8
+-- rules 5.3, 7.7: finishing before the end is 8
 unfoldable pub finishDcs : Setting → Phase → Finished
 unfolding finishReading
 finishDcs s start = turnedDown 8

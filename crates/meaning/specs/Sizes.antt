@@ -19,7 +19,7 @@ pub record Roomy (s : Setting) : Type 0 where
   pub stride : 1 ≤ s .stride
   pub rows : 1 ≤ s .rows
 
--- an area of at least one pixel that keeps within W, H, M, the stride and the rows
+-- rule 4.3: an area of at least one pixel that keeps within W, H, M, the stride and the rows
 pub record Fits (s : Setting) (a : Area) : Type 0 where
   pub wide : 1 ≤ a .width
   pub tall : 1 ≤ a .height
@@ -34,7 +34,7 @@ abbrev pub VisibleFits : Setting → Option Drawing → Type 0
 VisibleFits s none = Unit {0}
 VisibleFits s (some d) = Fits s (d .area)
 
--- the size that a finish reports is one, where it reports any
+-- rule 4.3: the size that a finish reports is one, where it reports any
 abbrev pub ReportFits : Setting → Finished → Type 0
 ReportFits s (finished r) = Fits s (r .size)
 ReportFits s (turnedDown n) = Unit {0}

@@ -1,4 +1,4 @@
--- The laws that the functions' proofs cite: what a test tells of a byte, and one law for each way through a function.
+-- The laws that the functions' proofs cite: what a test tells of a byte, and one law for each path through a function.
 use Prim.Native.Nat.{ℕ, _+_, _-_, _*_, _≤_, _<_}
 use mathlib.Core.Bool.{Bool, true, false, _&&_, cond}
 use mathlib.Core.Path.{_≡_, refl, sym, ap, ap₂, _∙_}

@@ -20,7 +20,7 @@ cond-case : {A : Type 0} (P : A → Type 0) {x y : A} (t : Bool) → (t ≡ true
 cond-case P true f g = f refl
 cond-case P false f g = g refl
 
--- ---- there and back
+-- ---- the round trip
 
 flag-number : (t : Bool) → boolByte t ≡ cond t 1 0
 flag-number true = refl

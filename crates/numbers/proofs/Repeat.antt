@@ -1,4 +1,4 @@
--- A repeat's number is held in the code and unbounded in the definition: both compare alike with every limit that can be
+-- A repeat's number saturates in the code and is unbounded in the definition: both compare alike with every limit that can be
 -- opened.
 use Prim.Native.Nat.{ℕ, _+_, _-_, _*_, _≤_, min}
 use mathlib.Core.Bool.{Bool, true, false, cond}

@@ -1,4 +1,4 @@
--- The kinds of bytes in a payload and in a header (document 01, "Reading the payload").
+-- The kinds of bytes in a payload and in a header (docs/RULES.md, section 2).
 use Prim.Native.Nat.{ℕ}
 use mathlib.Core.Bool.{Bool, _&&_, _||_}
 use lib.Dec.{leb, eqb}
@@ -7,7 +7,7 @@ use lib.Dec.{leb, eqb}
 unfoldable pub between : ℕ → ℕ → ℕ → Bool
 between first last b = leb first b && leb b last
 
--- 00-17, 19, 1C-1F and 7F are skipped, also inside numbers
+-- rule 2.1: 00-17, 19, 1C-1F and 7F are skipped, also inside numbers
 unfoldable pub skipped : ℕ → Bool
 unfolding between
 skipped b = leb b 0x17 || (eqb b 0x19 || (between 0x1C 0x1F b || eqb b 0x7F))
@@ -17,12 +17,12 @@ unfoldable pub digit : ℕ → Bool
 unfolding between
 digit b = between 0x30 0x39 b
 
--- 3F-7E is a sixel
+-- rule 2.2: 3F-7E is a sixel
 unfoldable pub sixel : ℕ → Bool
 unfolding between
 sixel b = between 0x3F 0x7E b
 
--- 18, 1A, 1B and 80-9F end the payload
+-- rule 2.7: 18, 1A, 1B and 80-9F end the payload
 unfoldable pub ends : ℕ → Bool
 unfolding between
 ends b = eqb b 0x18 || (between 0x1A 0x1B b || between 0x80 0x9F b)

@@ -35,7 +35,7 @@ pub five-values : values 5 (0x31 ∷ 0x3B ∷ 0x32 ∷ 0x3B ∷ 0x31 ∷ 0x30 �
 unfolding values digit between
 five-values = refl
 
--- `9999999999` is held
+-- `9999999999` saturates
 pub held-number
     : values 4 (0x39 ∷ 0x39 ∷ 0x39 ∷ 0x39 ∷ 0x39 ∷ 0x39 ∷ 0x39 ∷ 0x39 ∷ 0x39 ∷ 0x39 ∷ []) ≡ 2147483647 ∷ []
 unfolding values digit between

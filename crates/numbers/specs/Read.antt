@@ -10,6 +10,6 @@ use Rattle.numbers.specs.declared.Parameters.{Parameters}
 pub record Read (places : ℕ) (bs : List ℕ) (p : Parameters) : Type 0 where
   pub same : p ≡ fed (opened places) bs
 
--- a repeat's number, held at the ceiling, after these bytes
+-- a repeat's number, saturated at the ceiling, after these bytes
 pub record Counted (bs : List ℕ) (n : ℕ) : Type 0 where
   pub same : n ≡ min (decimal bs) ceiling

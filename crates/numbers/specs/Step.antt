@@ -78,6 +78,6 @@ valueAt p i = held (getD (kept p) i 0)
 abbrev pub ceiling : ℕ
 ceiling = 1000000000010
 
--- one digit more of a repeat's number, held at the ceiling
+-- one digit more of a repeat's number, saturated at the ceiling
 unfoldable pub repeated : ℕ → ℕ → ℕ
 repeated n b = cond (digit b) (min (n * 10 + (b - 0x30)) ceiling) n

@@ -1,4 +1,4 @@
--- What the bytes of an argument mean (document 01, "Reading the payload"): the values are what stands between the `;`.
+-- What the bytes of an argument mean (docs/RULES.md, section 2): the values are what stands between the `;`.
 -- The bytes are those after the command's own and before the one that ends it: digits, `;` and skipped ones.
 -- Whatever is no digit and no `;` is passed over, so a skipped byte inside a number makes no difference.
 use Prim.Native.Nat.{ℕ, _+_, _-_, _*_, min}
@@ -18,16 +18,16 @@ unfolding extended
 decimalFrom n [] = n
 decimalFrom n (b ∷ bs) = decimalFrom (extended n b) bs
 
--- the digits among the bytes as one decimal number, 0 where there are none: a repeat's number is this
+-- rule 2.8: the digits among the bytes as one decimal number, 0 where there are none: a repeat's number is this
 unfoldable pub decimal : List ℕ → ℕ
 unfolding decimalFrom
 decimal bs = decimalFrom 0 bs
 
--- colour, raster and header numbers stop at 2,147,483,647
+-- rule 2.10: colour, raster and header numbers stop at 2,147,483,647
 unfoldable pub held : ℕ → ℕ
 held n = min n 2147483647
 
--- P1 to P3 then stop at 65,535
+-- rule 2.10: P1 to P3 then stop at 65,535
 unfoldable pub held16 : ℕ → ℕ
 held16 n = min n 65535
 
@@ -41,7 +41,7 @@ unfoldable pub parted : ℕ → List (List ℕ) → List (List ℕ)
 unfolding onto
 parted b fs = cond (eqb b semicolon) ([] ∷ fs) (onto b fs)
 
--- what stands between the `;`: always one field more than there are `;`
+-- rule 2.9: what stands between the `;`: always one field more than there are `;`
 unfoldable pub fields : List ℕ → List (List ℕ)
 unfolding parted
 fields [] = [] ∷ []
@@ -57,8 +57,8 @@ unfoldable pub written : List ℕ → Bool
 written [] = false
 written (b ∷ bs) = digit b || (eqb b semicolon || written bs)
 
--- the values of an argument with so many places: none where nothing is written, else the numbers of its fields, and those
--- past the last place are dropped
+-- rules 2.9, 2.10: the values of an argument with so many places: none where nothing is written, else the numbers of its fields, and those past the
+-- last place are dropped
 unfoldable pub values : ℕ → List ℕ → List ℕ
 unfolding number fields written
 values places bs = cond (written bs) (take places (map number (fields bs))) []

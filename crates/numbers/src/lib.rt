@@ -1,4 +1,4 @@
-// The kinds of bytes, and the numbers that stand in commands (document 01, "Reading the payload").
+// The kinds of bytes, and the numbers that stand in commands (docs/RULES.md, section 2).
 pub mod memory;
 
 ghost use mathlib.Core.Path.{_≡_};
@@ -7,12 +7,12 @@ ghost use Rattle.numbers.specs.Bytes.{skipped, digit, sixel, ends};
 ghost use Rattle.numbers.specs.Values.{held, held16};
 ghost use Rattle.numbers.specs.Step.{opened, withDigit, withSemicolon, pushed, stored, finished, valueAt, repeated};
 
-// Where colour, raster and header numbers stop, and where P1 to P3 then do.
+// Where colour, raster and header numbers saturate, and where P1 to P3 then do.
 const NUMBER_LIMIT: u64 = 2_147_483_647;
 
 const HEADER_LIMIT: u32 = 65_535;
 
-// Where a repeat's number stops: above every repeat limit that can be opened, and reached by one more digit after any
+// Where a repeat's number saturates: above every repeat limit that can be opened, and reached by one more digit after any
 // number above `REPEAT_LAST`.
 const REPEAT_CEILING: u64 = 1_000_000_000_010;
 
@@ -85,7 +85,7 @@ fn digit_value(byte: u8) -> u64
     (byte - 0x30) as u64
 }
 
-// A number held at its limit.
+// A number saturated at its limit.
 fn hold(value: u64) -> u32
     ensures { λ r. ⌜ r ≡ held value ⌝ }
 {
@@ -188,7 +188,7 @@ impl Parameters {
         self
     }
 
-    // The same record made anew from its numbers, so that a loop need not carry along the bytes of no meaning between them.
+    // The same record made anew from its numbers, so that a loop need not carry its padding bytes along.
     pub fn renewed(self) -> Parameters
         ensures { λ r. ⌜ r ≡ self ⌝ }
     {
@@ -209,7 +209,7 @@ impl Parameters {
         self.count
     }
 
-    // The value at a place, 0 where there is none. It is held once more, so that it fits a signed number whatever the record.
+    // The value at a place, 0 where there is none. It is clamped once more, so that it fits a signed number whatever the record.
     pub fn value(self, at: usize) -> u32
         ensures { λ r. ⌜ r ≡ valueAt self at ⌝ }
     {

@@ -24,7 +24,7 @@ pub fn numbers_of(parameters: Parameters) -> [u64; 9]
     ]
 }
 
-// Whatever the numbers are: of those that have 32 bits the rest is dropped.
+// Whatever the numbers are: those of 32 bits are truncated.
 pub fn parameters_from(numbers: [u64; 9]) -> Parameters
     ensures { λ r. ⌜ r ≡ parametersFrom numbers ⌝ }
 {

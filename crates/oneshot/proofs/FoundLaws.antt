@@ -1,39 +1,41 @@
--- What the search finds is what document 01 says: introducer, header and part.
-use Prim.Native.Nat.{ℕ, zero, suc, _+_, _≤_}
-use mathlib.Core.Bool.{Bool, true, false, cond, _&&_, _||_}
-use mathlib.Core.List.{List, [], _∷_, _++_}
-use mathlib.Core.Option.{Option, none, some, Option·map}
-use mathlib.Core.Path.{_≡_, refl, sym, ap, ap₂, subst, _∙_}
+-- What the search finds is what the definition says (rule 8.1): introducer, header and part.
+use Prim.Native.Nat.{ℕ, _+_, _≤_}
+use mathlib.Core.Bool.{true, _&&_}
+use mathlib.Core.List.{List, [], _∷_}
+use mathlib.Core.Option.{Option, none, some}
+use mathlib.Core.Path.{_≡_, refl, sym, ap, subst, _∙_}
 use native.Mathlib.Nat.{zero-add}
 use native.Mathlib.Omega.{arith}
-use borrow.Author.Tests.{lt-ltb, le-ltb, ltb-true, ltb-false, eqb-true}
-use lib.Dec.{ltb, eqb}
-use lib.ListN.{length, getD, getElem?, drop, length-drop}
+use borrow.Author.Tests.{eqb-true, ne-eqb}
+use lib.Dec.{eqb}
+use lib.ListN.{length, getD, drop, length-drop}
 use lib.Seq.{drop-drop}
-use Rattle.numbers.specs.Bytes.{skipped, digit, ends, semicolon}
-use Rattle.numbers.specs.Values.{held16, values}
-use Rattle.numbers.specs.Read.{Read}
-use Rattle.numbers.specs.Step.{opened, pushed, finished}
-use Rattle.numbers.specs.declared.Parameters.{Parameters}
-use Rattle.numbers.proofs.Laws.{cond-yes}
-use Rattle.numbers.proofs.Reading.{read-none, read-push, read-skipped, read-count, read-value}
+use Rattle.numbers.specs.Step.{opened}
+use Rattle.numbers.proofs.Laws.{cond-no}
+use Rattle.numbers.proofs.Reading.{read-none}
 use Rattle.canvas.proofs.Covers.{and-right, by-test}
 use Rattle.frame.specs.Numbers.{numberOf}
 use Rattle.frame.specs.declared.Refusal.{Refusal}
-use Rattle.meaning.specs.Commands.{ofValues}
 use Rattle.meaning.specs.OneShot as meaning
 use Rattle.meaning.specs.OneShot.{afterIntroducer, findPayload}
-use Rattle.meaning.specs.Sessions.{HeaderByte, goesOn, settles, wrong, headerByte, parametersOf}
+use Rattle.meaning.specs.Payload.{noParameters}
 use Rattle.meaning.proofs.AreaLaws.{cond-case}
-use Rattle.payload.specs.declared.Given.the-variants.{Nothing, Number}
 use Rattle.payload.specs.declared.Settings.{Settings}
+use Rattle.payload.specs.Begin.{noSettings}
+use Rattle.payload.specs.Meant.{givenMeant, parametersMeant}
+use Rattle.header.specs.declared.Lead.{Lead}
+use Rattle.header.specs.declared.Led.{Led}
+use Rattle.header.specs.declared.Led.the-variants as leds
+use Rattle.header.specs.declared.Place.the-variants as places
+use Rattle.header.specs.Lead.{leadFrom}
+use Rattle.header.proofs.Bounds.{lead-bound}
+use Rattle.header.proofs.HeaderLaws.{HeaderFinds, lacks, begins, refuses, header-finds}
 use Rattle.oneshot.specs.declared.search.Found.{Found}
 use Rattle.oneshot.specs.declared.search.Found.the-variants.{Payload, Refused}
 use Rattle.oneshot.specs.declared.search.Start.{Start}
 use Rattle.oneshot.specs.declared.search.Start.the-variants.{At, Nowhere}
-use Rattle.payload.specs.Meant.{givenMeant, parametersMeant}
-use Rattle.oneshot.specs.OneShot.{foundMeant}
-use Rattle.oneshot.specs.Search.{introducerAt, startFrom, givenAt, settingsOf, inHeader, headerEnd, headerRest, headerFrom, foundAt, foundIn}
+use Rattle.oneshot.specs.OneShot.{unfoundMeant, foundMeant}
+use Rattle.oneshot.specs.Search.{introducerAt, startFrom, ledTo, headerFrom, foundAt, foundIn}
 
 -- ---- the introducer
 
@@ -57,85 +59,26 @@ start-meant l at (b ∷ bs) e =
     (λ t. by-test (eqb b 0x1B && eqb (getD bs 0 0) 0x50) (λ u. rw (t, u) (ap some (two-further l at e)))
     (λ u. rw (t, u) (start-meant l (at + 1) bs (further l at e))))
 
--- ---- P1 and P2
-
-less-suc : (m n : ℕ) → ltb (suc m) (suc n) ≡ ltb m n
-less-suc m n =
-    by-test (ltb m n) (λ t. lt-ltb (suc m) (suc n) (omega (arith, ltb-true m n t)) ∙ sym t)
-    (λ t. le-ltb (suc m) (suc n) (omega (arith, ltb-false m n t)) ∙ sym t)
-
-given-list : (xs : List ℕ) (i : ℕ) → givenMeant (cond (ltb i (length xs)) (Number (held16 (getD xs i 0))) Nothing) ≡ Option·map held16 (getElem? xs i)
-unfolding givenMeant
-given-list [] i = rw (le-ltb i 0 (omega arith)) refl
-given-list (x ∷ xs) zero = rw (lt-ltb 0 (suc (length xs)) (omega arith)) refl
-given-list (x ∷ xs) (suc i) = ap (λ (t : Bool). givenMeant (cond t (Number (held16 (getD xs i 0))) Nothing)) (less-suc i (length xs)) ∙ given-list xs i
-
-given-meant : {got : List ℕ} {p : Parameters} (i : ℕ) → Read 3 got p → givenMeant (givenAt (finished p) i) ≡ Option·map held16 (getElem? (values 3 got) i)
-unfolding givenAt
-given-meant {got} i r =
-    ap₂ (λ (n v : ℕ). givenMeant (cond (ltb i n) (Number (held16 v)) Nothing)) (read-count (omega arith) r) (read-value i (omega arith) r)
-    ∙ given-list (values 3 got) i
-
-settings-meant : {got : List ℕ} {p : Parameters} → Read 3 got p → parametersMeant (settingsOf p) ≡ parametersOf got
-unfolding parametersMeant settingsOf parametersOf
-settings-meant r = rw (given-meant 0 r, given-meant 1 r) refl
-
 -- ---- the header
 
--- a skipped byte leaves the values
-skipped-leaves : {got : List ℕ} {p : Parameters} (b : ℕ) → skipped b ≡ true → Read 3 got p → pushed p b ≡ p
-skipped-leaves b h r = read-push b r .same ∙ sym (read-skipped b h r .same)
+-- what the header comes to is found
+found-as : (l : List ℕ) {x : Lead} {f : meaning.Found} → HeaderFinds l x f → foundMeant l (ledTo (x .led) x) ≡ f
+unfolding ledTo foundMeant unfoundMeant numberOf
+found-as l lacks = refl
+found-as l begins = refl
+found-as l (refuses {m = m} why e low) = ap unfoundMeant e ∙ cond-no _ _ (ne-eqb m 8 (λ k. omega arith))
 
-module _ (got : List ℕ) (b : ℕ) where
-  -- what the rest of a header comes to after a byte
-  after-byte : (bs : List ℕ) {x : HeaderByte} → headerByte got b ≡ x
-      → meaning.headerFrom got (b ∷ bs) ≡ elim x [ goesOn more ↦ meaning.headerFrom more bs | settles o ↦ meaning.found o bs | wrong n ↦ meaning.refusedWith n ]
-  unfolding meaning.headerFrom
-  after-byte bs e = ap (λ (y : HeaderByte). elim y as (λ _. meaning.Found) [ goesOn more ↦ meaning.headerFrom more bs | settles o ↦ meaning.found o bs | wrong n ↦ meaning.refusedWith n ]) e
-
-  byte-skipped : skipped b ≡ true → headerByte got b ≡ goesOn got
-  unfolding headerByte
-  byte-skipped t = cond-yes _ _ t
-
-  module _ (t : skipped b ≡ false) where
-    byte-value : (digit b || eqb b semicolon) ≡ true → headerByte got b ≡ goesOn (got ++ (b ∷ []))
-    unfolding headerByte ofValues
-    byte-value u = rw (t, u) refl
-
-    module _ (u : (digit b || eqb b semicolon) ≡ false) where
-      byte-closes : eqb b 0x71 ≡ true → headerByte got b ≡ settles (parametersOf got)
-      unfolding headerByte ofValues
-      byte-closes v = rw (t, u, v) refl
-
-      byte-ended : eqb b 0x71 ≡ false → ends b ≡ true → headerByte got b ≡ wrong 2
-      unfolding headerByte ofValues
-      byte-ended v w = rw (t, u, v, w) refl
-
-      byte-other : eqb b 0x71 ≡ false → ends b ≡ false → headerByte got b ≡ wrong 3
-      unfolding headerByte ofValues
-      byte-other v w = rw (t, u, v, w) refl
-
-header-meant : (l : List ℕ) (at : ℕ) (bs got : List ℕ) (p : Parameters) → drop at l ≡ bs → Read 3 got p
-    → foundMeant l (headerRest p at bs) ≡ meaning.headerFrom got bs
-unfolding foundMeant headerRest inHeader headerEnd meaning.headerFrom numberOf
-header-meant l at [] got p e r = refl
-header-meant l at (b ∷ bs) got p e r =
-    by-test (skipped b)
-    (λ t. rw (t, skipped-leaves b t r) (header-meant l (at + 1) bs got p (further l at e) r) ∙ sym (after-byte got b bs (byte-skipped got b t)))
-    (λ t. by-test (digit b || eqb b semicolon)
-    (λ u. rw (t, u) (header-meant l (at + 1) bs (got ++ (b ∷ [])) (pushed p b) (further l at e) (read-push b r))
-    ∙ sym (after-byte got b bs (byte-value got b t u)))
-    (λ u. by-test (eqb b 0x71)
-    (λ v. rw (t, u, v) (ap₂ meaning.found (settings-meant r) (further l at e)) ∙ sym (after-byte got b bs (byte-closes got b t u v)))
-    (λ v. by-test (ends b) (λ w. rw (t, u, v, w) refl ∙ sym (after-byte got b bs (byte-ended got b t u v w)))
-    (λ w. rw (t, u, v, w) refl ∙ sym (after-byte got b bs (byte-other got b t u v w))))))
+-- a header at a place is the definition's
+header-meant : (l : List ℕ) (at : ℕ) → foundMeant l (headerFrom at (drop at l)) ≡ meaning.headerFrom [] (drop at l)
+unfolding headerFrom
+header-meant l at = found-as l (header-finds l (drop at l) at refl (read-none 3))
 
 -- ---- where the payload begins
 
 start-found : (l : List ℕ) (s : Start) (o : Option (List ℕ)) → startMeant l s ≡ o
-    → foundMeant l (foundAt s l) ≡ elim o [ none ↦ meaning.found (record { p1 = none; p2 = none }) l | some later ↦ meaning.headerFrom [] later ]
-unfolding startMeant foundMeant foundAt headerFrom parametersMeant
-start-found l (At n) o e = rw (← e) (header-meant l n (drop n l) [] (opened 3) refl (read-none 3))
+    → foundMeant l (foundAt s l) ≡ elim o [ none ↦ meaning.found noParameters l | some later ↦ meaning.headerFrom [] later ]
+unfolding startMeant foundMeant foundAt noSettings parametersMeant givenMeant
+start-found l (At n) o e = rw (← e) (header-meant l n)
 start-found l Nowhere o e = rw (← e) refl
 
 -- a refusal hands back no part
@@ -170,18 +113,19 @@ abbrev FoundWithin : ℕ → Found → Type 0
 FoundWithin most (Payload from o) = from ≤ most
 FoundWithin most (Refused n) = Unit
 
-header-within : (at : ℕ) (bs : List ℕ) (p : Parameters) → FoundWithin (at + length bs) (headerRest p at bs)
-unfolding headerRest headerEnd
-header-within at [] p = tt
-header-within at (b ∷ bs) p =
-    by-test (inHeader b)
-    (λ t. rw t (subst (λ (m : ℕ). FoundWithin m (headerRest (pushed p b) (at + 1) bs)) (omega arith) (header-within (at + 1) bs (pushed p b))))
-    (λ t. by-test (eqb b 0x71) (λ u. rw (t, u) (omega arith))
-    (λ u. by-test (ends b) (λ v. rw (t, u, v) tt) (λ v. rw (t, u, v) tt)))
+-- so far as the header was read, so far the payload's first byte
+led-within : (most : ℕ) (led : Led) (x : Lead) → x .consumed ≤ most → FoundWithin most (ledTo led x)
+unfolding ledTo
+led-within most leds.On x h = tt
+led-within most leds.Begins x h = h
+led-within most (leds.Refused n) x h = tt
 
+-- what is found after a start within the input is within it
 found-within : (l : List ℕ) (s : Start) → StartWithin (length l) s → FoundWithin (length l) (foundAt s l)
 unfolding foundAt headerFrom
-found-within l (At n) h = subst (λ (m : ℕ). FoundWithin m (headerRest (opened 3) n (drop n l))) (rw (length-drop n l) (omega arith)) (header-within n (drop n l) (opened 3))
+found-within l (At n) h =
+    let x : Lead = leadFrom (drop n l) n places.Header (opened 3) in
+    led-within (length l) (x .led) x (omega (arith, h, lead-bound (drop n l) n places.Header (opened 3), length-drop n l))
 found-within l Nowhere h = omega arith
 
 -- the payload begins within the input

@@ -1,8 +1,8 @@
--- Laws of the search: one for each way through a function, and the rest form of its two loops.
+-- Laws of the search: one for each path through a function, and the rest form of its loop.
 use Prim.Native.Nat.{ℕ, _+_, _-_, _≤_, _<_}
-use mathlib.Core.Bool.{Bool, true, false, cond, _&&_, _||_}
+use mathlib.Core.Bool.{Bool, true, false, cond, _&&_}
 use mathlib.Core.List.{List, [], _∷_}
-use mathlib.Core.Path.{_≡_, refl, sym, ap, ap₂, _∙_}
+use mathlib.Core.Path.{_≡_, refl, sym, ap, _∙_}
 use native.Mathlib.Nat.{add-zero}
 use native.Mathlib.Numerals.{add-one}
 use native.Mathlib.Omega.{arith}
@@ -10,20 +10,24 @@ use borrow.Author.Tests.{lt-ltb, le-ltb, eq-eqb, ne-eqb}
 use lib.Dec.{ltb, eqb}
 use lib.ListN.{length, getD, drop, drop-of-length-le, List·getD-eq-default}
 use lib.Seq.{drop-cons, getD-drop}
-use Rattle.numbers.specs.Bytes.{skipped, digit, ends, semicolon}
-use Rattle.numbers.specs.Values.{held16}
-use Rattle.numbers.specs.Step.{opened, pushed, finished, valueAt}
+use Rattle.numbers.specs.Step.{opened}
 use Rattle.numbers.specs.declared.Parameters.{Parameters}
 use Rattle.numbers.proofs.Laws.{cond-yes, cond-no}
-use Rattle.frame.specs.declared.Refusal.the-variants.{HeaderEnded, HeaderByte, Unfinished}
-use Rattle.payload.specs.declared.Given.{Given}
-use Rattle.payload.specs.declared.Given.the-variants.{Nothing, Number}
+use Rattle.frame.specs.declared.Refusal.{Refusal}
+use Rattle.frame.specs.declared.Refusal.the-variants.{Unfinished}
 use Rattle.payload.specs.declared.Settings.{Settings}
+use Rattle.payload.specs.Begin.{noSettings}
+use Rattle.header.specs.declared.Lead.{Lead}
+use Rattle.header.specs.declared.Led.{Led}
+use Rattle.header.specs.declared.Led.the-variants as leds
+use Rattle.header.specs.declared.Place.the-variants as places
+use Rattle.header.specs.Lead.{leadFrom}
+use Rattle.header.specs.Settings.{settingsFrom}
 use Rattle.oneshot.specs.declared.search.Found.{Found}
 use Rattle.oneshot.specs.declared.search.Found.the-variants.{Payload, Refused}
 use Rattle.oneshot.specs.declared.search.Start.{Start}
 use Rattle.oneshot.specs.declared.search.Start.the-variants.{At, Nowhere}
-use Rattle.oneshot.specs.Search.{introducerAt, startFrom, givenAt, settingsOf, inHeader, headerEnd, headerRest, headerFrom, foundAt, foundIn}
+use Rattle.oneshot.specs.Search.{introducerAt, startFrom, ledTo, headerFrom, foundAt, foundIn}
 
 -- ---- an introducer
 
@@ -104,88 +108,33 @@ module _ {l : List ℕ} {at : ℕ} (k : Looking l at) (more : at < length l) {n 
 
 pub ruleset lookings = (introducer-short, looking-start, looking-past, looking-found, looking-on)
 
--- ---- a header's values
-
-module _ {count : ℕ} (p : Parameters) (at : ℕ) (e : count ≡ p .count) where
-  pub given-there : {v n : ℕ} → at < count → v ≡ valueAt p at → n ≡ held16 v → Number n ≡ givenAt p at
-  unfolding givenAt
-  given-there h k m = ap Number (m ∙ ap held16 k) ∙ sym (cond-yes _ _ (ap (ltb at) (sym e) ∙ lt-ltb _ _ h))
-
-  pub given-none : count ≤ at → Nothing ≡ givenAt p at
-  unfolding givenAt
-  given-none h = sym (cond-no _ _ (ap (ltb at) (sym e) ∙ le-ltb _ _ h))
-
-pub settings-from : {q : Parameters} {a b : Given} (p : Parameters) → q ≡ finished p → a ≡ givenAt q 0 → b ≡ givenAt q 1
-    → _≡_ {A = Settings} (record { p1 = a; p2 = b }) (settingsOf p)
-unfolding settingsOf
-settings-from p e h k = rw (h, k, e) refl
-
-pub ruleset givens = (given-there, given-none, settings-from)
-
 -- ---- a header
 
-pub in-skipped : {t : Bool} (b : ℕ) → t ≡ skipped b → t ≡ true → true ≡ inHeader b
-unfolding inHeader
-in-skipped b e h = sym (ap (λ (s : Bool). s || (digit b || eqb b semicolon)) (sym e ∙ h))
+module _ {h : Parameters} {x : Lead} (l : List ℕ) (n : ℕ) (e : h ≡ opened 3) (lead : x ≡ leadFrom (drop n l) n places.Header h) where
+  -- where the header led to is what is found
+  led : {y : Led} {r : Found} → x .led ≡ y → r ≡ ledTo y x → r ≡ headerFrom n (drop n l)
+  unfolding headerFrom
+  led k m =
+      m
+      ∙ ap (λ (y : Led). ledTo y x) (sym k)
+      ∙ ap (λ (z : Lead). ledTo (z .led) z) (lead ∙ ap (leadFrom (drop n l) n places.Header) e)
 
-module _ {t u : Bool} (b : ℕ) (e : t ≡ skipped b) (no : t ≡ false) (k : u ≡ digit b) where
-  split : inHeader b ≡ (u || eqb b semicolon)
-  unfolding inHeader
-  split = ap₂ (λ (s v : Bool). s || (v || eqb b semicolon)) (sym e ∙ no) (sym k)
+  -- all bytes are read, and there was no `q`
+  pub led-on : x .led ≡ leds.On → Refused Unfinished ≡ headerFrom n (drop n l)
+  unfolding ledTo
+  led-on k = led k refl
 
-  pub in-digit : u ≡ true → true ≡ inHeader b
-  in-digit h = sym (split ∙ ap (λ (s : Bool). s || eqb b semicolon) h)
+  -- `q`
+  pub led-begins : {o : Settings} → x .led ≡ leds.Begins → o ≡ settingsFrom (x .header) → Payload (x .consumed) o ≡ headerFrom n (drop n l)
+  unfolding ledTo
+  led-begins k o = led k (ap (Payload (x .consumed)) o)
 
-  pub in-semicolon : u ≡ false → eqb b semicolon ≡ inHeader b
-  in-semicolon h = sym (split ∙ ap (λ (s : Bool). s || eqb b semicolon) h)
+  -- 2 or 3
+  pub led-refused : {r : Refusal} → x .led ≡ leds.Refused r → Refused r ≡ headerFrom n (drop n l)
+  unfolding ledTo
+  led-refused k = led k refl
 
-pub ruleset in-headers = (in-skipped, in-digit, in-semicolon)
-
-pub end-closed : {o : Settings} (p : Parameters) (b from : ℕ) → b ≡ 0x71 → o ≡ settingsOf p → Payload from o ≡ headerEnd p b from
-unfolding headerEnd
-end-closed p b from e k = ap (Payload from) k ∙ sym (cond-yes _ _ (eq-eqb _ _ e))
-
-module _ {t : Bool} (p : Parameters) (b from : ℕ) (no : b ≡ 0x71 → ⊥) (e : t ≡ ends b) where
-  unclosed : headerEnd p b from ≡ cond t (Refused HeaderEnded) (Refused HeaderByte)
-  unfolding headerEnd
-  unclosed = cond-no _ _ (ne-eqb _ _ no) ∙ ap (λ (s : Bool). cond s (Refused HeaderEnded) (Refused HeaderByte)) (sym e)
-
-  pub end-ended : t ≡ true → Refused HeaderEnded ≡ headerEnd p b from
-  end-ended h = sym (unclosed ∙ cond-yes _ _ h)
-
-  pub end-other : t ≡ false → Refused HeaderByte ≡ headerEnd p b from
-  end-other h = sym (unclosed ∙ cond-no _ _ h)
-
-pub ruleset header-ends = (end-closed, end-ended, end-other)
-
--- the bytes from a place on, after these values, lead to where the header leads
-pub record Reading (l : List ℕ) (start : ℕ) (p : Parameters) (at : ℕ) : Type 0 where
-  pub same : headerRest p at (drop at l) ≡ headerFrom start (drop start l)
-
-pub reading-start : {p : Parameters} (l : List ℕ) (start : ℕ) → p ≡ opened 3 → Reading l start p start
-unfolding headerFrom
-reading-start l start e = record { same = ap (λ (q : Parameters). headerRest q start (drop start l)) e }
-
-pub reading-past : {l : List ℕ} {start at : ℕ} {p : Parameters} → Reading l start p at → length l ≤ at → Refused Unfinished ≡ headerFrom start (drop start l)
-unfolding headerRest
-reading-past {l} {at = at} {p = p} k h = ap (headerRest p at) (sym (drop-of-length-le l h)) ∙ k .same
-
-module _ {l : List ℕ} {start at : ℕ} {p : Parameters} (k : Reading l start p at) (more : at < length l) {t : Bool} (e : t ≡ inHeader (getD l at 0)) where
-  from-here : cond t (headerRest (pushed p (getD l at 0)) (at + 1) (drop (at + 1) l)) (headerEnd p (getD l at 0) (at + 1)) ≡ headerFrom start (drop start l)
-  unfolding headerRest
-  from-here =
-      ap (λ (s : Bool). cond s (headerRest (pushed p (getD l at 0)) (at + 1) (drop (at + 1) l)) (headerEnd p (getD l at 0) (at + 1))) e
-      ∙ ap (headerRest p at) (sym (next l at more))
-      ∙ k .same
-
-  pub reading-on : {q : Parameters} → t ≡ true → q ≡ pushed p (getD l at 0) → Reading l start q (at + 1)
-  reading-on h m =
-      record { same = ap (λ (x : Parameters). headerRest x (at + 1) (drop (at + 1) l)) m ∙ sym (cond-yes _ _ h) ∙ from-here }
-
-  pub reading-ends : {r : Found} → t ≡ false → r ≡ headerEnd p (getD l at 0) (at + 1) → r ≡ headerFrom start (drop start l)
-  reading-ends h m = m ∙ sym (cond-no _ _ h) ∙ from-here
-
-pub ruleset readings = (reading-start, reading-past, reading-on, reading-ends)
+pub ruleset headings = (led-on, led-begins, led-refused)
 
 -- ---- where the payload begins
 
@@ -193,9 +142,8 @@ pub found-header : {s : Start} {r : Found} (l : List ℕ) (n : ℕ) → s ≡ st
 unfolding foundIn foundAt
 found-header l n e k h = h ∙ ap (λ (x : Start). foundAt x l) (sym k ∙ e)
 
-pub found-whole : {s : Start} (l : List ℕ) → s ≡ startFrom 0 l → s ≡ Nowhere
-    → Payload 0 (record { p1 = Nothing; p2 = Nothing }) ≡ foundIn l
+pub found-whole : {s : Start} {o : Settings} (l : List ℕ) → s ≡ startFrom 0 l → s ≡ Nowhere → o ≡ noSettings → Payload 0 o ≡ foundIn l
 unfolding foundIn foundAt
-found-whole l e k = ap (λ (x : Start). foundAt x l) (sym k ∙ e)
+found-whole l e k o = ap (Payload 0) o ∙ ap (λ (x : Start). foundAt x l) (sym k ∙ e)
 
 pub ruleset finds = (found-header, found-whole)

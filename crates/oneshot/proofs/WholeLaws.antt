@@ -1,4 +1,4 @@
--- Reading all at once: one law for each way through it.
+-- Reading all at once: one law for each path through it.
 use Prim.Native.Nat.{ℕ, _-_, _*_, _≤_}
 use mathlib.Core.Bool.{Bool, true, false, cond}
 use mathlib.Core.List.{List, []}
@@ -118,7 +118,7 @@ module _ (l : drawing.Limits) (stride : ℕ) (p : Palette) (canvas bytes : List 
   unfolding notOpened
   part-unopened e = (sym (handed l stride p canvas bytes e), sym (by-opening l stride p canvas bytes e))
 
--- ---- one law for each way through the code
+-- ---- one law for each path through the code
 
 module _ {t : Bool} (l : Limits) (stride : ℕ) (p : Palette) (canvas bytes : List ℕ) (e : t ≡ openable l stride (length canvas)) where
   known : opens (limitsMeant l) stride (length canvas) ≡ t

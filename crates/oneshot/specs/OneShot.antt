@@ -1,4 +1,4 @@
--- What the code finds, and the whole outcome of reading all at once, in document 01's terms.
+-- What the code finds, and the whole outcome of reading all at once, in the definition's terms (docs/RULES.md, section 8).
 use Prim.Native.Nat.{ℕ, _+_, _-_}
 use mathlib.Core.Bool.{cond}
 use mathlib.Core.List.{List}

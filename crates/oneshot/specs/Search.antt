@@ -1,17 +1,18 @@
 -- Where the search for a payload comes to, on the code's own records.
 use Prim.Native.Nat.{ℕ, _+_}
-use mathlib.Core.Bool.{Bool, cond, _&&_, _||_}
+use mathlib.Core.Bool.{cond, _&&_}
 use mathlib.Core.List.{List, [], _∷_}
 use lib.Dec.{ltb, eqb}
 use lib.ListN.{getD, drop}
-use Rattle.numbers.specs.Bytes.{skipped, digit, ends, semicolon}
-use Rattle.numbers.specs.Values.{held16}
-use Rattle.numbers.specs.Step.{opened, pushed, finished, valueAt}
-use Rattle.numbers.specs.declared.Parameters.{Parameters}
-use Rattle.frame.specs.declared.Refusal.the-variants.{HeaderEnded, HeaderByte, Unfinished}
-use Rattle.payload.specs.declared.Given.{Given}
-use Rattle.payload.specs.declared.Given.the-variants.{Nothing, Number}
-use Rattle.payload.specs.declared.Settings.{Settings}
+use Rattle.numbers.specs.Step.{opened}
+use Rattle.frame.specs.declared.Refusal.the-variants.{Unfinished}
+use Rattle.payload.specs.Begin.{noSettings}
+use Rattle.header.specs.declared.Lead.{Lead}
+use Rattle.header.specs.declared.Led.{Led}
+use Rattle.header.specs.declared.Led.the-variants as leds
+use Rattle.header.specs.declared.Place.the-variants as places
+use Rattle.header.specs.Lead.{leadFrom}
+use Rattle.header.specs.Settings.{settingsFrom}
 use Rattle.oneshot.specs.declared.search.Found.{Found}
 use Rattle.oneshot.specs.declared.search.Found.the-variants.{Payload, Refused}
 use Rattle.oneshot.specs.declared.search.Start.{Start}
@@ -28,38 +29,22 @@ unfolding introducerAt
 startFrom at [] = Nowhere
 startFrom at (b ∷ bs) = cond (ltb 0 (introducerAt (b ∷ bs))) (At (at + introducerAt (b ∷ bs))) (startFrom (at + 1) bs)
 
--- a header's value, of 16 bits, or none
-unfoldable pub givenAt : Parameters → ℕ → Given
-givenAt p i = cond (ltb i (p .count)) (Number (held16 (valueAt p i))) Nothing
+-- where a header led to: the payload begins after `q`, a byte is refused, or there is no `q`, which is 8
+unfoldable pub ledTo : Led → Lead → Found
+ledTo leds.On l = Refused Unfinished
+ledTo leds.Begins l = Payload (l .consumed) (settingsFrom (l .header))
+ledTo (leds.Refused n) l = Refused n
 
-unfoldable pub settingsOf : Parameters → Settings
-unfolding givenAt
-settingsOf p = record { p1 = givenAt (finished p) 0; p2 = givenAt (finished p) 1 }
-
--- a byte is skipped, or belongs to the values
-unfoldable pub inHeader : ℕ → Bool
-inHeader b = skipped b || (digit b || eqb b semicolon)
-
--- the first other byte: `q` closes the header, and the payload begins after it
-unfoldable pub headerEnd : Parameters → ℕ → ℕ → Found
-unfolding settingsOf
-headerEnd p b from = cond (eqb b 0x71) (Payload from (settingsOf p)) (cond (ends b) (Refused HeaderEnded) (Refused HeaderByte))
-
--- the rest of a header that stands at a place, after these values
-unfoldable pub headerRest : Parameters → ℕ → List ℕ → Found
-unfolding inHeader headerEnd
-headerRest p at [] = Refused Unfinished
-headerRest p at (b ∷ bs) = cond (inHeader b) (headerRest (pushed p b) (at + 1) bs) (headerEnd p b (at + 1))
-
+-- a header that stands at a place
 unfoldable pub headerFrom : ℕ → List ℕ → Found
-unfolding headerRest
-headerFrom at bs = headerRest (opened 3) at bs
+unfolding ledTo
+headerFrom at bs = let l : Lead = leadFrom bs at places.Header (opened 3) in ledTo (l .led) l
 
 -- without an introducer the whole input is payload, with no parameters
 unfoldable pub foundAt : Start → List ℕ → Found
 unfolding headerFrom
 foundAt (At n) bs = headerFrom n (drop n bs)
-foundAt Nowhere bs = Payload 0 (record { p1 = Nothing; p2 = Nothing })
+foundAt Nowhere bs = Payload 0 noSettings
 
 unfoldable pub foundIn : List ℕ → Found
 unfolding startFrom foundAt

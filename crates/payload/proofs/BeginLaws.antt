@@ -1,4 +1,4 @@
--- Laws of a session that begins later: one for each way through a function of `begin`.
+-- Laws of a session that begins later: one for each path through a function of `begin`.
 use Prim.Native.Nat.{ℕ}
 use mathlib.Core.Bool.{Bool, true, false, cond}
 use mathlib.Core.List.{List}
@@ -11,7 +11,6 @@ use Rattle.canvas.specs.Picture.{rowsOf}
 use Rattle.frame.specs.declared.Frame.{Frame}
 use Rattle.frame.specs.declared.Limits.{Limits}
 use Rattle.frame.specs.declared.Refusal.the-variants as refusals
-use Rattle.payload.specs.declared.Given.the-variants as givens
 use Rattle.payload.specs.declared.Life.{Life}
 use Rattle.payload.specs.declared.Life.the-variants as lives
 use Rattle.payload.specs.declared.Opened.{Opened}
@@ -30,10 +29,10 @@ module _ (l : Limits) (stride : ℕ) (p : Palette) (size : ℕ) where
   either true = refl
   either false = refl
 
-  pub reserved-as : {t : Bool} {x : Opened} → t ≡ openable l stride size → x ≡ openedIf t l stride size (record { p1 = givens.Nothing; p2 = givens.Nothing }) p
+  pub reserved-as : {t : Bool} {o : Settings} {x : Opened} → t ≡ openable l stride size → o ≡ noSettings → x ≡ openedIf t l stride size o p
       → x ≡ reservedBy l stride p size
-  unfolding reservedBy noSettings
-  reserved-as e k = rw (k, e) (either (openable l stride size))
+  unfolding reservedBy
+  reserved-as e o k = rw (k, e, o) (either (openable l stride size))
 
 module _ (s : Session) (o : Settings) (canvas : List ℕ) {background : List ℕ} {f : Frame} (b : background ≡ backgroundFor (s .palette) (o .p2)) (k : f ≡ blankFrame (s .palette)) where
   -- the session at `q`, as the code makes it

@@ -1,4 +1,4 @@
--- Laws of the refusals before a byte is read: one for each way through a function of `judge`.
+-- Laws of the refusals before a byte is read: one for each path through a function of `judge`.
 use Prim.Native.Nat.{ℕ, _*_, _/_, _≤_, _<_}
 use mathlib.Core.Bool.{Bool, true, false, cond, not, _&&_}
 use mathlib.Core.Path.{_≡_, refl, sym, ap, _∙_}

@@ -1,4 +1,4 @@
--- A session in numbers and registers: read back it is the same session.
+-- The round trip of a session through numbers and registers: read back it is the same session.
 use Prim.Native.Nat.{ℕ, _+_, _-_, _*_, _/_, _%_, _<_}
 use native.Mathlib.Nat.{mod-eq-of-lt}
 use native.Mathlib.Omega.{arith}

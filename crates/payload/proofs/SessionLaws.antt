@@ -1,4 +1,4 @@
--- Laws of a session: one for each way through a function.
+-- Laws of a session: one for each path through a function.
 use Prim.Native.Nat.{ℕ, _/_, _≤_}
 use mathlib.Core.Bool.{Bool, true, false, cond}
 use mathlib.Core.List.{List, [], _∷_}

@@ -1,4 +1,4 @@
--- When a session of the code and its canvas stand for a session of the definition, and its callers.
+-- The simulation relation: when a session of the code and its canvas stand for a session of the definition, and its callers.
 use Prim.Native.Nat.{ℕ}
 use mathlib.Core.Bool.{Bool, true, false}
 use mathlib.Core.Option.{Option, none, some}

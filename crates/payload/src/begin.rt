@@ -2,7 +2,6 @@
 // Inner: for the crate dcs alone.
 ghost use mathlib.Core.Path.{_≡_};
 ghost use Rattle.payload.specs.Begin.{reservedBy, begunBy, failedOf};
-use crate::Given;
 use crate::Life;
 use crate::Opened;
 use crate::Session;
@@ -10,6 +9,7 @@ use crate::Settings;
 use crate::background_for;
 use crate::blank_frame;
 use crate::judge::may_open;
+use crate::no_settings;
 use crate::open_if;
 use crate::paint_if;
 use colours::Palette;
@@ -20,10 +20,7 @@ use frame::Limits;
 pub fn reserve(limits: Limits, stride: usize, palette: Palette, length: usize) -> Opened
     ensures { λ r. ⌜ r ≡ reservedBy limits stride palette length ⌝ }
 {
-    let settings = Settings {
-        p1: Given::Nothing,
-        p2: Given::Nothing,
-    };
+    let settings = no_settings();
     let may = may_open(limits, stride, length);
     open_if(may, limits, stride, length, settings, palette)
 }

@@ -1,4 +1,4 @@
-// The refusals that a session gives before it reads a byte, in document 01's order.
+// The refusals that a session gives before it reads a byte, in the order of rules 5.2 and 5.3.
 ghost use mathlib.Core.Path.{_≡_};
 ghost use Rattle.payload.specs.Judge.{inRange, limitsFit, openable, isFailed, misfitting, feedJudged, finishJudged};
 use crate::Life;
@@ -95,7 +95,7 @@ pub fn finish_refusal(session: Session, length: usize) -> Judged
     Judged::Fine
 }
 
-// 9, 12, 13. An allowance below 6W is found by division, since 6W could wrap in a damaged session.
+// 9, 12, 13. An allowance below 6W is found by division, since 6W could overflow in a damaged session.
 pub fn feed_refusal(session: Session, length: usize, allowance: usize) -> Judged
     ensures { λ r. ⌜ r ≡ feedJudged session length allowance ⌝ }
 {

@@ -14,6 +14,7 @@ ghost use Rattle.colours.specs.Palette.{ofTable};
 ghost use Rattle.bytewise.specs.Step.{Fits};
 ghost use Rattle.bytewise.specs.Feed.{Reached};
 ghost use Rattle.meaning.specs.Drawing.{houseLimits, crateLimits};
+ghost use Rattle.payload.specs.Begin.{noSettings};
 ghost use Rattle.payload.specs.Meant.{limitsCoded};
 ghost use Rattle.payload.specs.Session.{clearFor, backgroundFor, blankFrame, sessionFor, openingFor, firstLife, openedIf, firstPainted, openedBy, sessionWith, answerOf, lifeAfter, answeredBy, fedLive, fedBy, ratioFor, reportedAs, finishedLive, finishedBy};
 use colours::Palette;
@@ -122,6 +123,16 @@ pub enum Finishing {
 pub struct Finished {
     pub answer: Finishing,
     pub palette: Palette,
+}
+
+// No P1 and no P2.
+pub fn no_settings() -> Settings
+    ensures { λ r. ⌜ r ≡ noSettings ⌝ }
+{
+    Settings {
+        p1: Given::Nothing,
+        p2: Given::Nothing,
+    }
 }
 
 // The house's limits.

@@ -173,7 +173,7 @@ module _ (l : Limits) (stride : ℕ) (p : Palette) (opening : List ℕ) (opens :
       let some-taken : length zs ≡ length (all .taken) + length (all .later) = ap length (all .split) ∙ length-append (all .taken) (all .later) in
       omega (arith, all .calls, all .count)
 
-  -- The reader's count is the number of calls, held.
+  -- The reader's count is the number of calls, saturated.
   pub calls-counted : reader .counts .calls ≡ held made
   calls-counted = let same : length turns ≡ made = omega (arith, all .calls) in follows .keeps .calls ∙ ap held same
 
@@ -182,7 +182,7 @@ module _ (l : Limits) (stride : ℕ) (p : Palette) (opening : List ℕ) (opens :
   unfolding held
   calls-few = omega (arith, calls-bounded, calls-counted)
 
-  -- Its third sentence: without a refusal the ink is I, held.
+  -- Its third sentence: without a refusal the ink is I, saturated.
   pub ink-whole : isRefused (howStood (reader .standing)) ≡ false → reader .counts .ink ≡ held (sequenceInk setting p bytes)
   ink-whole h =
       follows .keeps .ink
@@ -237,7 +237,7 @@ module _ (l : Limits) (stride : ℕ) (p : Palette) (opening : List ℕ) (opens :
     pub end-whole : calls.dcsEnd (readFrom (dcsStep setting p) start bytes .state) ≡ some (endMeant e)
     end-whole = sym (ap calls.dcsEnd state-taken) ∙ end-taken ended
 
-    -- So are the bytes consumed, held.
+    -- So are the bytes consumed, saturated.
     pub consumed-whole : reader .counts .consumed ≡ held (readFrom (dcsStep setting p) start bytes .consumed)
     unfolding ranBy
     consumed-whole =

@@ -1,4 +1,4 @@
--- Laws of opening a reader, of one call and of the finish: one for each way through a function.
+-- Laws of opening a reader, of one call and of the finish: one for each path through a function.
 use Prim.Native.Nat.{ℕ, _*_, _≤_}
 use mathlib.Core.Bool.{true}
 use mathlib.Core.List.{List, [], _∷_}

@@ -1,4 +1,4 @@
--- A reader that takes pieces is a caller of document 01: it makes calls with the smallest allowance, presents what was left unread next, and adds up
+-- A reader that takes pieces is a caller of rule 6.7: it makes calls with the smallest allowance, presents what was left unread next, and adds up
 -- what the answers told.
 use Prim.Native.Nat.{ℕ, zero, suc, _*_, _≤_, _<_}
 use native.Mathlib.Omega.{arith}

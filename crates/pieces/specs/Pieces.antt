@@ -44,7 +44,7 @@ openedBy l stride p size = let o : Opened = dcs.openedBy l stride p size in open
 
 -- ---- one call
 
--- a count is held at 2^64 - 1
+-- a count saturates at 2^64 - 1
 unfoldable pub held : ℕ → ℕ
 held n = min n 18446744073709551615
 

@@ -42,7 +42,7 @@ unfoldable pub callsOfPiece : Reader → List ℕ → List ℕ → ℕ
 unfolding callsAs
 callsOfPiece r canvas bytes = callsAs (r .standing) r canvas bytes
 
--- of all pieces; this number is not held at any size, as the reader's own count is
+-- of all pieces; this number does not saturate, as the reader's own count does
 unfoldable pub callsOfAll : Reader → List ℕ → List (List ℕ) → ℕ
 unfolding callsOfPiece
 callsOfAll r canvas [] = 0

@@ -1,5 +1,5 @@
-// The reader as a caller builds on it: a DCS stream comes in pieces, each is fed with the smallest allowance until it is read,
-// and the picture is copied at the end.
+// The streaming reader as a caller builds on it: a DCS stream comes in pieces, each is fed with the smallest allowance until it is
+// read, and the picture is copied at the end.
 ghost use mathlib.Core.Path.{_≡_};
 ghost use Rattle.canvas.specs.Picture.{areaOf};
 ghost use Rattle.canvas.specs.Copy.{numberOf, copied};
@@ -17,7 +17,7 @@ use payload::Finishing;
 use payload::Opening;
 use payload::Report;
 
-// Where counts are held.
+// Where counts saturate.
 const MOST: usize = 18_446_744_073_709_551_615;
 
 // What a reader has come to: a sequence that goes on, its end, or a refusal.
@@ -27,7 +27,7 @@ pub enum Standing {
     Refused(Refusal),
 }
 
-// Bytes consumed, ink and calls in all, each held at 2^64 - 1.
+// Bytes consumed, ink and calls in all, each saturating at 2^64 - 1.
 pub struct Counts {
     pub consumed: usize,
     pub ink: usize,

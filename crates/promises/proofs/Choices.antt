@@ -1,4 +1,4 @@
--- What tests tell, and which case of a choice was taken: the tools for "given exactly when" (document 01, 'Refusal numbers').
+-- What tests tell, and which case of a choice was taken: the tools for "given exactly when" (rule 5.1).
 use Prim.Native.Nat.{ℕ, _≤_, _<_}
 use native.Mathlib.Omega.{arith}
 use mathlib.Core.Bool.{Bool, true, false, cond, not, _&&_, _||_, true≢false}

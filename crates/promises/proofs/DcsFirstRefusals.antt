@@ -1,4 +1,4 @@
--- The refusals that come first, after any calls and on any canvas, of the DCS session's code (document 01, 'Refusal numbers').
+-- The refusals that come first, after any calls and on any canvas, of the DCS session's code (rules 5.2, 5.3).
 use Prim.Native.Nat.{ℕ}
 use mathlib.Core.Bool.{true, false}
 use mathlib.Core.List.{List}

@@ -1,4 +1,4 @@
--- What the answers of any calls tell of the definition's session: that it has failed, and that its end has come (document 01, 'Refusal numbers').
+-- What the answers of any calls tell of the definition's session: that it has failed, and that its end has come (rules 5.1, 5.6).
 use Prim.Native.Nat.{ℕ, _-_, _*_, _≤_}
 use mathlib.Core.Bool.{Bool, true, false, cond, _&&_, _||_, true≢false}
 use mathlib.Core.List.{List, [], _∷_}

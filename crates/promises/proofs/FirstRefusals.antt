@@ -1,4 +1,4 @@
--- The refusals that come first, after any calls and on any canvas: of any reader, and of the payload session's code (document 01, 'Refusal numbers').
+-- The refusals that come first, after any calls and on any canvas: of any reader, and of the payload session's code (rules 5.2, 5.3).
 use Prim.Native.Nat.{ℕ, _*_, _≤_, _<_}
 use mathlib.Core.Bool.{Bool, true, false}
 use mathlib.Core.List.{List}
@@ -72,7 +72,7 @@ module _ {H E : Type 0} (feed : Feed H (calls.Answer E)) (lend : H → List ℕ 
       Iff·trans k
       (λ h. (has-not .0 (h .0), fitting .0 (h .1 .0), f .0 (h .1 .1)), λ h. (has-not .1 (h .0), (fitting .1 (h .1), f .1 (h .2))))
 
-  -- A feed that answers as the definition's does is refused first by 9, 12 and 13, each exactly when document 01 says.
+  -- A feed that answers as the definition's does is refused first by 9, 12 and 13, each exactly when rule 5.1 says.
   pub feed-order : {W : ℕ} → m .setting .limits .width ≡ W → (bs : List ℕ) (a : ℕ) (x : calls.Answer E) → feed lentTo bs a .1 ≡ x
       → (x ≡ calls.refused 9) ↔ (m .failed ≡ true)
       → (x ≡ calls.refused 12) ↔ ((¬ (m .failed ≡ true)) × Misfits areaOf m (length lent))
@@ -165,13 +165,13 @@ module _ (l : Limits) (stride : ℕ) (o : Settings) (p : Palette) (opening : Lis
 
 module _ (l : Limits) (stride : ℕ) (o : Settings) (p : Palette) (opening : List ℕ)
     (refuses : calls.opens (limitsMeant l) stride (length opening) ≡ false) (canvas : List ℕ) where
-  -- A feed of what it hands back is 9 on any canvas, and leaves all as it was.
+  -- rule 5.8: A feed of what it hands back is 9 on any canvas, and leaves all as it was.
   pub refused-opening-feed : (bs : List ℕ) (a : ℕ)
       → let h : Held = (openedBy l stride o p opening .0 .session, canvas) in payloadFeed h bs a ≡ (h, calls.refused 9)
   unfolding openedBy sessionFor fedBy fedAs feedJudged isFailed answerMeant numberOf
   refused-opening-feed bs a = rw (opens-meant l stride (length opening) ∙ refuses) refl
 
-  -- A finish is 9, with the owner's palette and the canvas as they were.
+  -- rule 5.8: A finish is 9, with the owner's palette and the canvas as they were.
   pub refused-opening-finish : (owner : Palette)
       → payloadFinish (openedBy l stride o p opening .0 .session, canvas) owner ≡ record { answer = meant.turnedDown 9; palette = owner; canvas = canvas }
   unfolding openedBy sessionFor finishedBy finishedAs finishJudged isFailed turnedAway concludedBy finishMeant numberOf

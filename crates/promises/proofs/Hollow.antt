@@ -1,4 +1,4 @@
--- The five hollow readers of document 01 ('What callers may rely on') are rejected: no function that behaves so keeps the promise of a feed.
+-- The five hollow readers (docs/PROMISES.md) are rejected: no function that behaves so keeps the promise of a feed.
 use Prim.Native.Nat.{ℕ, _*_, _≤_}
 use mathlib.Core.Bool.{false}
 use mathlib.Core.List.{List, [], _∷_}

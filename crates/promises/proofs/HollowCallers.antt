@@ -1,4 +1,4 @@
--- Hollow readers over many calls (document 01, 'What callers may rely on'): every reader that keeps the promise of a feed (`Meets`), which is
+-- Hollow readers over many calls (docs/PROMISES.md): every reader that keeps the promise of a feed (`Meets`), which is
 -- weaker than the contract, keeps demands 2 and 3. So the number of calls, the sum of the ink, every status and every canvas are fixed.
 use Prim.Native.Nat.{ℕ, _*_, _≤_}
 use mathlib.Core.Bool.{true}

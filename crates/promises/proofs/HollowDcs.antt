@@ -1,4 +1,4 @@
--- The five hollow readers (document 01, 'What callers may rely on') are rejected of DCS sessions too.
+-- The five hollow readers (docs/PROMISES.md) are rejected of DCS sessions too.
 use Prim.Native.Nat.{ℕ, _*_, _≤_}
 use mathlib.Core.Bool.{false}
 use mathlib.Core.List.{List, [], _∷_}
@@ -25,7 +25,7 @@ use Rattle.dcs.specs.declared.Answer.the-variants as answers
 use Rattle.dcs.specs.declared.Fed.{Fed}
 use Rattle.dcs.specs.declared.Phase.the-variants as phases
 use Rattle.dcs.specs.declared.Session.{Session}
-use Rattle.dcs.specs.declared.lead.Place.the-variants as places
+use Rattle.header.specs.declared.Place.the-variants as places
 use Rattle.dcs.specs.Session.{sessionOf}
 use Rattle.dcs.specs.History.{atStart, heldAt, Stands, before, Feeds}
 use Rattle.dcs.specs.Meant.{answerMeant}

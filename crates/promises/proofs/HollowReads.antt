@@ -1,4 +1,4 @@
--- Hollow readings all at once are rejected too: one that refuses everything, and one of a fixed picture (document 01, 'What callers may rely on').
+-- Hollow readings all at once are rejected too: one that refuses everything, and one of a fixed picture (docs/PROMISES.md).
 use Prim.Native.Nat.{ℕ}
 use mathlib.Core.Bool.{Bool, true, false, true≢false}
 use mathlib.Core.List.{List, [], _∷_}

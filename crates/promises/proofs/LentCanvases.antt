@@ -55,10 +55,11 @@ use Rattle.dcs.specs.declared.Fed as dcsFed
 use Rattle.dcs.specs.declared.Phase as phase
 use Rattle.dcs.specs.declared.Phase.the-variants as phases
 use Rattle.dcs.specs.declared.Session as dcsSession
-use Rattle.dcs.specs.declared.lead.Lead.{Lead}
-use Rattle.dcs.specs.declared.lead.Led.{Led}
-use Rattle.dcs.specs.declared.lead.Led.the-variants as leds
-use Rattle.dcs.specs.Lead.{leadFrom}
+use Rattle.header.specs.declared.Lead.{Lead}
+use Rattle.header.specs.declared.Led.{Led}
+use Rattle.header.specs.declared.Led.the-variants as leds
+use Rattle.header.specs.Lead.{leadFrom}
+use Rattle.header.specs.Settings.{settingsFrom}
 use Rattle.dcs.specs.Session as dcs
 use Rattle.dcs.specs.History as dcsHistory
 use Rattle.dcs.specs.Meant as dcsMeant
@@ -223,7 +224,7 @@ module _ (s : dcsSession.Session) (bs : List ℕ) (a : ℕ) (l m : List ℕ) (lo
   unfolding dcs.ledTo begunBy
   led-alike leds.On y = refl
   led-alike leds.Begins y =
-      let o : Settings = dcs.settingsFrom (y .header) in
+      let o : Settings = settingsFrom (y .header) in
       passed-alike (dcs.sessionOf (begunBy (s .payload) o l .0) (y .header) phases.Within) (drop (y .consumed) bs) (y .consumed) a
       (begunBy (s .payload) o l .1) (begunBy (s .payload) o m .1) (begun-long (s .payload) o l ∙ long ∙ sym (begun-long (s .payload) o m))
   led-alike (leds.Refused r) y = refl

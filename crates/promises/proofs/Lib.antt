@@ -31,6 +31,7 @@ pub mod OneHls
 pub mod OneColours
 pub mod OneFrame
 pub mod OnePayload
+pub mod OneHeader
 pub mod OneDcs
 pub mod OneOneshot
 pub mod RefusedEndings
@@ -47,7 +48,7 @@ pub mod OneText
 pub mod OneDump
 pub mod OnePieces
 pub mod OneInplace
-pub mod OneBoundary
+pub mod OneOwlgantry
 pub mod Alike
 pub mod MemoryReaders
 pub mod MemoryDemands

@@ -1,4 +1,4 @@
--- The definitions that give an answer's number and values lose nothing of it: each has a way back, so equal meanings are equal answers.
+-- The definitions that give an answer's number and values are injective: each has a left inverse, so equal meanings are equal answers.
 use Prim.Native.Nat.{ℕ}
 use mathlib.Core.Bool.{cond}
 use mathlib.Core.Option.{Option, none, some}

@@ -18,8 +18,8 @@ use Rattle.payload.specs.History as payload
 use Rattle.payload.specs.Meant.{limitsMeant}
 use Rattle.dcs.specs.History as dcs
 use Rattle.dcs.proofs.SessionRanges.{Bytes}
-use Rattle.boundary.specs.Sessions.{payloadOpenedAs, payloadOpened, dcsOpenedAs, dcsOpened}
-use Rattle.boundary.proofs.SessionLaws.{payload-opens, dcs-opens}
+use Rattle.owlgantry.specs.Sessions.{payloadOpenedAs, payloadOpened, dcsOpenedAs, dcsOpened}
+use Rattle.owlgantry.proofs.SessionLaws.{payload-opens, dcs-opens}
 use Rattle.promises.specs.Readers.{payloadFeed, dcsFeed, Memory, payloadMemoryFeed, payloadMemoryFinish, dcsMemoryFeed, dcsMemoryFinish, memoryCanvas, memoryLend}
 use Rattle.promises.proofs.Alike.{GoodCalls, GoodPieces, all-calls, all-pieces, ready-alike, proper-alike, one-alike, two-alike, three-alike, feeds-alike, finish-alike, early-alike}
 use Rattle.promises.proofs.Demands as byValue

@@ -39,9 +39,9 @@ use Rattle.dcs.specs.Meant as dcsMeant
 use Rattle.dcs.specs.Session as dcsCalls
 use Rattle.dcs.proofs.SessionRanges.{Bytes}
 use Rattle.payload.specs.Meant.{finishMeant}
-use Rattle.boundary.specs.Reading.{givenKind, givenNumber, ratioKind, ratioNumber, reportNumbers, refusalNumber}
-use Rattle.boundary.specs.Sessions.{payloadNumber, payloadReport, endingKind, endingByte, dcsNumber, dcsReport, finishReport, payloadFedAs, payloadFed, finishedAs, payloadFinished, dcsFedAs, dcsFed, dcsFinished}
-use Rattle.boundary.proofs.SessionLaws.{PayloadHeld, payload-feeds, payload-feeds-on, payload-finishes, DcsHeld, dcs-feeds, dcs-feeds-on, dcs-finishes}
+use Rattle.owlgantry.specs.Reading.{givenKind, givenNumber, ratioKind, ratioNumber, reportNumbers, refusalNumber}
+use Rattle.owlgantry.specs.Sessions.{payloadNumber, payloadReport, endingKind, endingByte, dcsNumber, dcsReport, finishReport, payloadFedAs, payloadFed, finishedAs, payloadFinished, dcsFedAs, dcsFed, dcsFinished}
+use Rattle.owlgantry.proofs.SessionLaws.{PayloadHeld, payload-feeds, payload-feeds-on, payload-finishes, DcsHeld, dcs-feeds, dcs-feeds-on, dcs-finishes}
 use Rattle.promises.specs.Readers.{concludedBy, payloadFeed, payloadCanvas, payloadFinish, payloadLend, dcsFeed, dcsCanvas, dcsFinish, dcsLend, Memory, statusFrom, payloadEndFrom, dcsEndFrom, answerFrom, ratioFrom, finishedFrom, Told, memoryAfter, memoryConcluded, payloadMemoryFeed, payloadMemoryFinish, dcsMemoryFeed, dcsMemoryFinish, memoryCanvas, memoryLend}
 use Rattle.promises.proofs.Alike.{AlikeReaders, AlikeLent}
 

@@ -15,9 +15,9 @@ use Rattle.payload.specs.Session as payloadCalls
 use Rattle.dcs.specs.Memory as dcsMemory
 use Rattle.dcs.specs.Session as dcsCalls
 use Rattle.payload.specs.Meant.{finishMeant}
-use Rattle.boundary.specs.Reading.{refusalNumber}
-use Rattle.boundary.specs.Sessions.{payloadFedAs, payloadFed, finishedAs, payloadFinished, dcsFedAs, dcsFed, dcsFinished}
-use Rattle.boundary.proofs.SessionLaws.{payload-zeros, dcs-zeros}
+use Rattle.owlgantry.specs.Reading.{refusalNumber}
+use Rattle.owlgantry.specs.Sessions.{payloadFedAs, payloadFed, finishedAs, payloadFinished, dcsFedAs, dcsFed, dcsFinished}
+use Rattle.owlgantry.proofs.SessionLaws.{payload-zeros, dcs-zeros}
 use Rattle.promises.specs.Readers.{Told}
 
 -- ---- no session
@@ -85,19 +85,23 @@ module _ (ns ts palette canvas : List ℕ) where
 
   -- so that a further call is 9, whatever registers and canvas are lent to it
   module _ (registers lent : List ℕ) where
+    -- rule 5.8: a feed of a payload session
     pub payload-after-finish-feed : (bytes : List ℕ) (allowance : ℕ)
         → payloadFed (payloadFinished ns ts palette canvas .1) registers lent bytes allowance .0 ≡ 9
     payload-after-finish-feed bytes allowance =
         ap (λ (zs : List ℕ). payloadFed zs registers lent bytes allowance .0) payload-finish-clears ∙ payload-zeros registers lent bytes allowance
 
+    -- rule 5.8: its finish
     pub payload-after-finish-finish : (owner : List ℕ) → payloadFinished (payloadFinished ns ts palette canvas .1) registers owner lent .0 ≡ 9
     payload-after-finish-finish owner =
         ap (λ (zs : List ℕ). payloadFinished zs registers owner lent .0) payload-finish-clears ∙ payload-zeros-finish registers owner lent
 
+    -- rule 5.8: a feed of a DCS session
     pub dcs-after-finish-feed : (bytes : List ℕ) (allowance : ℕ) → dcsFed (dcsFinished ns ts palette canvas .1) registers lent bytes allowance .0 ≡ 9
     dcs-after-finish-feed bytes allowance =
         ap (λ (zs : List ℕ). dcsFed zs registers lent bytes allowance .0) dcs-finish-clears ∙ dcs-zeros registers lent bytes allowance
 
+    -- rule 5.8: its finish
     pub dcs-after-finish-finish : (owner : List ℕ) → dcsFinished (dcsFinished ns ts palette canvas .1) registers owner lent .0 ≡ 9
     dcs-after-finish-finish owner =
         ap (λ (zs : List ℕ). dcsFinished zs registers owner lent .0) dcs-finish-clears ∙ dcs-zeros-finish registers owner lent

@@ -1,4 +1,4 @@
--- For the same arguments only one outcome is allowed (document 01, 'What callers may rely on'). `Learnt` of a function is its contract as a caller
+-- For the same arguments only one outcome is allowed (docs/PROMISES.md). `Learnt` of a function is its contract as a caller
 -- learns it: a claim of the arguments, the answer and what is lent at the end. Two outcomes that meet it are one.
 use Prim.Native.Nat.{ℕ}
 use mathlib.Core.List.{List}

@@ -1,7 +1,5 @@
 -- Only one outcome, of every public function of `dcs` (One.antt).
 use denote.Ref.{now}
-use Rattle.dcs.proofs.lead.read_lead.Reads as read-lead
-use Rattle.dcs.proofs.lead.read_lead.Kinds as read-lead'
 use Rattle.dcs.proofs.open.Reads as opening
 use Rattle.dcs.proofs.open.Kinds as opening'
 use Rattle.dcs.proofs.feed.Reads as feed
@@ -17,9 +15,6 @@ use Rattle.dcs.proofs.memory.session_from.Kinds as session-from'
 use Rattle.dcs.proofs.memory.table_of.Reads as table-of
 use Rattle.dcs.proofs.memory.table_of.Kinds as table-of'
 use Rattle.promises.proofs.One.{only, One, OneWith}
-
-pub read-lead-one : One read-lead'.ps read-lead'.r read-lead.Learnt
-read-lead-one κs a z z' e e' p q = only p q
 
 pub opening-one : One opening'.ps opening'.r opening.Learnt
 opening-one κs a z z' e e' p q = only p q

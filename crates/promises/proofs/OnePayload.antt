@@ -12,6 +12,8 @@ use Rattle.payload.proofs.judge.finish_refusal.Reads as finish-refusal
 use Rattle.payload.proofs.judge.finish_refusal.Kinds as finish-refusal'
 use Rattle.payload.proofs.judge.feed_refusal.Reads as feed-refusal
 use Rattle.payload.proofs.judge.feed_refusal.Kinds as feed-refusal'
+use Rattle.payload.proofs.no_settings.Reads as no-settings
+use Rattle.payload.proofs.no_settings.Kinds as no-settings'
 use Rattle.payload.proofs.house_limits.Reads as house-limits
 use Rattle.payload.proofs.house_limits.Kinds as house-limits'
 use Rattle.payload.proofs.crate_limits.Reads as crate-limits
@@ -65,6 +67,9 @@ finish-refusal-one κs a z z' e e' p q = only p q
 
 pub feed-refusal-one : One feed-refusal'.ps feed-refusal'.r feed-refusal.Learnt
 feed-refusal-one κs a z z' e e' p q = only p q
+
+pub no-settings-one : One no-settings'.ps no-settings'.r no-settings.Learnt
+no-settings-one κs a z z' e e' p q = only p q
 
 pub house-limits-one : One house-limits'.ps house-limits'.r house-limits.Learnt
 house-limits-one κs a z z' e e' p q = only p q

@@ -19,7 +19,7 @@ use Rattle.payload.specs.Meant.{limitsMeant}
 use Rattle.payload.specs.Session as payload
 use Rattle.payload.proofs.Openings.{opens-meant}
 use Rattle.dcs.specs.Session as dcs
-use Rattle.boundary.specs.Sessions.{openingNumber}
+use Rattle.owlgantry.specs.Sessions.{openingNumber}
 
 -- the code's test of an opening is the definition's
 pub may-open : (l : Limits) (stride size : ℕ) → calls.opens (limitsMeant l) stride size ≡ true → openable l stride size ≡ true

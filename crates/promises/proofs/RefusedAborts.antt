@@ -1,4 +1,4 @@
--- After an abort too the palette is the owner's (document 01, 'Refusal numbers').
+-- After an abort too the palette is the owner's (rule 1.8).
 use mathlib.Core.Path.{_≡_}
 use contract.Lifetimes.{Lfts}
 use denote.Triple.Clauses.{AtExit}

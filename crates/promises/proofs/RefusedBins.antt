@@ -1,4 +1,4 @@
--- 12, 15 and 16 of the bin reader's three questions are given exactly when request 01 says, in this order, and no other number is.
+-- 12, 15 and 16 of the bin reader's three questions are given exactly when rule 11.5 says, in this order, and no other number is.
 use Prim.Native.Nat.{ℕ, _+_, _*_, _≤_, _<_}
 use mathlib.Core.Bool.{Bool, true, false, cond}
 use mathlib.Core.List.{List}

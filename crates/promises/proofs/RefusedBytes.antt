@@ -1,4 +1,4 @@
--- 1 to 7 of a session's next byte are given exactly when document 01 says ('Refusal numbers'): by a payload, and by a DCS sequence.
+-- 1 to 7 of a session's next byte are given exactly when rule 5.1 says: by a payload, and by a DCS sequence.
 use Prim.Native.Nat.{ℕ, _≤_}
 use mathlib.Core.Bool.{Bool, true, false, cond, _||_}
 use mathlib.Core.List.{List, [], _∷_, _++_}

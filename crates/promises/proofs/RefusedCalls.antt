@@ -1,4 +1,4 @@
--- The refusals of a feed, a finish and an opening, in their order, said once of any reader (document 01, 'Refusal numbers').
+-- The refusals of a feed, a finish and an opening, in their order, said once of any reader (rules 1.4, 5.2, 5.3).
 use Prim.Native.Nat.{ℕ, _*_, _≤_, _<_}
 use mathlib.Core.Bool.{Bool, true, false, cond, true≢false}
 use mathlib.Core.List.{List}

@@ -1,4 +1,4 @@
--- After a refusal in a feed the canvas holds what came before the refused byte or command (document 01, 'Refusal numbers').
+-- After a refusal in a feed the canvas holds what came before the refused byte or command (rule 5.6).
 use Prim.Native.Nat.{ℕ, _≤_}
 use mathlib.Core.List.{List}
 use mathlib.Core.Logic.{inl, inr}

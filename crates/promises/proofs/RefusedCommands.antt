@@ -1,4 +1,4 @@
--- 4 to 7 are given exactly when document 01 says ('Refusal numbers'): of one command, of commands in their order, and of a byte of a payload.
+-- 4 to 7 are given exactly when rule 5.1 says: of one command, of commands in their order, and of a byte of a payload.
 use Prim.Native.Nat.{ℕ, _+_, _<_, max}
 use mathlib.Core.Bool.{Bool, true, false, cond}
 use mathlib.Core.List.{List, [], _∷_, _++_}

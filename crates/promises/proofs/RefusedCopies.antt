@@ -1,4 +1,4 @@
--- 12 and 14 of a copy are given exactly when document 01 says ('Refusal numbers'), and then the other buffer stays as it was.
+-- 12 and 14 of a copy are given exactly when rules 10.1 and 10.2 say, and then the other buffer stays as it was.
 use Prim.Native.Nat.{ℕ, _*_, _≤_, _<_}
 use mathlib.Core.Bool.{Bool, true, false, cond}
 use mathlib.Core.List.{List, _++_}

@@ -1,4 +1,4 @@
--- The refusals of the code's DCS sessions are the definition's, and leave what document 01 says ('Refusal numbers').
+-- The refusals of the code's DCS sessions are the definition's, and leave what rules 5.6 and 5.7 say.
 use Prim.Native.Nat.{ℕ, _*_, _≤_}
 use mathlib.Core.Bool.{Bool, true, false}
 use mathlib.Core.List.{List, [], _∷_}
@@ -35,7 +35,7 @@ use Rattle.dcs.specs.declared.Answer.the-variants as answers
 use Rattle.dcs.specs.declared.Phase as phase
 use Rattle.dcs.specs.declared.Phase.the-variants as phases
 use Rattle.dcs.specs.declared.Session.{Session}
-use Rattle.dcs.specs.declared.lead.Place.{Place}
+use Rattle.header.specs.declared.Place.{Place}
 use Rattle.dcs.specs.Session.{openedBy, fedAs, fedBy, finishedIn, finishedAs, finishedBy}
 use Rattle.dcs.specs.History.{SamePlace, heldAt, Stands, before, refused, inside, escaped, ended}
 use Rattle.dcs.specs.Meant.{answerMeant}

@@ -1,4 +1,4 @@
--- 1, 2, 3 and 4 to 7 by a DCS sequence's next byte: each number has its own claim (document 01, 'Refusal numbers').
+-- 1, 2, 3 and 4 to 7 by a DCS sequence's next byte: each number has its own claim (rule 5.1).
 use Prim.Native.Nat.{ℕ, _≤_}
 use mathlib.Core.Bool.{true}
 use mathlib.Core.List.{List}

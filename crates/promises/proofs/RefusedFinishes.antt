@@ -1,4 +1,4 @@
--- The refusals of a finish of a payload and of a DCS session, in their order: 9, 12, 8, the pending command's (document 01, 'Refusal numbers').
+-- The refusals of a finish of a payload and of a DCS session, in their order: 9, 12, 8, the pending command's (rule 5.3).
 use Prim.Native.Nat.{ℕ, _≤_}
 use mathlib.Core.Bool.{true}
 use mathlib.Core.List.{List}

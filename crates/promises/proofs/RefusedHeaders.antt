@@ -1,4 +1,4 @@
--- 1, 2, 3 and, without a `q`, 8 are given exactly when document 01 says ('Refusal numbers'): of a header, of a DCS sequence and of an input read at
+-- 1, 2, 3 and, without a `q`, 8 are given exactly when rule 5.1 says: of a header, of a DCS sequence and of an input read at
 -- once.
 use Prim.Native.Nat.{ℕ, _≤_}
 use mathlib.Core.Bool.{Bool, true, false, cond, _||_}
@@ -14,6 +14,7 @@ use Rattle.colours.specs.declared.Palette.{Palette}
 use Rattle.meaning.specs.Commands.{ofValues}
 use Rattle.meaning.specs.Drawing.{Setting}
 use Rattle.meaning.specs.OneShot.{Found, found, lacking, refusedWith, afterIntroducer, headerFrom, findPayload}
+use Rattle.meaning.specs.Payload.{noParameters}
 use Rattle.meaning.specs.Reader.{refusedBy}
 use Rattle.meaning.specs.Sequence.{afterFirstEscape, sequencePayload}
 use Rattle.meaning.specs.Sessions.{escape, HeaderByte, goesOn, settles, wrong, parametersOf, headerByte}
@@ -272,7 +273,7 @@ pub shot-exactly : (bs : List ℕ) (f : Found) → NoPart f
 unfolding findPayload
 shot-exactly bs f none-there = go (afterIntroducer bs)
   where
-    go : (o : Option (List ℕ)) → (elim o as (λ _. Found) [ none ↦ found (record { p1 = none; p2 = none }) bs | some later ↦ headerFrom [] later ] ≡ f)
+    go : (o : Option (List ℕ)) → (elim o as (λ _. Found) [ none ↦ found noParameters bs | some later ↦ headerFrom [] later ] ≡ f)
         ↔ ((later : List ℕ) × (o ≡ some later) × (headerFrom [] later ≡ f))
     go none = (
       λ e. absurd (subst NoPart (sym e) none-there),

@@ -39,13 +39,14 @@ use Rattle.dcs.specs.declared.Fed as dcsFed
 use Rattle.dcs.specs.declared.Phase.{Phase}
 use Rattle.dcs.specs.declared.Phase.the-variants as phases
 use Rattle.dcs.specs.declared.Session as dcsSession
-use Rattle.dcs.specs.declared.lead.Lead.{Lead}
-use Rattle.dcs.specs.declared.lead.Led.{Led}
-use Rattle.dcs.specs.declared.lead.Led.the-variants as leds
-use Rattle.dcs.specs.declared.lead.Place.{Place}
-use Rattle.dcs.specs.declared.lead.Place.the-variants as places
-use Rattle.dcs.specs.declared.lead.Step.{Step}
-use Rattle.dcs.specs.Lead.{ledTo, startByte, introducedByte, headerByte, leadByte, leadOn, leadFrom}
+use Rattle.header.specs.declared.Lead.{Lead}
+use Rattle.header.specs.declared.Led.{Led}
+use Rattle.header.specs.declared.Led.the-variants as leds
+use Rattle.header.specs.declared.Place.{Place}
+use Rattle.header.specs.declared.Place.the-variants as places
+use Rattle.header.specs.declared.Step.{Step}
+use Rattle.header.specs.Lead.{ledTo, startByte, introducedByte, headerByte, leadByte, leadOn, leadFrom}
+use Rattle.header.specs.Settings.{settingsFrom}
 use Rattle.dcs.specs.Session as dcs
 use Rattle.oneshot.specs.OneShot.{readWhole}
 use Rattle.promises.specs.Refusals.{openingNumber, payloadNumber, dcsNumber, finishNumber, readNumber, oneOf, Only, openingNumbers, commandNumbers, payloadFeedNumbers, dcsFeedNumbers, payloadFinishNumbers, dcsFinishNumbers, readNumbers, outcomeNumber, pendingNumber, firstOr, payloadFinishOrder, isEarly, dcsFinishOrder}
@@ -214,7 +215,7 @@ module _ (canvas bytes : List ℕ) (allowance : ℕ) where
   unfolding dcs.ledTo dcsNumber
   led-only leds.On h l s = tt
   led-only leds.Begins h l s =
-      let b : Session × List ℕ = begunBy (s .payload) (dcs.settingsFrom (l .header)) canvas in
+      let b : Session × List ℕ = begunBy (s .payload) (settingsFrom (l .header)) canvas in
       within-only (dcs.sessionOf (b .0) (l .header) phases.Within) (b .1) (drop (l .consumed) bytes) (l .consumed)
   led-only (leds.Refused r) h l s = h
 

@@ -1,4 +1,4 @@
--- The refusals of the code's payload sessions are the definition's, and leave what document 01 says ('Refusal numbers').
+-- The refusals of the code's payload sessions are the definition's, and leave what rules 5.6 and 5.7 say.
 use Prim.Native.Nat.{ℕ, _≤_}
 use mathlib.Core.Bool.{Bool, true}
 use mathlib.Core.List.{List, [], _∷_}

@@ -1,4 +1,4 @@
--- The refusals of the code's reading all at once, each in one sentence (document 01, 'Refusal numbers').
+-- The refusals of the code's reading all at once, each in one sentence (rules 5.1, 8.3).
 use Prim.Native.Nat.{ℕ, _≤_}
 use mathlib.Core.List.{List, [], _∷_, _++_}
 use mathlib.Core.Logic.{_↔_, _⊎_, inl, inr, Iff·trans}

@@ -1,4 +1,4 @@
--- The refusals of payload and DCS sessions: opening, feeding and finishing (document 01, 'Refusal numbers').
+-- The refusals of payload and DCS sessions: opening, feeding and finishing (rules 1.4, 5.2, 5.3).
 use Prim.Native.Nat.{ℕ, _*_, _^_, _≤_, _<_}
 use mathlib.Core.Bool.{true}
 use mathlib.Core.List.{List}

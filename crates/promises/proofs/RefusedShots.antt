@@ -1,5 +1,5 @@
--- The refusals of a reading all at once, in their order: 11, then 2, 3 or 8, then the payload's; and what each leaves (document 01, 'Refusal
--- numbers').
+-- The refusals of a reading all at once, in their order: 11, then 2, 3 or 8, then the payload's; and what each leaves (rules 8.2 to
+-- 8.4).
 use Prim.Native.Nat.{ℕ, _≤_}
 use mathlib.Core.List.{List, []}
 use mathlib.Core.Logic.{_↔_, _⊎_, inl, inr}

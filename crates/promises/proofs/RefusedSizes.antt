@@ -1,4 +1,4 @@
--- 5, 6 and 7 of one size, in this order: given exactly when document 01 says ('Refusal numbers').
+-- 5, 6 and 7 of one size, in this order: given exactly when rule 4.2 says.
 use Prim.Native.Nat.{ℕ, _<_}
 use mathlib.Core.Bool.{Bool, true, false, cond, _||_}
 use mathlib.Core.Logic.{_↔_, _⊎_}

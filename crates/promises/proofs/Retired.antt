@@ -18,6 +18,7 @@ use Rattle.meaning.specs.Calls as calls
 use Rattle.meaning.specs.Commands.{commands}
 use Rattle.meaning.specs.Drawing as drawing
 use Rattle.meaning.specs.Payload as meant
+use Rattle.meaning.specs.Payload.{noParameters}
 use Rattle.meaning.specs.Sizes.{ReportFits}
 use Rattle.meaning.proofs.AreaLaws.{cond-case, opens-roomy, payload-sound, outcome-fits}
 use Rattle.payload.specs.declared.Answer as payloadAnswer
@@ -44,9 +45,9 @@ use Rattle.pieces.specs.declared.Standing.{Standing}
 use Rattle.pieces.specs.declared.Standing.the-variants as standings
 use Rattle.pieces.specs.Pieces as pieces
 use Rattle.pieces.specs.Stream.{takenAll}
-use Rattle.boundary.specs.Bench.{noParameters, sizeOrNumber, benchDecoded}
-use Rattle.boundary.specs.Reading.{refusalNumber, sixelRead}
-use Rattle.boundary.specs.Sessions as exported
+use Rattle.owlgantry.specs.Bench.{sizeOrNumber, benchDecoded}
+use Rattle.owlgantry.specs.Reading.{refusalNumber, sixelRead}
+use Rattle.owlgantry.specs.Sessions as exported
 use Rattle.promises.specs.Refusals.{openingNumber, payloadNumber, dcsNumber, finishNumber, readNumber, orZero, oneOf, Only, openingNumbers, payloadFeedNumbers, dcsFeedNumbers, payloadFinishNumbers, dcsFinishNumbers, readNumbers, payloadFinishOrder, dcsFinishOrder}
 use Rattle.promises.proofs.AnySession.{payload-finish-order, dcs-finish-order}
 use Rattle.promises.proofs.RefusedFinishes.{finish-numbers}
@@ -266,7 +267,7 @@ unfolding sixelRead oneOf
 read-export l stride canvas bytes p e =
     never-exported readNumbers _ refl (reads-only l stride p canvas bytes) (sym (read-exported (readWhole l stride p canvas bytes .answer)) ∙ e)
 
--- the bench's answer is a size above 2^32, or a number
+-- the benchmark's answer is a size above 2^32, or a number
 pub bench-export : (stride : ℕ) (canvas bytes : List ℕ) → ¬ (benchDecoded stride canvas bytes .0 ≡ 10)
 unfolding benchDecoded sizeOrNumber meant.payload
 bench-export stride canvas bytes =

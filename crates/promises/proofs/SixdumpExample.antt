@@ -1,4 +1,4 @@
--- The rows that are printed, pixel by pixel, and document 01's example of `sixdump`, computed from its bytes.
+-- The rows that are printed, pixel by pixel, and the example of rule 13.4, computed from its bytes.
 use Prim.Native.Nat.{ℕ, zero, suc, _+_, _-_, _*_, _≤_, _<_}
 use native.Mathlib.Omega.{arith}
 use mathlib.Core.Bool.{true}
@@ -14,7 +14,7 @@ use Rattle.canvas.proofs.Pictures.{picture-pixel}
 use Rattle.colours.specs.Palette.{standard}
 use Rattle.meaning.specs.Commands.{endedCommands}
 use Rattle.meaning.specs.Drawing.{Drawing}
-use Rattle.meaning.specs.Payload.{Parameters, payload, drawnSoFar, Report, reportOf, finished}
+use Rattle.meaning.specs.Payload.{Parameters, noParameters, payload, drawnSoFar, Report, reportOf, finished}
 use Rattle.meaning.specs.Sessions.{End, complete}
 use Rattle.meaning.specs.Sequence.{sequencePayload, sequenceEnd, sequenceConsumed, sequenceRefusal, sequenceInk, sequenceFinish}
 use Rattle.meaning.specs.Calls.{shown, drawingFound}
@@ -108,21 +108,17 @@ drawn-text end consumed ink o d stride opening room wide =
     ++ rows)
     (rows-shown stride (d .area) (d .background) (d .strokes) opening room (d .area .height) 0 wide (omega arith))
 
--- ---- document 01's example
+-- ---- the example of rule 13.4
 
 -- 1B `Pq#1;2;100;0;0!2B` 1B `\`
 unfoldable pub input : List ℕ
 unfolding words
 input = words "\u{1b}Pq#1;2;100;0;0!2B\u{1b}\\"
 
--- its header gives no number
-abbrev parameters : Parameters
-parameters = record { p1 = none; p2 = none }
-
--- the drawing of its payload
+-- the drawing of its payload; its header gives no number
 unfoldable drawing : Drawing
 unfolding input
-drawing = payload sixdumpSetting parameters standard (drop 3 input) .drawing
+drawing = payload sixdumpSetting noParameters standard (drop 3 input) .drawing
 
 input-refusal : sequenceRefusal sixdumpSetting standard input ≡ none
 unfolding computed sequenceRefusal drawnSoFar endedCommands input sixdumpSetting
@@ -140,7 +136,7 @@ input-ink : sequenceInk sixdumpSetting standard input ≡ 4
 unfolding computed sequenceInk input sixdumpSetting
 input-ink = refl
 
-input-finish : sequenceFinish sixdumpSetting standard input ≡ finished (reportOf parameters drawing)
+input-finish : sequenceFinish sixdumpSetting standard input ≡ finished (reportOf noParameters drawing)
 unfolding computed sequenceFinish drawing input sixdumpSetting
 input-finish = refl
 
@@ -173,19 +169,19 @@ output =
     ++ words "000000FF 000000FF\n"
     ++ words "000000FF 000000FF\n"
 
-drawing-text : drawnText complete 20 4 parameters drawing ≡ output
+drawing-text : drawnText complete 20 4 noParameters drawing ≡ output
 unfolding computed drawing input sixdumpSetting drawnText sizeLine extentLine backgroundLine inkLine countLine pairLine decimal digits hex hexDigit output
 drawing-text = refl
 
--- It prints exactly this.
+-- Rule 13.4. It prints exactly this.
 pub sixdump-example : sixdumpText input ≡ output
 unfolding sixdumpText sequenceWhole sixdumpSetting held
 sixdump-example =
     let w : Whole End = sequenceWhole sixdumpSetting standard sixdumpOpening input in
-    let r : Report = reportOf parameters drawing in
+    let r : Report = reportOf noParameters drawing in
     let room : fits 128 (length sixdumpOpening) (drawing .area) ≡ true = ap (λ (n : ℕ). fits 128 n (drawing .area)) opening-long ∙ drawing-fits in
     text-ended 128 w input-refusal input-end input-finish
     ∙ ap₂ (λ (n i : ℕ). reportText complete (held n) (held i) r 128 (w .settled)) input-consumed input-ink
     ∙ ap (λ (d : Option Drawing). reportText complete 20 4 r 128 (shown 128 d sixdumpOpening)) input-drawing
-    ∙ drawn-text complete 20 4 parameters drawing 128 sixdumpOpening room (omega (arith, drawing-wide))
+    ∙ drawn-text complete 20 4 noParameters drawing 128 sixdumpOpening room (omega (arith, drawing-wide))
     ∙ drawing-text

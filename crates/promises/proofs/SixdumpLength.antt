@@ -1,4 +1,4 @@
--- The text that `sixdump` prints has room in the program's buffer of 147,583 bytes: no text is cut.
+-- The text that `sixdump` prints has room in the program's buffer of 147,583 bytes: no text is truncated.
 use Prim.Native.Nat.{ℕ, zero, suc, _+_, _-_, _*_, _/_, _%_, _^_, max, _≤_, _<_}
 use native.Mathlib.Nat.{pow-suc, mul-le-mul}
 use native.Mathlib.Omega.{arith}
@@ -20,7 +20,7 @@ use Rattle.colours.specs.Palette.{standard}
 use Rattle.meaning.specs.Commands.{repeat, colour, raster, Command, argued, return, line, draw, Placed, ofValues, commands}
 use Rattle.meaning.specs.Drawing.{Setting, Raster, Drawing, Drawn, drawn, refused, sizeRefusal, unless, quotient, ratioAfter, rasterAfter, drawCommand, andThen, drawAll, blank}
 use Rattle.meaning.specs.OneShot.{Found, found, lacking, refusedWith, afterIntroducer, headerFrom, findPayload, answerOf, oneShot}
-use Rattle.meaning.specs.Payload.{Parameters, payload, Ratio, byRaster, leftToP1, ratioOf, Report, reportOf, Finished, finished, turnedDown, finish}
+use Rattle.meaning.specs.Payload.{Parameters, noParameters, payload, Ratio, byRaster, leftToP1, ratioOf, Report, reportOf, Finished, finished, turnedDown, finish}
 use Rattle.meaning.specs.Sessions.{End, complete, cancelled, interrupted, HeaderByte, goesOn, settles, wrong, parametersOf, headerByte}
 use Rattle.meaning.specs.Sequence.{sequencePayload, sequenceFinish}
 use Rattle.meaning.specs.Calls as calls
@@ -258,7 +258,7 @@ payload-low : (bs : List ℕ) → FoundLow (findPayload bs)
 unfolding findPayload
 payload-low bs = go (afterIntroducer bs)
   where
-    go : (x : Option (List ℕ)) → FoundLow (elim x as (λ _. Found) [ none ↦ found (record { p1 = none; p2 = none }) bs | some later ↦ headerFrom [] later ])
+    go : (x : Option (List ℕ)) → FoundLow (elim x as (λ _. Found) [ none ↦ found noParameters bs | some later ↦ headerFrom [] later ])
     go none = tt
     go (some later) = header-low [] later
 
@@ -335,7 +335,7 @@ sixdump-fits bs =
     ∙ sym (ap (λ (o : Option End). elim o as (λ _. Finished) [ none ↦ turnedDown 8 | some d ↦ answerOf sixdumpSetting standard (sequencePayload bs) ]) end)
     ∙ finish)
 
--- So the length that is answered is the text's, and the buffer's front of that length, which the program prints, is the text of the whole input.
+-- So the length that is answered is the text's, and the buffer's prefix of that length, which the program prints, is the text of the whole input.
 pub sixdump-prints-all : (zs : List (List ℕ)) (rest out : List ℕ) → (readerAfter zs .standing ≡ standings.Reading → rest ≡ []) → length out ≡ 147583
     → let text : List ℕ = sixdumpText (joined zs ++ rest) in
     dumpedBy (readerAfter zs) standard 128 (canvasAfter zs) out .0 ≡ (length text, text ++ drop (length text) out)

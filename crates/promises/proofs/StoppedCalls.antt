@@ -1,4 +1,4 @@
--- A call that says it stopped for ink has read a byte and used its allowance but for less than 6W (document 01, 'Ink').
+-- A call that says it stopped for ink has read a byte and used its allowance but for less than 6W (rule 6.3).
 use Prim.Native.Nat.{ℕ, _+_, _*_, _≤_}
 use mathlib.Core.Bool.{Bool, true, false, cond}
 use mathlib.Core.List.{List}

@@ -1,4 +1,4 @@
--- What the bin reader tells of a picture that was read (request 01), in the definition's terms: of the drawing, its strokes and its background.
+-- What the bin reader (docs/RULES.md, section 11) tells of a picture that was read, in the definition's terms: of the drawing, its strokes and its background.
 use Prim.Native.Nat.{ℕ, _+_, _<_}
 use mathlib.Core.Bool.{true}
 use mathlib.Core.List.{List, _∷_, _++_}

@@ -21,7 +21,7 @@ use Rattle.payload.specs.Session as payloadSession
 use Rattle.dcs.specs.History as dcs
 use Rattle.dcs.specs.Session as dcsSession
 use Rattle.payload.specs.Meant.{finishMeant}
-use Rattle.boundary.specs.Sessions.{payloadFed, payloadFinished, dcsFed, dcsFinished}
+use Rattle.owlgantry.specs.Sessions.{payloadFed, payloadFinished, dcsFed, dcsFinished}
 
 -- ---- sessions by value: a session and its canvas are held
 

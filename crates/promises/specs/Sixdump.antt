@@ -1,4 +1,4 @@
--- What the program `sixdump` prints (document 01, 'Bench examples'): the text that the bytes of its input mean, said over the definition of a
+-- What the program `sixdump` prints (docs/RULES.md, section 13): the text that the bytes of its input mean, said over the definition of a
 -- DCS sequence. Of the code only its words for numbers, bytes and rows of a canvas are used. A text is the list of its bytes.
 use Prim.Native.Nat.{ℕ}
 use mathlib.Core.Option.{none, some}
@@ -16,7 +16,7 @@ use Rattle.dump.specs.Dump.{countLine, stopLine, sizeLine, extentLine, backgrou
 
 -- ---- what the program is opened with
 
--- W, H, R and M
+-- rule 13.1: W, H, R and M
 unfoldable pub sixdumpLimits : Limits
 sixdumpLimits = record { width = 128; height = 128; repeats = 128; pixels = 16384 }
 
@@ -27,6 +27,7 @@ sixdumpStride = 128
 unfoldable pub sixdumpSize : ℕ
 sixdumpSize = 65536
 
+-- rule 13.1: these together
 unfoldable pub sixdumpSetting : Setting
 unfolding sixdumpLimits sixdumpStride sixdumpSize settingFor
 sixdumpSetting = settingFor sixdumpLimits sixdumpStride sixdumpSize
@@ -37,17 +38,17 @@ sixdumpOpening = replicate sixdumpSize 0
 
 -- ---- lines
 
--- a refusal is this line alone
+-- rule 13.3: a refusal is this line alone
 unfoldable pub refusedLine : ℕ → List ℕ
 refusedLine n = countLine (words "refused ") n
 
--- status and bytes consumed; `cancelled`, `interrupted` add the byte as two upper-case hex digits
+-- rule 13.2: status and bytes consumed; `cancelled`, `interrupted` add the byte as two upper-case hex digits
 unfoldable pub statusLine : End → ℕ → List ℕ
 statusLine complete n = countLine (words "complete ") n
 statusLine (cancelled byte) n = stopLine (words "cancelled ") n byte
 statusLine (interrupted byte) n = stopLine (words "interrupted ") n byte
 
--- the ratio as `2:1`, or `p1` and its number or `none`
+-- rule 13.2: the ratio as `2:1`, or `p1` and its number or `none`
 unfoldable pub ratioLine : Ratio → List ℕ
 ratioLine (byRaster n) = words "ratio " ++ decimal n ++ words ":1\n"
 ratioLine (leftToP1 none) = words "ratio p1 none\n"
@@ -55,7 +56,7 @@ ratioLine (leftToP1 (some n)) = countLine (words "ratio p1 ") n
 
 -- ---- the text
 
--- of a report: status, size, extent, ratio, background, ink, and the picture's rows, which start at the canvas's first pixel
+-- rule 13.2: of a report: status, size, extent, ratio, background, ink, and the picture's rows, which start at the canvas's first pixel
 unfoldable pub reportText : End → ℕ → ℕ → Report → ℕ → List ℕ → List ℕ
 unfolding statusLine ratioLine
 reportText end consumed ink report stride canvas =
@@ -67,8 +68,8 @@ reportText end consumed ink report stride canvas =
     ++ inkLine ink
     ++ rowsText canvas stride (report .size .width) 0 (report .size .height)
 
--- of what a stream means: its refusal; else 8 where it has not ended; else the report of its finish, with the counts held at 2^64 - 1 and the
--- rows of the canvas that the finish leaves. At an end there always is a report: the last refusal never comes.
+-- rule 13.3: of what a stream means: its refusal; else 8 where it has not ended; else the report of its finish, with the counts saturated at 2^64 - 1
+-- and the rows of the canvas that the finish leaves. At an end there always is a report: the last refusal never comes.
 unfoldable pub wholeText : ℕ → Whole End → List ℕ
 unfolding refusedLine reportText
 wholeText stride w =
@@ -85,6 +86,6 @@ wholeText stride w =
       | some n ↦ refusedLine n
     ]
 
--- of an input
+-- rule 13.1: of an input
 unfoldable pub sixdumpText : List ℕ → List ℕ
 sixdumpText bytes = wholeText sixdumpStride (sequenceWhole sixdumpSetting standard sixdumpOpening bytes)

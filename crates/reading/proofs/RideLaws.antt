@@ -26,7 +26,7 @@ use Rattle.reading.specs.Ride.{afterRide, Rides}
 use Rattle.bytewise.proofs.FeedLaws.{Going, pending, left-over}
 use Rattle.frame.proofs.Kind as KindType
 
--- ---- the ways through small functions
+-- ---- the paths through small functions
 
 pub idle-yes : (k : Kind) → k ≡ kinds.Data → true ≡ idle k
 unfolding idle

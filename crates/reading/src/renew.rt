@@ -1,5 +1,5 @@
-// The frame made anew from its numbers. Copied whole it would carry along the bytes of no meaning that lie between its fields,
-// and a loop that carries those from turn to turn takes three times as long.
+// The frame made anew from its numbers. Copied whole it would carry its padding bytes along, and a loop that carries those from
+// turn to turn takes three times as long.
 ghost use mathlib.Core.Path.{_≡_};
 use frame::Command;
 use frame::Frame;

@@ -92,7 +92,7 @@ pub(crate) fn first_byte(record: &[u8]) -> usize
     place_after(80, 4 * (pieces_of(record) as usize), record.len())
 }
 
-// A length that is stored at a place, held to what the record has from `from` on.
+// A length that is stored at a place, clamped to what the record has from `from` on.
 pub(crate) fn length_at(record: &[u8], at: usize, from: usize) -> usize
     ensures { λ r. do ⌜ r ≤ (← ⟦record.len()⟧ .entry) - from ⌝ }
 {

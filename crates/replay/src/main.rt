@@ -19,13 +19,13 @@ use record::Verdict;
 
 const BLOCK: usize = 65_536;
 
-// The first record's place in a block, after the mark, the checksum and three numbers.
+// The first record's place in a block, after the magic number, the checksum and three numbers.
 const FIRST: usize = 20;
 
 // A list has at most this many blocks, 4 MiB in all.
 const MOST_BLOCKS: u32 = 64;
 
-// Room for the list's largest picture on a canvas that is a column and a row larger.
+// The buffer for the list's largest picture on a canvas that is a column and a row larger.
 const ROOM: usize = 2_097_160;
 
 // What has been replayed so far.
@@ -103,7 +103,7 @@ fn is_marked(block: &[u8]) -> bool {
     answers::number_at(block, 0) == 0x414C_5853
 }
 
-// Its mark, its own checksum and its number among the blocks.
+// Its magic number, its own checksum and its number among the blocks.
 fn is_sound(block: &[u8], number: u32) -> bool {
     if block.len() < 8 {
         return false;

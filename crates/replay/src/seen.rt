@@ -1,6 +1,6 @@
 // What a canvas holds, as a checksum.
 
-// Byte `i` of a canvas before a session: never 0 nor 255, one of which is the fourth byte of each pixel.
+// The fill pattern, byte `i` of a canvas before a session: never 0 nor 255, one of which is the fourth byte of each pixel.
 fn pattern(i: usize) -> u8 {
     (1 + i % 251) as u8
 }

@@ -74,7 +74,7 @@ fn next_piece(reader: Reader, canvas: &mut [u8]) -> Turn
     }
 }
 
-// A proved loop has to end, and nothing says that an input does: the turns are counted down from a number that no run uses up.
+// A proved loop has to terminate, and nothing says that an input ends: the turns are counted down from a number that no run uses up (fuel).
 fn read_input(start: Reader, canvas: &mut [u8]) -> Reader
     ensures { λ r. ⌜ Taken start (now (canvas .entry)) r (now (canvas .exit)) ⌝ }
 {

@@ -119,7 +119,7 @@ pub(crate) fn parameter_at(line: &[u8], n: usize) -> Parameter {
     Parameter::Of(Given::Number(value as u16))
 }
 
-// What an upper-case digit to the base 16 counts.
+// What an upper-case hex digit counts.
 fn hex_digit(byte: u8) -> u8
     ensures { λ r. ⌜ r ≤ 16 ⌝ }
 {
@@ -155,7 +155,7 @@ fn pair(high: u8, low: u8) -> Byte {
     Byte::Of(16 * first + second)
 }
 
-// Pairs of digits become the first bytes of `out`: how many, where the pairs are whole and have room.
+// Pairs of hex digits become the first bytes of `out`: how many, where the pairs are whole and have room.
 fn pairs(field: &[u8], out: &mut [u8]) -> Value {
     let count = field.len() / 2;
     if field.len() != 2 * count {

@@ -1,4 +1,4 @@
-// Lines of standard input, read block by block, so that each is answered as soon as it is there.
+// Lines of standard input, buffered block by block, so that each is answered as soon as it is there.
 ghost use Prim.Native.Nat.{_≤_};
 ghost use lib.ListN.{length};
 use libc::STDIN_FILENO;
@@ -71,8 +71,8 @@ fn push(line: &mut [u8], length: usize, byte: u8) -> usize {
     length + 1
 }
 
-// Reads up to a line feed or the end of the input. A proved loop has to end, and nothing says that a line does, so the bytes
-// are counted down from a number that no run uses up.
+// Reads up to a line feed or the end of the input. A proved loop has to terminate, and nothing says that a line ends: the
+// bytes are counted down from a number that no run uses up (fuel).
 pub(crate) fn next_line(block: &mut [u8], line: &mut [u8], before: Unread) -> Line {
     let mut unread = before;
     let mut count = 0;

@@ -8,7 +8,7 @@ pub(crate) fn room() -> [u8; ROOM] {
     [0; ROOM]
 }
 
-// A length, held to what a buffer has.
+// A length, clamped to what a buffer has.
 pub(crate) fn held(length: usize, most: usize) -> usize
     ensures { λ r. ⌜ r ≤ most ⌝ }
 {

@@ -16,7 +16,7 @@ pub(crate) fn number(text: &[u8], n: usize) {
     io::print_decimal(STDOUT_FILENO, n as u64);
 }
 
-// A digit of a number to the base 16.
+// A hex digit of a number.
 fn digit(n: u8) -> u8 {
     if n < 10 {
         return 48 + n;
@@ -31,7 +31,7 @@ pub(crate) fn byte(n: u8) {
     words(&[digit(n / 16), digit(n % 16)]);
 }
 
-// A checksum after a space, as eight digits to the base 16.
+// A checksum after a space, as eight hex digits.
 pub(crate) fn checksum(sum: u32) {
     words(b" ");
     byte((sum / 16_777_216) as u8);

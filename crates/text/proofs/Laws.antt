@@ -112,7 +112,7 @@ pub put-digits : (n : ℕ) (before between after : ℕ × List ℕ) → 10 ≤ n
 put-digits n before between after h m e f =
     rw (more-digits n h m) (put-then (decimal (n / 10)) ((48 + n % 10) ∷ []) before e (put-one (48 + n % 10) between f))
 
--- two digits to the base 16
+-- two hex digits
 pub put-two : (byte upper lower : ℕ) (before between after : ℕ × List ℕ) → upper ≡ hexDigit (byte / 16) → between ≡ putByte upper before
     → lower ≡ hexDigit (byte % 16) → after ≡ putByte lower between → after ≡ put (hex byte) before
 unfolding hex put

@@ -26,7 +26,7 @@ digits (suc places) n = cond (ltb n 10) ((48 + n) ∷ []) (digits places (n / 10
 unfoldable pub decimal : ℕ → List ℕ
 decimal n = digits 20 n
 
--- a digit to the base 16, upper case
+-- a hex digit, upper case
 unfoldable pub hexDigit : ℕ → ℕ
 hexDigit n = cond (ltb n 10) (48 + n) (55 + n)
 

@@ -1,5 +1,5 @@
-// Text written into a lent buffer at a cursor. Each function answers where the cursor stands then. Where the buffer has no
-// room, a byte is left out and the cursor stays.
+// Text written into a lent buffer at a cursor. Each function answers where the cursor stands then. Where the buffer is
+// full, a byte is dropped and the cursor stays: the text is truncated.
 ghost use mathlib.Core.Path.{_≡_};
 ghost use Prim.Native.Nat.{_<_};
 ghost use Rattle.text.specs.Text.{putByte, put, decimal, hexDigit, hex};
@@ -24,7 +24,7 @@ pub fn put_words(out: &mut [u8], at: usize, words: &[u8]) -> usize
     place
 }
 
-// A number's digits, the highest first.
+// A number's decimal digits, the most significant first.
 pub fn put_decimal(out: &mut [u8], at: usize, n: u64) -> usize
     ensures { λ r. ⌜ (r, now (out .exit)) ≡ put (decimal n) (at, now (out .entry)) ⌝ }
 {
@@ -45,7 +45,7 @@ fn hex_digit(n: u8) -> u8
     55 + n
 }
 
-// A byte as two upper-case digits.
+// A byte as two upper-case hex digits.
 pub fn put_hex(out: &mut [u8], at: usize, byte: u8) -> usize
     ensures { λ r. ⌜ (r, now (out .exit)) ≡ put (hex byte) (at, now (out .entry)) ⌝ }
 {

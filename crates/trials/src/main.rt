@@ -1,7 +1,7 @@
 // Tries single crates on cases from standard input: the numbers, the canvas, sessions in place, readers in pieces and their text. A line
-// is an order: a word, numbers one space apart, and bytes after `|`, where a backslash and two digits to the base 16 stand for a byte.
-// What is to be printed was worked out apart from this code where it can be: the canvas's checksums from pixels as sets of (x, y), and
-// the pictures of `pieces` from the oracle and document 01.
+// is an order: a word, numbers one space apart, and bytes after `|`, where a backslash and two hex digits are an escaped byte.
+// What is to be printed was computed independently of this code where it can be: the canvas's checksums from pixels as sets of (x, y), and
+// the pictures of `pieces` from the oracle and docs/RULES.md.
 mod on_canvas;
 mod on_numbers;
 mod on_sessions;
@@ -104,7 +104,7 @@ fn run(input: &[u8], canvas: &mut [u8]) {
     while at < input.len() {
         let end = at;
         at += 1;
-        // Last in the turn: the two ways then need not meet again.
+        // Last in the turn: the two branches then need not be joined.
         if input[end] == b'\n' {
             length = run_line(&input[from..end], canvas, length);
             from = at;

@@ -11,7 +11,7 @@ const INK: [u8; 4] = [201, 202, 203, 204];
 
 const BACK: [u8; 4] = [101, 102, 103, 104];
 
-// The room that a picture is copied to.
+// The buffer that a picture is copied to.
 const ROOM: usize = 128;
 
 // Byte i gets i % 251.

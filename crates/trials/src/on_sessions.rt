@@ -10,8 +10,6 @@ use colours::Palette;
 use frame::Limits;
 use frame::Refusal;
 use payload::Finishing;
-use payload::Given;
-use payload::Settings;
 
 pub(crate) fn limits(n: Numbers) -> Limits {
     Limits {
@@ -102,10 +100,7 @@ fn feed_payload_again(fed: payload::Fed, canvas: &mut [u8], n: Numbers, bytes: &
 }
 
 pub(crate) fn feed_payload_twice(canvas: &mut [u8], n: Numbers, bytes: &[u8]) {
-    let settings = Settings {
-        p1: Given::Nothing,
-        p2: Given::Nothing,
-    };
+    let settings = payload::no_settings();
     let opened = payload::open(limits(n), n.five, settings, Palette::standard(), canvas);
     let fed = feed_payload(opened.session, canvas, n, first(bytes, n.seven));
     feed_payload_again(fed, canvas, n, bytes);

@@ -1,8 +1,8 @@
-// Parts of lent bytes, and the bytes that a line's text stands for.
+// Parts of lent bytes, and a line's text unescaped to the bytes that it stands for.
 ghost use Prim.Native.Nat.{_<_, _≤_};
 ghost use lib.ListN.{length};
 
-// A place, held to what a buffer has.
+// A place, clamped to what a buffer has.
 pub(crate) fn held(place: usize, most: usize) -> usize
     ensures { λ r. ⌜ r ≤ most ⌝ }
 {
@@ -26,7 +26,7 @@ pub(crate) fn rest(buffer: &[u8], place: usize) -> &[u8] {
     &buffer[from..]
 }
 
-// What an upper-case digit to the base 16 counts.
+// What an upper-case hex digit counts.
 fn digit(byte: u8) -> u8
     ensures { λ r. ⌜ r < 16 ⌝ }
 {

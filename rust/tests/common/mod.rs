@@ -1,4 +1,4 @@
-//! Document 01's bench examples and some more: a payload, its limits and canvas, and its outcome.
+//! The bench examples (docs/RULES.md, section 12) and some more: a payload, its limits and canvas, and its outcome.
 #![allow(dead_code)] // Each test uses a part of it.
 use owlgantry::{Limits, Ratio};
 

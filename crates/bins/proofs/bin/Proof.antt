@@ -1,4 +1,4 @@
--- `bins::bin` meets its contract, one law for each way through it. Assumes nothing.
+-- `bins::bin` meets its contract, one law for each path through it. Assumes nothing.
 use mathlib.Core.Path.{refl}
 use native.Mathlib.Omega.{arith}
 use Rattle.bins.proofs.Paths.{bin-refused, wide, bin-below, bin-past, bin-told}

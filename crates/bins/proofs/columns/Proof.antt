@@ -1,4 +1,4 @@
--- `bins::columns` meets its contract, one law for each way through it; the last column does not wrap, since it lies in the picture.
+-- `bins::columns` meets its contract, one law for each path through it; the last column does not overflow, since it lies in the picture.
 -- Assumes nothing.
 use Prim.Native.Nat.{_+_, _≤_}
 use native.Mathlib.Omega.{arith}

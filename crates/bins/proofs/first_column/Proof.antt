@@ -1,4 +1,4 @@
--- `bins::first_column` meets its contract, one law for each way through it; no sum or product wraps, since a bin's columns lie in the picture.
+-- `bins::first_column` meets its contract, one law for each path through it; no sum or product overflows, since a bin's columns lie in the picture.
 -- Assumes nothing.
 use mathlib.Core.Path.{refl}
 use Prim.Native.Nat.{_+_, _*_, _≤_}

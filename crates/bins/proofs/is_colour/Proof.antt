@@ -1,4 +1,4 @@
--- `bins::is_colour` meets its contract, one law for each way through it. Assumes nothing.
+-- `bins::is_colour` meets its contract, one law for each path through it. Assumes nothing.
 use Rattle.bins.proofs.Pixels.{first-differs, second-differs, third-differs, fourth-decides}
 use borrow.Author.Needs.{needs}
 use Rattle.bins.proofs.is_colour.Statement.{statement}

@@ -1,4 +1,4 @@
--- `bins::judge` meets its contract, one law for each way through it. Assumes nothing.
+-- `bins::judge` meets its contract, one law for each path through it. Assumes nothing.
 use mathlib.Core.Path.{refl}
 use Rattle.bins.specs.Bins.{numberOf}
 use Rattle.bins.proofs.Answers.{judge-misfit, judge-range, judge-fine}

@@ -1,4 +1,4 @@
--- `bins::top` meets its contract, one law for each way through it. Assumes nothing.
+-- `bins::top` meets its contract, one law for each path through it. Assumes nothing.
 use Rattle.bins.proofs.Paths.{place-columns, place-rows, top-refused, top-told}
 use borrow.Author.Needs.{needs}
 use Rattle.bins.proofs.top.Statement.{statement}

@@ -1,4 +1,4 @@
--- `colours::rgb_bytes` meets its contract: the index, held to 255, is itself or 255.
+-- `colours::rgb_bytes` meets its contract: the index, clamped to 255, is itself or 255.
 -- Assumes nothing.
 use mathlib.Core.Path.{_≡_}
 use Prim.Native.Nat.{min}

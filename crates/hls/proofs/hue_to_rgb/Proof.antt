@@ -1,4 +1,4 @@
--- `hls::hue_to_rgb` meets its contract: each way returns what the tests on it pick. Assumes nothing.
+-- `hls::hue_to_rgb` meets its contract: each path returns what the tests on it pick. Assumes nothing.
 use mathlib.Core.Path.{refl}
 use borrow.Author.Needs.{needs}
 use lib.Ieee.{ofBits}

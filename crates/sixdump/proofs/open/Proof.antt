@@ -1,4 +1,4 @@
--- `sixdump::open` opens the reader that document 01 says, on the standard palette. Assumes nothing.
+-- `sixdump::open` opens the reader of rule 13.1, on the standard palette. Assumes nothing.
 use Prim.Native.Nat.{ℕ}
 use mathlib.Core.Path.{_≡_, ap, _∙_}
 use borrow.Author.Needs.{needs}

@@ -1,4 +1,4 @@
--- `colours::standard::cube` meets its contract. Each loop's invariant: the registers before its next one are worked out.
+-- `colours::standard::cube` meets its contract. Each loop's invariant: the registers before its next one are computed.
 -- Assumes nothing.
 use mathlib.Core.Path.{_≡_}
 use mathlib.Core.List.{List}

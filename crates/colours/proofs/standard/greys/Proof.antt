@@ -1,4 +1,4 @@
--- `colours::standard::greys` meets its contract. The loop's invariant: the first k greys are worked out.
+-- `colours::standard::greys` meets its contract. The loop's invariant: the first k greys are computed.
 -- Assumes nothing.
 use mathlib.Core.Path.{_≡_}
 use Prim.Native.Nat.{_-_, _≤_}

@@ -15,6 +15,9 @@ read-header-requires c κs = search needs
 enum-told : tie.Need-enum-told
 enum-told c = search needs
 
+no-settings-requires : tie.Need-no-settings-requires
+no-settings-requires c κs = search needs
+
 returns : tie.Need-returns
 returns c = search (needs, finds)
 
@@ -29,5 +32,6 @@ find-spec =
     enum-known-start
     read-header-requires
     enum-told
+    no-settings-requires
     returns
     returns-2)

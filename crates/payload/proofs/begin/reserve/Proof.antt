@@ -3,6 +3,9 @@ use borrow.Author.Needs.{needs}
 use Rattle.payload.proofs.begin.reserve.Statement.{statement}
 use Rattle.payload.proofs.begin.reserve.Tie as tie
 
+no-settings-requires : tie.Need-no-settings-requires
+no-settings-requires c κs = search needs
+
 may-open-requires : tie.Need-may-open-requires
 may-open-requires c κs = search needs
 
@@ -13,4 +16,4 @@ returns : tie.Need-returns
 returns c = search (needs, beginnings)
 
 pub reserve-spec : {M : Type 1} → statement M
-reserve-spec = tie.close (tie.spec may-open-requires open-if-requires returns)
+reserve-spec = tie.close (tie.spec no-settings-requires may-open-requires open-if-requires returns)

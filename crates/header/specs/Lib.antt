@@ -1,0 +1,2 @@
+pub mod Lead
+pub mod Settings

@@ -1,0 +1,30 @@
+use Rattle.owlgantry.specs.Sessions.{endingKind}
+use Rattle.owlgantry.proofs.SessionCalls.{told-as}
+use borrow.Author.Needs.{needs}
+use Rattle.owlgantry.proofs.answers.ending_kind.Statement.{statement}
+use Rattle.owlgantry.proofs.answers.ending_kind.Tie as tie
+
+enum-told : tie.Need-enum-told
+enum-told c = search needs
+
+enum-told-2 : tie.Need-enum-told-2
+enum-told-2 c = search needs
+
+enum-told-3 : tie.Need-enum-told-3
+enum-told-3 c = search needs
+
+returns : tie.Need-returns
+unfolding endingKind
+returns c = search (needs, told-as)
+
+returns-2 : tie.Need-returns-2
+unfolding endingKind
+returns-2 c = search (needs, told-as)
+
+returns-3 : tie.Need-returns-3
+unfolding endingKind
+returns-3 c = search (needs, told-as)
+
+pub ending-kind-spec : {M : Type 1} → statement M
+ending-kind-spec =
+    tie.close (tie.spec enum-told enum-told-2 enum-told-3 returns returns-2 returns-3)

@@ -1,0 +1,43 @@
+use Rattle.owlgantry.proofs.SessionCalls.{dcs-fed}
+use borrow.Author.Needs.{needs}
+use Rattle.owlgantry.proofs.dcs_session.owlgantry_raw_dcs_feed.Statement.{statement}
+use Rattle.owlgantry.proofs.dcs_session.owlgantry_raw_dcs_feed.Tie as tie
+
+session-from-requires : tie.Need-session-from-requires
+session-from-requires c κs = search needs
+
+feed-requires : tie.Need-feed-requires
+feed-requires c κs = search needs
+
+numbers-of-requires : tie.Need-numbers-of-requires
+numbers-of-requires c κs = search needs
+
+table-of-requires : tie.Need-table-of-requires
+table-of-requires c κs = search needs
+
+dcs-report-requires : tie.Need-dcs-report-requires
+dcs-report-requires c κs = search needs
+
+dcs-number-requires : tie.Need-dcs-number-requires
+dcs-number-requires c κs = search needs
+
+same-length : tie.Need-same-length
+same-length c = search needs
+
+returns : tie.Need-returns
+returns c =
+    dcs-fed _ _ _ _ _ _ _ (c .before .before .before .before .before .before .before .before .before .session-from .ensures) (c .before .before .before .before .before .before .before .feed .ensures) (c .before .before .before .numbers-of .ensures)
+    (c .before .before .table-of .ensures) (c .before .dcs-report .ensures) (c .dcs-number .ensures)
+
+pub owlgantry-raw-dcs-feed-spec : {M : Type 1} → statement M
+owlgantry-raw-dcs-feed-spec =
+    tie.close
+    (tie.spec
+    session-from-requires
+    feed-requires
+    numbers-of-requires
+    table-of-requires
+    dcs-report-requires
+    dcs-number-requires
+    same-length
+    returns)

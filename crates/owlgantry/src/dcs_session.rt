@@ -1,0 +1,91 @@
+// A session of a whole DCS sequence in the caller's memory: 48 numbers and 256 registers, as a payload session has them.
+ghost use mathlib.Core.Path.{_≡_};
+ghost use Rattle.owlgantry.specs.Sessions.{dcsOpened, dcsFed, dcsFinished};
+use crate::answers::dcs_number;
+use crate::answers::dcs_report;
+use crate::answers::finish_report;
+use crate::answers::opening_number;
+use crate::report::refusal_number;
+use colours::Palette;
+use dcs::feed;
+use dcs::finish;
+use dcs::memory::numbers_of;
+use dcs::memory::session_from;
+use dcs::memory::table_of;
+use dcs::open;
+use frame::Limits;
+
+// Opens a session for a canvas of `length` bytes, with a copy of the owner's registers. Answers 0, or 11.
+#[no_mangle]
+pub extern "C" fn owlgantry_raw_dcs_open(
+    width: usize,
+    height: usize,
+    repeats: usize,
+    pixels: usize,
+    stride: usize,
+    length: usize,
+    palette: &[u32; 256],
+    session: &mut [u64; 48],
+    registers: &mut [u32; 256],
+) -> u64
+    ensures { λ r. ⌜ (r, now (session .exit), now (registers .exit)) ≡ dcsOpened (record { width = width; height = height; repeats = repeats; pixels = pixels }) stride length (now (palette .entry)) ⌝ }
+{
+    let limits = Limits {
+        width,
+        height,
+        repeats,
+        pixels,
+    };
+    let owner = Palette::of_table(*palette);
+    let opened = open(limits, stride, owner, length);
+    let answer = opened.answer;
+    let after = opened.session;
+    *session = numbers_of(after);
+    *registers = table_of(after);
+    opening_number(answer)
+}
+
+// Reads bytes. Answers 0 or the refusal's number, and reports four numbers: how the call went (0: all bytes read, 1: stopped for ink,
+// 2: complete, 3: cancelled, 4: interrupted), bytes consumed, ink, and the byte that cancelled or interrupted the sequence. On a
+// refusal they are 0.
+#[no_mangle]
+pub extern "C" fn owlgantry_raw_dcs_feed(
+    session: &mut [u64; 48],
+    registers: &mut [u32; 256],
+    canvas: &mut [u8],
+    bytes: &[u8],
+    allowance: usize,
+    report: &mut [u64; 4],
+) -> u64
+    ensures { λ r. ⌜ (r, now (session .exit), now (registers .exit), now (canvas .exit), now (report .exit)) ≡ dcsFed (now (session .entry)) (now (registers .entry)) (now (canvas .entry)) (now (bytes .entry)) allowance ⌝ }
+{
+    let before = session_from(session, registers);
+    let fed = feed(before, canvas, bytes, allowance);
+    let answer = fed.answer;
+    let after = fed.session;
+    *session = numbers_of(after);
+    *registers = table_of(after);
+    *report = dcs_report(answer);
+    dcs_number(answer)
+}
+
+// Finishes a sequence that has come to its end, as a payload session is finished.
+#[no_mangle]
+pub extern "C" fn owlgantry_raw_dcs_finish(
+    session: &mut [u64; 48],
+    registers: &[u32; 256],
+    canvas: &mut [u8],
+    palette: &mut [u32; 256],
+    report: &mut [u64; 7],
+) -> u64
+    ensures { λ r. ⌜ (r, now (session .exit), now (palette .exit), now (canvas .exit), now (report .exit)) ≡ dcsFinished (now (session .entry)) (now (registers .entry)) (now (palette .entry)) (now (canvas .entry)) ⌝ }
+{
+    let before = session_from(session, registers);
+    let owner = Palette::of_table(*palette);
+    let finished = finish(before, owner, canvas);
+    let after = finished.palette;
+    *session = [0; 48];
+    *palette = after.table();
+    *report = finish_report(finished);
+    refusal_number(finished)
+}

@@ -1,0 +1,116 @@
+//! The calls over the FFI and all unsafe code of this crate: slices and arrays are handed over as pointers and lengths.
+//!
+//! The reader keeps no pointer, stays within the lengths, and gives any content of a session a stated answer. So a call
+//! is sound where every pointer is one of a reference that lives through the call, and is exclusive where it is written
+//! to; the types of the functions below see to both.
+use crate::ffi::{self, Numbers, Registers};
+use crate::Limits;
+
+/// A session's memory.
+#[derive(Clone)]
+pub struct Memory {
+    numbers: Numbers,
+    registers: Registers,
+}
+
+impl Memory {
+    const FAILED: Self = Self { numbers: [0; ffi::SESSION_NUMBERS], registers: [0; ffi::REGISTERS] };
+}
+
+pub fn standard_palette() -> Registers {
+    let mut out = [0; ffi::REGISTERS];
+    // SAFETY: `out` is 256 numbers and exclusive.
+    unsafe { ffi::owlgantry_raw_standard_palette(&mut out) };
+    out
+}
+
+pub fn read(
+    limits: Limits,
+    stride: usize,
+    canvas: &mut [u8],
+    bytes: &[u8],
+    palette: &mut Registers,
+) -> (u64, [u64; 9]) {
+    let Limits { width: w, height: h, repeats: r, pixels: m } = limits;
+    let mut report = [0; 9];
+    let (at, length) = (canvas.as_mut_ptr(), canvas.len());
+    let (given, count) = (bytes.as_ptr(), bytes.len());
+    // SAFETY: canvas and bytes have their slices' lengths, the palette 256 numbers and the report 9; all but bytes are exclusive.
+    let answer = unsafe { ffi::owlgantry_raw_read(w, h, r, m, stride, at, length, given, count, palette, &mut report) };
+    (answer, report)
+}
+
+pub fn copy(canvas: &[u8], stride: usize, width: usize, height: usize, out: &mut [u8]) -> u64 {
+    let (at, length) = (canvas.as_ptr(), canvas.len());
+    // SAFETY: both have their slices' lengths, and `out` is exclusive.
+    unsafe { ffi::owlgantry_raw_copy(at, length, stride, width, height, out.as_mut_ptr(), out.len()) }
+}
+
+pub fn payload_open(
+    limits: Limits,
+    stride: usize,
+    [p1, p2]: [u32; 2],
+    canvas: &mut [u8],
+    palette: &Registers,
+) -> (u64, Memory) {
+    let Limits { width: w, height: h, repeats: r, pixels: m } = limits;
+    let mut memory = Memory::FAILED;
+    let (at, length) = (canvas.as_mut_ptr(), canvas.len());
+    let (numbers, registers) = (&mut memory.numbers, &mut memory.registers);
+    // SAFETY: the canvas has its slice's length, palette and registers 256 numbers, the session 48; all but the palette are exclusive.
+    let answer =
+        unsafe { ffi::owlgantry_raw_payload_open(w, h, r, m, stride, p1, p2, at, length, palette, numbers, registers) };
+    (answer, memory)
+}
+
+pub fn dcs_open(limits: Limits, stride: usize, length: usize, palette: &Registers) -> (u64, Memory) {
+    let Limits { width: w, height: h, repeats: r, pixels: m } = limits;
+    let mut memory = Memory::FAILED;
+    let (numbers, registers) = (&mut memory.numbers, &mut memory.registers);
+    // SAFETY: palette and registers have 256 numbers, the session 48; the latter two are exclusive.
+    let answer = unsafe { ffi::owlgantry_raw_dcs_open(w, h, r, m, stride, length, palette, numbers, registers) };
+    (answer, memory)
+}
+
+pub fn payload_feed(memory: &mut Memory, canvas: &mut [u8], bytes: &[u8], allowance: usize) -> (u64, [u64; 4]) {
+    let mut report = [0; 4];
+    let (numbers, registers) = (&mut memory.numbers, &mut memory.registers);
+    let (at, length) = (canvas.as_mut_ptr(), canvas.len());
+    let (given, count) = (bytes.as_ptr(), bytes.len());
+    // SAFETY: the session has 48 numbers and 256 registers, canvas and bytes their slices' lengths, the report 4 numbers; all but
+    // bytes are exclusive.
+    let answer = unsafe {
+        ffi::owlgantry_raw_payload_feed(numbers, registers, at, length, given, count, allowance, &mut report)
+    };
+    (answer, report)
+}
+
+pub fn dcs_feed(memory: &mut Memory, canvas: &mut [u8], bytes: &[u8], allowance: usize) -> (u64, [u64; 4]) {
+    let mut report = [0; 4];
+    let (numbers, registers) = (&mut memory.numbers, &mut memory.registers);
+    let (at, length) = (canvas.as_mut_ptr(), canvas.len());
+    let (given, count) = (bytes.as_ptr(), bytes.len());
+    // SAFETY: as in `payload_feed`.
+    let answer =
+        unsafe { ffi::owlgantry_raw_dcs_feed(numbers, registers, at, length, given, count, allowance, &mut report) };
+    (answer, report)
+}
+
+pub fn payload_finish(memory: &mut Memory, canvas: &mut [u8], palette: &mut Registers) -> (u64, [u64; 7]) {
+    let mut report = [0; 7];
+    let (numbers, registers) = (&mut memory.numbers, &memory.registers);
+    let (at, length) = (canvas.as_mut_ptr(), canvas.len());
+    // SAFETY: the session has 48 numbers and 256 registers, the canvas its slice's length, the palette 256 numbers and the report 7;
+    // all but the registers are exclusive.
+    let answer = unsafe { ffi::owlgantry_raw_payload_finish(numbers, registers, at, length, palette, &mut report) };
+    (answer, report)
+}
+
+pub fn dcs_finish(memory: &mut Memory, canvas: &mut [u8], palette: &mut Registers) -> (u64, [u64; 7]) {
+    let mut report = [0; 7];
+    let (numbers, registers) = (&mut memory.numbers, &memory.registers);
+    let (at, length) = (canvas.as_mut_ptr(), canvas.len());
+    // SAFETY: as in `payload_finish`.
+    let answer = unsafe { ffi::owlgantry_raw_dcs_finish(numbers, registers, at, length, palette, &mut report) };
+    (answer, report)
+}
