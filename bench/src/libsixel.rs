@@ -34,12 +34,7 @@ pub fn load() -> Option<Decode> {
     }
 }
 
-/// libsixel reads a whole sequence, so that the payload is framed before anything is timed.
-pub fn framed(payload: &[u8]) -> Vec<u8> {
-    [b"\x1BPq", payload, b"\x1B\\"].concat()
-}
-
-/// The answer is palette indices and not pixels: libsixel leaves the colour lookup to its caller.
+/// Reads a whole sequence. The answer is palette indices and not pixels: libsixel leaves the colour lookup to its caller.
 pub fn decode(decode: Decode, sequence: &mut [u8]) {
     let (mut pixels, mut palette) = (std::ptr::null_mut(), std::ptr::null_mut());
     let (mut width, mut height, mut colours) = (0, 0, 0);

@@ -5,11 +5,11 @@ use mathlib.Core.Path.{_≡_, refl, sym, ap, _∙_, subst}
 use mathlib.Core.Bool.{Bool, true, false, _&&_, _||_, and-true, true≢false}
 use mathlib.Core.Option.{Option, none, some}
 use mathlib.Core.List.{List, [], _∷_, _++_}
-use borrow.Author.Tests.{leb-true, eqb-true, ne-eqb, lt-leb}
+use borrow.Author.Tests.{leb-true, eqb-true, eq-eqb, ne-eqb, lt-leb}
 use lib.Dec.{leb, eqb}
 use Rattle.numbers.specs.Bytes.{skipped, digit, ends, semicolon}
 use Rattle.numbers.specs.Read.{Read}
-use Rattle.numbers.proofs.Laws.{digit-least, digit-top}
+use Rattle.numbers.proofs.Laws.{cond-yes, cond-no, digit-least, digit-top}
 use Rattle.numbers.proofs.Fields.{unskipped}
 use Rattle.numbers.proofs.Reading.{read-digit, read-semicolon}
 use Rattle.numbers.proofs.Repeat.{counted-more}
@@ -21,8 +21,8 @@ use Rattle.frame.specs.declared.Ground.{Ground}
 use Rattle.frame.specs.declared.Kind as codeKind
 use Rattle.frame.specs.declared.Kind.the-variants as kinds
 use Rattle.frame.specs.Commands.{withCommand, byDigitIn, byDigit, bySemicolon}
-use Rattle.bytewise.specs.Step.{Turned, readAs, dataStep, takesSemicolon, argumentStep, stepIn, stepOf}
-use Rattle.bytewise.specs.Feed.{thenData, byteStep}
+use Rattle.reference.specs.Step.{Reached, readAs, dataStep, takesSemicolon, argumentStep, stepIn, stepOf}
+use Rattle.reference.specs.Feed.{thenData, byteStep}
 use Rattle.meaning.specs.Commands.{Kind, repeat, colour, raster, Begun, ofValues, lengthens, taken, longer, closed}
 use Rattle.meaning.specs.Drawing.{Setting, Drawing, drawAll, inkOfAll, strokesSince}
 use Rattle.meaning.specs.Reader.{Step, next}
@@ -75,7 +75,8 @@ digit-begun k c b e h = go (k .kind) h
     longest : Kind → Option Begun
     longest x = some (record { place = k .place; kind = x; argument = k .argument ++ b ∷ [] })
 
-    go : (x : Kind) → SameBegun (some (record { place = k .place; kind = x; argument = k .argument })) c → SameBegun (longest x) (byDigitIn (c .kind) c b)
+    go : (x : Kind) → SameBegun (some (record { place = k .place; kind = x; argument = k .argument })) c
+        → SameBegun (longest x) (byDigitIn (c .kind) c b)
     go repeat h = subst (λ y. SameBegun (longest repeat) (byDigitIn y c b)) (sym (h .0)) (h .0, counted-more b (h .1))
     go colour h = subst (λ y. SameBegun (longest colour) (byDigitIn y c b)) (sym (h .0)) (h .0, read-digit b e (h .1))
     go raster h = subst (λ y. SameBegun (longest raster) (byDigitIn y c b)) (sym (h .0)) (h .0, read-digit b e (h .1))
@@ -124,9 +125,12 @@ argument-step : (k : Begun) (f : Frame) (g : Ground) (b left : ℕ) (p : Palette
     → stepOf f g b left p l ≡ argumentStep f g b p l
 unfolding stepOf stepIn
 argument-step k f g b left p l h =
-    begun-case (λ _. stepIn (f .command .kind) f g b left p l ≡ argumentStep f g b p l) k (f .command) h (λ e. ap known e) (λ e _. ap known e) (λ e _. ap known e)
+    begun-case (λ _. stepIn (f .command .kind) f g b left p l ≡ argumentStep f g b p l) k (f .command) h
+    (λ e. ap known e)
+    (λ e _. ap known e)
+    (λ e _. ap known e)
   where
-    known : codeKind.Kind → Turned
+    known : codeKind.Kind → Reached
     known x = stepIn x f g b left p l
 
 -- ---- the byte
@@ -164,31 +168,32 @@ idle-agrees {s} {opening} {r} {g} {f} {p} {l} same none-begun going b left =
     kind = subst (λ (o : Option Begun). SameBegun o (f .command)) none-begun (same .begun)
 
 -- what a byte came to after the command was carried out, it came to before
-from-rested : {s : Setting} {opening : List ℕ} {r : Reading} {g : Ground} {b left : ℕ} {x : Step Reading} {t : Turned}
+from-rested : {s : Setting} {opening : List ℕ} {r : Reading} {g : Ground} {b left : ℕ} {x : Step Reading} {t : Reached}
     → Agrees s opening (rested s r) g b left x t → Agrees s opening r g b left x t
 unfolding rested settled closed drawAll
-from-rested (reads h over e ink same) = reads h over e ink same
+from-rested (reads h over e one ink same) = reads h over e one ink same
 from-rested (stops h e same) = stops h e same
 from-rested (halts over e same) = halts over e same
 from-rested (refuses why n e same) = refuses why n e same
 
 -- a step that settled nothing is the byte's
-then-itself : {s : Setting} {opening : List ℕ} {r : Reading} {g : Ground} {b left : ℕ} {x : Step Reading} {t : Turned}
-    → Agrees s opening r g b left x t → thenData (t .stepped .outcome) t g b left ≡ t
+then-itself : {s : Setting} {opening : List ℕ} {r : Reading} {g : Ground} {b left : ℕ} {x : Step Reading} {t : Reached}
+    → Agrees s opening r g b left x t → thenData (t .progress .outcome) t g b left ≡ t
 unfolding thenData
-then-itself {g = g} {b} {left} {t = t} (reads h over e ink same) = ap (λ o. thenData o t g b left) e
+then-itself {g = g} {b} {left} {t = t} (reads h over e one ink same) =
+    ap (λ o. thenData o t g b left) e ∙ cond-no _ _ (ne-eqb _ _ (λ none. let z : _≡_ {A = ℕ} 1 0 = sym one ∙ none in omega arith))
 then-itself {g = g} {b} {left} {t = t} (stops h e same) = ap (λ o. thenData o t g b left) e
 then-itself {g = g} {b} {left} {t = t} (halts over e same) = ap (λ o. thenData o t g b left) e
 then-itself {g = g} {b} {left} {t = t} (refuses why n e same) = ap (λ o. thenData o t g b left) e
 
 -- the byte ends the begun command and is then read itself
-settled-agrees : {s : Setting} {opening : List ℕ} {r : Reading} {g : Ground} {o : Option ℕ} {t : Turned} (b left : ℕ) → r .over ≡ none
+settled-agrees : {s : Setting} {opening : List ℕ} {r : Reading} {g : Ground} {o : Option ℕ} {t : Reached} (b left : ℕ) → r .over ≡ none
     → skipped b ≡ false → taken (r .begun) b ≡ false → settled s r .refusal ≡ o → Settling s opening r g o t
-    → Agrees s opening r g b left (payloadStep s r b) (thenData (t .stepped .outcome) t g b left)
+    → Agrees s opening r g b left (payloadStep s r b) (thenData (t .progress .outcome) t g b left)
 unfolding thenData rested turnedAt
-settled-agrees {s} {opening} {r} {g} {t = t} b left going e₁ e₂ q (settling e same) =
-    subst (λ o. Agrees s opening r g b left (payloadStep s r b) (thenData o t g b left)) (sym e)
-    (subst (λ (x : Step Reading). Agrees s opening r g b left x (dataStep (t .stepped .frame) g b left (t .palette) (t .canvas)))
+settled-agrees {s} {opening} {r} {g} {t = t} b left going e₁ e₂ q (settling e unread same) =
+    subst (Agrees s opening r g b left (payloadStep s r b)) (sym (ap (λ o. thenData o t g b left) e ∙ cond-yes _ _ (eq-eqb _ _ unread)))
+    (subst (λ (x : Step Reading). Agrees s opening r g b left x (dataStep (t .progress .frame) g b left (t .palette) (t .canvas)))
     (sym (payload-settles s r b going e₁ e₂ q))
     (from-rested (idle-agrees same refl going b left)))
 settled-agrees {s} {opening} {r} {g} {t = t} b left going e₁ e₂ q (refusing why n e kept same) =
@@ -199,8 +204,8 @@ settled-agrees {s} {opening} {r} {g} {t = t} b left going e₁ e₂ q (refusing 
 module _ {s : Setting} {opening : List ℕ} {r : Reading} {g : Ground} {f : Frame} {p : Palette} {l : List ℕ} (same : Same s opening r g f p l)
     (going : r .over ≡ none) (b left : ℕ) where
   -- what a step comes to once the byte is read
-  abbrev Then : Turned → Type 0
-  Then t = Agrees s opening r g b left (payloadStep s r b) (thenData (t .stepped .outcome) t g b left)
+  abbrev Then : Reached → Type 0
+  Then t = Agrees s opening r g b left (payloadStep s r b) (thenData (t .progress .outcome) t g b left)
 
   -- no command is pending
   data-then : r .begun ≡ none → Then (stepOf f g b left p l)
@@ -214,11 +219,11 @@ module _ {s : Setting} {opening : List ℕ} {r : Reading} {g : Ground} {f : Fram
   -- a byte that is read and ends no command
   reads-on : (c : codeCommand.Command) (k : Option Begun)
       → payloadStep s r b ≡ next (passedWith r k) (inkOfAll (strokesSince (r .drawing) (r .drawing))) → SameBegun k c
-      → Agrees s opening r g b left (payloadStep s r b) (record { stepped = readAs (withCommand f c) 0; palette = p; canvas = l })
+      → Agrees s opening r g b left (payloadStep s r b) (record { progress = readAs (withCommand f c) 0; palette = p; canvas = l })
   unfolding readAs passedWith withCommand
   reads-on c k e begun =
-      subst (λ (x : Step Reading). Agrees s opening r g b left x (record { stepped = readAs (withCommand f c) 0; palette = p; canvas = l })) (sym e)
-      (quietly _ _ refl refl refl refl (record { drawing = with-command c (same .drawing); begun = begun }))
+      subst (λ (x : Step Reading). Agrees s opening r g b left x (record { progress = readAs (withCommand f c) 0; palette = p; canvas = l })) (sym e)
+      (quietly _ _ refl refl refl refl refl (record { drawing = with-command c (same .drawing); begun = begun }))
 
   module _ {k : Begun} (has : r .begun ≡ some k) where
     begun-as : SameBegun (some k) (f .command)
@@ -228,18 +233,19 @@ module _ {s : Setting} {opening : List ℕ} {r : Reading} {g : Ground} {f : Fram
     of-begun : {t : Bool} → taken (some k) b ≡ t → taken (r .begun) b ≡ t
     of-begun e = ap (λ (o : Option Begun). taken o b) has ∙ e
 
-    digit-then : digit b ≡ true → Then (record { stepped = readAs (withCommand f (byDigit (f .command) b)) 0; palette = p; canvas = l })
+    digit-then : digit b ≡ true → Then (record { progress = readAs (withCommand f (byDigit (f .command) b)) 0; palette = p; canvas = l })
     unfolding thenData readAs
     digit-then e =
-        reads-on (byDigit (f .command) b) (longer (r .begun) b) (payload-takes s r b going (digit-ends b e) (digit-skipped b e) (of-begun (digit-taken k b e)))
+        reads-on (byDigit (f .command) b) (longer (r .begun) b)
+        (payload-takes s r b going (digit-ends b e) (digit-skipped b e) (of-begun (digit-taken k b e)))
         (subst (λ (o : Option Begun). SameBegun (longer o b) (byDigit (f .command) b)) (sym has) (digit-begun k (f .command) b e begun-as))
 
-    skipped-then : skipped b ≡ true → Then (record { stepped = readAs f 0; palette = p; canvas = l })
+    skipped-then : skipped b ≡ true → Then (record { progress = readAs f 0; palette = p; canvas = l })
     unfolding thenData readAs withCommand
     skipped-then e = reads-on (f .command) (r .begun) (payload-skips s r b going (skipped-ends b e) e) (same .begun)
 
     semicolon-then : (eqb b semicolon && takesSemicolon (f .command .kind)) ≡ true
-        → Then (record { stepped = readAs (withCommand f (bySemicolon (f .command))) 0; palette = p; canvas = l })
+        → Then (record { progress = readAs (withCommand f (bySemicolon (f .command))) 0; palette = p; canvas = l })
     unfolding thenData readAs
     semicolon-then e =
         let is : b ≡ semicolon = eqb-true b semicolon (and-left (eqb b semicolon) _ e) in

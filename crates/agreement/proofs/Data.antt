@@ -20,8 +20,8 @@ use Rattle.frame.specs.declared.Outcome.the-variants as outcomes
 use Rattle.frame.specs.declared.Refusal.{Refusal}
 use Rattle.frame.specs.declared.sizes.Needed.{Needed}
 use Rattle.frame.specs.Numbers.{numberOf}
-use Rattle.frame.specs.Commands.{begun}
-use Rattle.bytewise.specs.Step.{Turned, readAs, inked, canvasAfter, paintedOn, drawnIn, drawnBy, movedTo, dataStep, rowCeiling}
+use Rattle.frame.specs.Commands.{begun, unreadAs}
+use Rattle.reference.specs.Step.{Reached, readAs, inked, canvasAfter, paintedOn, drawnIn, drawnBy, movedTo, dataStep, rowCeiling}
 use Rattle.meaning.specs.Commands.{does, scanByte, closed}
 use Rattle.meaning.specs.Drawing.{Setting, Drawing, withPen, moved, unless, strokeOf, stroked, sixelled, drawCommand, drawAll, andThen, inkOf, inkOfAll, strokesSince}
 use Rattle.meaning.specs.Payload.{Parameters}
@@ -36,32 +36,33 @@ use Rattle.agreement.proofs.Sixel.{stroke-same}
 -- ---- what a byte comes to in the definition and in the code
 
 -- the two stand for each other after a step
-abbrev pub SameAfter : Setting → List ℕ → Reading → Ground → Turned → Type 0
-SameAfter s opening r g t = Same s opening r g (t .stepped .frame) (t .palette) (t .canvas)
+abbrev pub SameAfter : Setting → List ℕ → Reading → Ground → Reached → Type 0
+SameAfter s opening r g t = Same s opening r g (t .progress .frame) (t .palette) (t .canvas)
 
 -- the byte is read, with its ink; or its ink exceeds what is left, and the begun command alone has been carried out; or it ends the payload;
 -- or it is refused
-pub data Agrees (s : Setting) (opening : List ℕ) (r : Reading) (g : Ground) (b left : ℕ) : Step Reading → Turned → Type 0 where
-  reads : {u : Reading} {i : ℕ} {t : Turned} → i ≤ left → u .over ≡ none → t .stepped .outcome ≡ outcomes.Read → t .stepped .ink ≡ i
-      → SameAfter s opening u g t → Agrees s opening r g b left (next u i) t
-  stops : {u : Reading} {i : ℕ} {t : Turned} → left < i → t .stepped .outcome ≡ outcomes.Stopped → SameAfter s opening (rested s r) g t
+pub data Agrees (s : Setting) (opening : List ℕ) (r : Reading) (g : Ground) (b left : ℕ) : Step Reading → Reached → Type 0 where
+  reads : {u : Reading} {i : ℕ} {t : Reached} → i ≤ left → u .over ≡ none → t .progress .outcome ≡ outcomes.Read
+      → t .progress .consumed ≡ 1 → t .progress .ink ≡ i → SameAfter s opening u g t → Agrees s opening r g b left (next u i) t
+  stops : {u : Reading} {i : ℕ} {t : Reached} → left < i → t .progress .outcome ≡ outcomes.Stopped → SameAfter s opening (rested s r) g t
       → Agrees s opening r g b left (next u i) t
-  halts : {u : Reading} {t : Turned} → u .over ≡ some b → t .stepped .outcome ≡ outcomes.Ended b → SameAfter s opening u g t
+  halts : {u : Reading} {t : Reached} → u .over ≡ some b → t .progress .outcome ≡ outcomes.Ended b → SameAfter s opening u g t
       → Agrees s opening r g b left (halt u) t
-  refuses : {u : Reading} {n : ℕ} {t : Turned} (why : Refusal) → numberOf why ≡ n → t .stepped .outcome ≡ outcomes.Refused why
-      → SameDrawing s opening (u .drawing) g (t .stepped .frame) (t .palette) (t .canvas) → Agrees s opening r g b left (refuse u n) t
+  refuses : {u : Reading} {n : ℕ} {t : Reached} (why : Refusal) → numberOf why ≡ n → t .progress .outcome ≡ outcomes.Refused why
+      → SameDrawing s opening (u .drawing) g (t .progress .frame) (t .palette) (t .canvas) → Agrees s opening r g b left (refuse u n) t
 
 -- a reading with no begun command
 abbrev pub plain : Parameters → ℕ → Drawing → Reading
 plain o n d = record { parameters = o; passed = n; begun = none; drawing = d; over = none }
 
 -- a byte that is read and draws nothing
-pub quietly : {s : Setting} {opening : List ℕ} {r u : Reading} {g : Ground} {b left : ℕ} {t : Turned} (before now : Drawing)
-    → now .strokes ≡ before .strokes → u .over ≡ none → t .stepped .outcome ≡ outcomes.Read → t .stepped .ink ≡ 0 → SameAfter s opening u g t
+pub quietly : {s : Setting} {opening : List ℕ} {r u : Reading} {g : Ground} {b left : ℕ} {t : Reached} (before now : Drawing)
+    → now .strokes ≡ before .strokes → u .over ≡ none → t .progress .outcome ≡ outcomes.Read → t .progress .consumed ≡ 1
+    → t .progress .ink ≡ 0 → SameAfter s opening u g t
     → Agrees s opening r g b left (next u (inkOfAll (strokesSince before now))) t
-quietly before now still over e ink same =
+quietly before now still over e one ink same =
     let nothing : inkOfAll (strokesSince before now) ≡ 0 = since-same before now still in
-    reads {i = inkOfAll (strokesSince before now)} (omega arith) over e (ink ∙ sym nothing) same
+    reads {i = inkOfAll (strokesSince before now)} (omega arith) over e one (ink ∙ sym nothing) same
 
 -- one value whatever a test says
 pub cond-same : {A : Type 0} (t : Bool) (x : A) → cond t x x ≡ x
@@ -91,7 +92,7 @@ module _ {s : Setting} (bounded : Bounded s) (opening : List ℕ) (o : Parameter
   abbrev ground : Ground
   ground = groundOf s (d .background)
 
-  abbrev step : ℕ → ℕ → Turned
+  abbrev step : ℕ → ℕ → Reached
   step b left = dataStep (frameOf d c) ground b left (d .palette) (canvasOf s d opening)
 
   abbrev AgreesAt : ℕ → ℕ → Type 0
@@ -105,15 +106,15 @@ module _ {s : Setting} (bounded : Bounded s) (opening : List ℕ) (o : Parameter
   -- a command begins
   hash-agrees : (left : ℕ) → AgreesAt hash left
   unfolding dataStep payloadStep readByte scanByte drawAll frameOf sixel ends skipped
-  hash-agrees left = quietly _ _ refl refl refl refl (record { drawing = kept _; begun = (refl, read-none 5) })
+  hash-agrees left = quietly _ _ refl refl refl refl refl (record { drawing = kept _; begun = (refl, read-none 5) })
 
   bang-agrees : (left : ℕ) → AgreesAt bang left
   unfolding dataStep payloadStep readByte scanByte drawAll frameOf sixel ends skipped
-  bang-agrees left = quietly _ _ refl refl refl refl (record { drawing = kept _; begun = (refl, counted-none) })
+  bang-agrees left = quietly _ _ refl refl refl refl refl (record { drawing = kept _; begun = (refl, counted-none) })
 
   quote-agrees : (left : ℕ) → AgreesAt quote left
   unfolding dataStep payloadStep readByte scanByte drawAll frameOf sixel ends skipped
-  quote-agrees left = quietly _ _ refl refl refl refl (record { drawing = kept _; begun = (refl, read-none 4) })
+  quote-agrees left = quietly _ _ refl refl refl refl refl (record { drawing = kept _; begun = (refl, read-none 4) })
 
   -- the pen moves to column 0 and a row
   moved-same : (row held : ℕ) → held ≡ min row rowCeiling
@@ -132,13 +133,13 @@ module _ {s : Setting} (bounded : Bounded s) (opening : List ℕ) (o : Parameter
 
   dollar-agrees : (left : ℕ) → AgreesAt dollar left
   unfolding dataStep payloadStep readByte scanByte drawAll andThen drawCommand frameOf sixel ends skipped
-  dollar-agrees left = quietly _ _ refl refl refl refl (record { drawing = moved-same _ _ refl; begun = idle })
+  dollar-agrees left = quietly _ _ refl refl refl refl refl (record { drawing = moved-same _ _ refl; begun = idle })
 
   dash-agrees : (left : ℕ) → AgreesAt dash left
   unfolding dataStep payloadStep readByte scanByte drawAll andThen drawCommand frameOf sixel ends skipped
   dash-agrees left =
       let held : min (min (d .pen .row) rowCeiling + 6) rowCeiling ≡ min (d .pen .row + 6) rowCeiling = omega arith in
-      quietly _ _ refl refl refl refl (record { drawing = moved-same _ _ held; begun = idle })
+      quietly _ _ refl refl refl refl refl (record { drawing = moved-same _ _ held; begun = idle })
 
   -- the end of the payload
   end-agrees : (b left : ℕ) → sixel b ≡ false → ends b ≡ true → AgreesAt b left
@@ -150,7 +151,7 @@ module _ {s : Setting} (bounded : Bounded s) (opening : List ℕ) (o : Parameter
       → eqb b quote ≡ false → AgreesAt b left
   unfolding dataStep payloadStep readByte scanByte drawAll frameOf
   other-agrees b left e₁ e₂ e₃ e₄ e₅ e₆ e₇ =
-      simp (e₁, e₂, e₃, e₄, e₅, e₆, e₇, cond-same) (quietly _ _ refl refl refl refl (record { drawing = kept c; begun = idle }))
+      simp (e₁, e₂, e₃, e₄, e₅, e₆, e₇, cond-same) (quietly _ _ refl refl refl refl refl (record { drawing = kept c; begun = idle }))
 
   -- a stroke is painted where its ink is within what is left, else the call stops
   painted-agrees : (b bits left : ℕ) {w h : ℕ} → Allowed s (d .area) (d .pen .column + d .pen .repeats) (d .pen .row + 6)
@@ -171,9 +172,9 @@ module _ {s : Setting} (bounded : Bounded s) (opening : List ℕ) (o : Parameter
           → Agrees s opening (plain o n d) ground b left
           (wentOn (plain o n d) (record { begun = none; ended = [] }) (record { drawing = stroked d (strokeOf bits d); refusal = none }))
           (cond t
-          (record { stepped = record { frame = frameOf d c; ink = 0; outcome = outcomes.Stopped }; palette = d .palette; canvas = canvasOf s d opening })
+          (record { progress = unreadAs (frameOf d c) outcomes.Stopped; palette = d .palette; canvas = canvasOf s d opening })
           (record {
-            stepped = readAs (inked (frameOf d c) bits w h) ink;
+            progress = readAs (inked (frameOf d c) bits w h) ink;
             palette = d .palette;
             canvas = canvasAfter (frameOf d c) ground bits w h (canvasOf s d opening);
           }))
@@ -182,7 +183,8 @@ module _ {s : Setting} (bounded : Bounded s) (opening : List ℕ) (o : Parameter
           stops beyond refl (record { drawing = kept c; begun = idle })
       go false e =
           let within : added ≤ left = omega (arith, ltb-false left ink e, stroke-ink d bits) in
-          reads within refl refl (sym (stroke-ink d bits)) (record { drawing = stroke-same bounded opening sound bits allowed rated c p q; begun = idle })
+          reads within refl refl refl (sym (stroke-ink d bits))
+          (record { drawing = stroke-same bounded opening sound bits allowed rated c p q; begun = idle })
 
   -- a sixel, with its size known
   drawn-agrees : (b bits left : ℕ) {x : Needed} {y : Option ℕ}

@@ -27,22 +27,22 @@ use Rattle.frame.specs.declared.Refusal.the-variants as refusals
 use Rattle.frame.specs.declared.sizes.Needed.{Needed}
 use Rattle.frame.specs.Numbers.{numberOf}
 use Rattle.frame.specs.Sizes.{rasterArea}
-use Rattle.frame.specs.Commands.{noCommand, settledAs, refusedAs, withRepeat, definedBy, redefinedBy, registerIn, withColor, quotientOf, ratioBy, keptSize, rasterBy, rasterGrown, rasterEndedBy, Ended, endedIn, ended}
+use Rattle.frame.specs.Commands.{noCommand, settledAs, unreadAs, refusedAs, withRepeat, definedBy, redefinedBy, registerIn, withColor, quotientOf, ratioBy, keptSize, rasterBy, rasterGrown, rasterEndedBy, Ended, endedIn, ended}
 use Rattle.meaning.specs.Commands.{Kind, repeat, colour, raster, argued}
 use Rattle.meaning.specs.Drawing.{Setting, Raster, Drawing, Drawn, drawn, refused, withPen, withRepeats, repeated, selected, redefined, coloured, unless, quotient, ratioAfter, kept, rasterAfter, withRaster, stretched, rastered, drawCommand}
 use Rattle.meaning.proofs.AreaLaws.{Sound}
-use Rattle.agreement.specs.Same.{groundOf, penOf, sheetOf, ratioNumber, rasterOf, frameOf, Bounded, SameBegun}
+use Rattle.agreement.specs.Same.{groundOf, penOf, codeArea, codeExtent, ratioNumber, rasterOf, frameOf, Bounded, SameBegun}
 use Rattle.agreement.proofs.Sizes.{Sized, allows, turns, raster-sized}
 
 -- no command is pending any more, and the frame is that of a drawing
 unfoldable pub settledTo : Drawing → Command → Ended
-unfolding frameOf
-settledTo e c = record { stepped = record { frame = frameOf e c; ink = 0; outcome = outcomes.Settled }; palette = e .palette }
+unfolding frameOf unreadAs
+settledTo e c = record { progress = unreadAs (frameOf e c) outcomes.Read; palette = e .palette }
 
 -- what a command comes to in the definition and in the code: the frame of the drawing that it gives, or one refusal
 pub data Ends (d : Drawing) (c : Command) : Drawn → Ended → Type 0 where
   gives : (e : Drawing) → Ends d c (drawn e) (settledTo e noCommand)
-  turned : (why : Refusal) {n : ℕ} → numberOf why ≡ n → Ends d c (refused n) (record { stepped = refusedAs (frameOf d c) why; palette = d .palette })
+  turned : (why : Refusal) {n : ℕ} → numberOf why ≡ n → Ends d c (refused n) (record { progress = refusedAs (frameOf d c) why; palette = d .palette })
 
 -- ---- repeat
 
@@ -55,9 +55,9 @@ module _ {s : Setting} (bounded : Bounded s) (d : Drawing) (background : List �
       go : (t : Bool) → ltb (s .limits .repeats) (c .number) ≡ t
           → Ends d c (cond t (refused 4) (drawn (withPen d (withRepeats (d .pen) (max 1 (decimal bs))))))
           (record {
-            stepped =
+            progress =
                 cond t (refusedAs (frameOf d c) refusals.Repeat)
-                (settledAs (withRepeat (penOf (d .palette) (d .pen)) (max 1 (c .number))) (sheetOf d) (rasterOf (d .raster)));
+                (settledAs (withRepeat (penOf (d .palette) (d .pen)) (max 1 (c .number))) (codeArea d) (codeExtent d) (rasterOf (d .raster)));
             palette = d .palette;
           })
       go true e = turned refusals.Repeat refl
@@ -89,7 +89,7 @@ color-ends d g c {bs} h =
     coloredTo : ℕ → Palette → Ended
     coloredTo n after =
         record {
-          stepped = settledAs (withColor (penOf (d .palette) (d .pen)) n (registerOf after n)) (sheetOf d) (rasterOf (d .raster));
+          progress = settledAs (withColor (penOf (d .palette) (d .pen)) n (registerOf after n)) (codeArea d) (codeExtent d) (rasterOf (d .raster));
           palette = after;
         }
 
@@ -99,7 +99,9 @@ quotients : (v h : ℕ) → quotientOf v h ≡ ratioNumber (quotient v h)
 unfolding quotientOf quotient ratioNumber
 quotients v h = go (eqb v h) (eqb v (2 * h)) (eqb v (3 * h)) (eqb v (5 * h))
   where
-    go : (a b c d : Bool) → cond a 1 (cond b 2 (cond c 3 (cond d 5 0))) ≡ ratioNumber (cond a (some 1) (cond b (some 2) (cond c (some 3) (cond d (some 5) none))))
+    go : (a b c d : Bool)
+        → cond a 1 (cond b 2 (cond c 3 (cond d 5 0)))
+        ≡ ratioNumber (cond a (some 1) (cond b (some 2) (cond c (some 3) (cond d (some 5) none))))
     go true b c d = refl
     go false true c d = refl
     go false false true d = refl
@@ -156,23 +158,23 @@ module _ {s : Setting} {d : Drawing} (sound : Sound s d) (background : List ℕ)
   -- the area grows to a raster's size, or the size is refused
   grown-ends : (r : Raster) {x : Needed} {o : Option ℕ} → Sized s (d .area) (max 1 (r .width)) (max 1 (r .height)) x o
       → Ends d c (unless o (withRaster d r (grownTo (d .area) (max 1 (r .width)) (max 1 (r .height)))))
-      (record { stepped = rasterGrown (frameOf d c) (rasterOf r) x; palette = d .palette })
+      (record { progress = rasterGrown (frameOf d c) (rasterOf r) x; palette = d .palette })
   unfolding unless rasterGrown withRaster frameOf settledTo noCommand
   grown-ends r (allows k p q) = rw (p, q) (gives _)
   grown-ends r (turns why e) = turned why e
 
   -- it does so if a width or a height is kept
   kept-ends : (r : Raster)
-      → Ends d c (rastered s r d) (record { stepped = rasterEndedBy (frameOf d c) (groundOf s background) (rasterOf r); palette = d .palette })
+      → Ends d c (rastered s r d) (record { progress = rasterEndedBy (frameOf d c) (groundOf s background) (rasterOf r); palette = d .palette })
   unfolding rastered stretched rasterEndedBy frameOf rasterOf settledTo withRaster
   kept-ends r = rw (neither-kept (r .width) (r .height)) (go (eqb (r .width + r .height) 0))
     where
       go : (t : Bool)
           → Ends d c (cond t (drawn (withRaster d r (d .area))) (stretched s r d))
           (record {
-            stepped =
-                cond t (settledAs (penOf (d .palette) (d .pen)) (sheetOf d) (rasterOf r))
-                (rasterGrown (frameOf d c) (rasterOf r) (rasterArea (sheetOf d) (groundOf s background) (max 1 (r .width)) (max 1 (r .height))));
+            progress =
+                cond t (settledAs (penOf (d .palette) (d .pen)) (codeArea d) (codeExtent d) (rasterOf r))
+                (rasterGrown (frameOf d c) (rasterOf r) (rasterArea (codeArea d) (groundOf s background) (max 1 (r .width)) (max 1 (r .height))));
             palette = d .palette;
           })
       go true = gives (withRaster d r (d .area))
@@ -183,7 +185,8 @@ module _ {s : Setting} {d : Drawing} (sound : Sound s d) (background : List ℕ)
   unfolding endedIn frameOf
   raster-ends {bs} h =
       subst
-      (λ r. Ends d c (rastered s (rasterAfter (d .raster) (values 4 bs)) d) (record { stepped = rasterEndedBy (frameOf d c) (groundOf s background) r; palette = d .palette }))
+      (λ r. Ends d c (rastered s (rasterAfter (d .raster) (values 4 bs)) d)
+      (record { progress = rasterEndedBy (frameOf d c) (groundOf s background) r; palette = d .palette }))
       (sym (rasters (d .raster) h))
       (kept-ends (rasterAfter (d .raster) (values 4 bs)))
 

@@ -8,7 +8,7 @@ use Rattle.canvas.specs.Picture.{rowsOf}
 use Rattle.canvas.proofs.Pictures.{length-picture}
 use Rattle.frame.specs.declared.Frame.{Frame}
 use Rattle.frame.specs.declared.Ground.{Ground}
-use Rattle.bytewise.specs.Step.{Fits}
+use Rattle.reference.specs.Step.{Fits}
 use Rattle.meaning.specs.Drawing.{Setting, Drawing}
 use Rattle.agreement.specs.Same.{groundOf, frameOf, canvasOf, SameDrawing}
 use Rattle.agreement.proofs.Settle.{same-fact}

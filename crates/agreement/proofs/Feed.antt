@@ -15,8 +15,8 @@ use Rattle.frame.specs.declared.Outcome.{Outcome}
 use Rattle.frame.specs.declared.Outcome.the-variants as outcomes
 use Rattle.frame.specs.declared.Refusal.{Refusal}
 use Rattle.frame.specs.Numbers.{numberOf}
-use Rattle.bytewise.specs.Step.{Turned}
-use Rattle.bytewise.specs.Feed.{Reached, goOn, feedFrom}
+use Rattle.reference.specs.Step.{Reached}
+use Rattle.reference.specs.Feed.{goOn, feedFrom}
 use Rattle.meaning.specs.Drawing.{Setting}
 use Rattle.meaning.specs.Reader.{Step, next, How, readAll, stopped, halted, refusedBy, Run, still, after, follow, call}
 use Rattle.meaning.specs.Sessions.{Reading, rested, payloadStep}
@@ -52,8 +52,8 @@ unfolding still
 still-agrees p q e = record { consumed = p ∙ sym (add-zero _); ink = q ∙ sym (add-zero _); ends = e }
 
 -- a run after a byte, counted on
-after-agrees : {s : Setting} {opening : List ℕ} {g : Ground} {n i : ℕ} {r : Run Reading} {t : Reached} (j : ℕ) → FeedAgrees s opening g (n + 1) (i + j) r t
-    → FeedAgrees s opening g n i (after 1 j r) t
+after-agrees : {s : Setting} {opening : List ℕ} {g : Ground} {n i : ℕ} {r : Run Reading} {t : Reached} (j : ℕ)
+    → FeedAgrees s opening g (n + 1) (i + j) r t → FeedAgrees s opening g n i (after 1 j r) t
 unfolding after
 after-agrees {n = n} {i} {r} j h =
     let bytes : n + 1 + r .consumed ≡ n + (1 + r .consumed) = omega arith in
@@ -76,34 +76,36 @@ module _ (s : Setting) (opening : List ℕ) (g : Ground) (a : ℕ) where
     unfolding follow
     follows x = follow x (λ u j. cond (leb j (a - i)) (after 1 j (callOf s (a - i - j) u bs)) (still (rested s r) stopped))
 
-    goesOn : Outcome → Turned → Reached
+    goesOn : Outcome → Reached → Reached
     unfolding goOn
     goesOn o t = goOn o t n i (λ n′ i′ f′ p′ l′. feedFrom g a bs n′ i′ f′ p′ l′)
 
     -- the byte was read
-    reads-agree : {u : Reading} {j : ℕ} (t : Turned) → j ≤ a - i → u .over ≡ none → t .stepped .ink ≡ j
-        → Same s opening u g (t .stepped .frame) (t .palette) (t .canvas) → FeedAgrees s opening g n i (follows (next u j)) (goesOn outcomes.Read t)
+    reads-agree : {u : Reading} {j : ℕ} (t : Reached) → j ≤ a - i → u .over ≡ none → t .progress .ink ≡ j
+        → Same s opening u g (t .progress .frame) (t .palette) (t .canvas) → FeedAgrees s opening g n i (follows (next u j)) (goesOn outcomes.Read t)
     unfolding follows goesOn
     reads-agree {u} {j} t h over ink same =
         let rest : a - (i + j) ≡ a - i - j = omega arith in
         let here : FeedAgrees s opening g (n + 1) (i + j) (callOf s (a - (i + j)) u bs) (goesOn outcomes.Read t) =
         subst
-        (λ (k : ℕ). FeedAgrees s opening g (n + 1) (i + j) (callOf s (a - (i + j)) u bs) (feedFrom g a bs (n + 1) (i + k) (t .stepped .frame) (t .palette) (t .canvas)))
+        (λ (k : ℕ). FeedAgrees s opening g (n + 1) (i + j) (callOf s (a - (i + j)) u bs)
+        (feedFrom g a bs (n + 1) (i + k) (t .progress .frame) (t .palette) (t .canvas)))
         (sym ink)
-        (later (n + 1) (i + j) u (t .stepped .frame) (t .palette) (t .canvas) (omega arith) same over) in
-        rw (le-leb j (a - i) h) (after-agrees j (subst (λ (k : ℕ). FeedAgrees s opening g (n + 1) (i + j) (callOf s k u bs) (goesOn outcomes.Read t)) rest here))
+        (later (n + 1) (i + j) u (t .progress .frame) (t .palette) (t .canvas) (omega arith) same over) in
+        rw (le-leb j (a - i) h)
+        (after-agrees j (subst (λ (k : ℕ). FeedAgrees s opening g (n + 1) (i + j) (callOf s k u bs) (goesOn outcomes.Read t)) rest here))
 
-    byte-feeds : {x : Step Reading} {t : Turned} → Agrees s opening r g b (a - i) x t
-        → FeedAgrees s opening g n i (follows x) (goesOn (t .stepped .outcome) t)
+    byte-feeds : {x : Step Reading} {t : Reached} → Agrees s opening r g b (a - i) x t
+        → FeedAgrees s opening g n i (follows x) (goesOn (t .progress .outcome) t)
     unfolding follows goesOn rested
     byte-feeds {x} {t} agrees = go agrees
       where
-        known : {run : Run Reading} {o : Outcome} → t .stepped .outcome ≡ o → FeedAgrees s opening g n i run (goesOn o t)
-            → FeedAgrees s opening g n i run (goesOn (t .stepped .outcome) t)
+        known : {run : Run Reading} {o : Outcome} → t .progress .outcome ≡ o → FeedAgrees s opening g n i run (goesOn o t)
+            → FeedAgrees s opening g n i run (goesOn (t .progress .outcome) t)
         known {run} e = subst (λ (o : Outcome). FeedAgrees s opening g n i run (goesOn o t)) (sym e)
 
-        go : {x : Step Reading} → Agrees s opening r g b (a - i) x t → FeedAgrees s opening g n i (follows x) (goesOn (t .stepped .outcome) t)
-        go (reads h over e ink same) = known e (reads-agree t h over ink same)
+        go : {x : Step Reading} → Agrees s opening r g b (a - i) x t → FeedAgrees s opening g n i (follows x) (goesOn (t .progress .outcome) t)
+        go (reads h over e one ink same) = known e (reads-agree t h over ink same)
         go (stops {i = j} h e same) = known e (rw (lt-leb j (a - i) h) (still-agrees refl refl (stoppedEarly going refl same)))
         go (halts over e same) = known e (still-agrees refl refl (atEnd b over refl same))
         go (refuses why m e same) = known e (still-agrees refl refl (turnedDown why m refl same))

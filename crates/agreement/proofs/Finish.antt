@@ -17,7 +17,7 @@ use Rattle.frame.specs.declared.Kind.the-variants as kinds
 use Rattle.frame.specs.declared.Outcome.the-variants as outcomes
 use Rattle.frame.specs.declared.Refusal.{Refusal}
 use Rattle.frame.specs.Numbers.{numberOf}
-use Rattle.bytewise.specs.Step.{Turned, settledStep}
+use Rattle.reference.specs.Step.{Reached, settledStep}
 use Rattle.meaning.specs.Drawing.{Limits, Setting, Drawing, backgroundOf, blank, extentOf}
 use Rattle.meaning.specs.Payload.{Parameters, Ratio, ratioOf, Report, reportOf, Finished, finished, turnedDown, finish}
 use Rattle.meaning.specs.Sessions.{Reading, opened, settled, rested, finishReading}
@@ -50,8 +50,9 @@ opens-bounded l stride length e =
     }
 
 -- an opened session: the blank frame, and pixel (0, 0) has the background
-pub opened-same : (l : Limits) (stride length : ℕ) → opens l stride length ≡ true → (o : Parameters) {p : Palette} {opening : List ℕ} {g : Ground} {f : Frame}
-    {canvas : List ℕ} → g ≡ groundOf (settingFor l stride length) (backgroundOf p (o .p2)) → f ≡ blankFrame p (f .command) → f .command .kind ≡ kinds.Data
+pub opened-same : (l : Limits) (stride length : ℕ) → opens l stride length ≡ true → (o : Parameters)
+    {p : Palette} {opening : List ℕ} {g : Ground} {f : Frame} {canvas : List ℕ}
+    → g ≡ groundOf (settingFor l stride length) (backgroundOf p (o .p2)) → f ≡ blankFrame p (f .command) → f .command .kind ≡ kinds.Data
     → canvas ≡ painted (span 0 1) (backgroundOf p (o .p2)) opening
     → Same (settingFor l stride length) opening (opened o p) g f p canvas
 unfolding opened blank blankFrame frameOf canvasOf extentOf
@@ -81,25 +82,29 @@ ratio-same p1 (some n) h = rw (ne-eqb n 0 (λ e. omega arith))
 pub report-same : {s : Setting} {opening : List ℕ} {d : Drawing} {g : Ground} {f : Frame} {p : Palette} {l : List ℕ} (o : Parameters)
     → SameDrawing s opening d g f p l → reportOf o d ≡ reportFrom o f p
 unfolding reportOf reportFrom frameOf
-report-same {d = d} {f = f} o same = same-fact (λ g f p l. reportOf o d ≡ reportFrom o f p) same (ap rated (ratio-same (o .p1) (d .raster .ratio) (same .rated)))
+report-same {d = d} {f = f} o same =
+    same-fact (λ g f p l. reportOf o d ≡ reportFrom o f p) same (ap rated (ratio-same (o .p1) (d .raster .ratio) (same .rated)))
   where
     rated : Ratio → Report
     rated x = record { size = d .area; ratio = x; clear = reportOf o d .clear; extent = extentOf (d .strokes); palette = d .palette }
 
 -- what a finish comes to: a report of the frame and the palette with the command carried out, the canvas grown; or one refusal, and all is as it
 -- was
-pub data Finishing (s : Setting) (opening : List ℕ) (r : Reading) (g : Ground) : Finished → Turned → Type 0 where
-  reporting : {answer : Report} {t : Turned} → t .stepped .outcome ≡ outcomes.Settled → answer ≡ reportFrom (r .parameters) (t .stepped .frame) (t .palette)
-      → SameDrawing s opening (settled s r .drawing) g (t .stepped .frame) (t .palette) (t .canvas) → Finishing s opening r g (finished answer) t
-  declining : {n : ℕ} {t : Turned} (why : Refusal) → numberOf why ≡ n → t .stepped .outcome ≡ outcomes.Refused why → settled s r .drawing ≡ r .drawing
-      → SameDrawing s opening (r .drawing) g (t .stepped .frame) (t .palette) (t .canvas) → Finishing s opening r g (turnedDown n) t
+pub data Finishing (s : Setting) (opening : List ℕ) (r : Reading) (g : Ground) : Finished → Reached → Type 0 where
+  reporting : {answer : Report} {t : Reached} → t .progress .outcome ≡ outcomes.Read
+      → answer ≡ reportFrom (r .parameters) (t .progress .frame) (t .palette)
+      → SameDrawing s opening (settled s r .drawing) g (t .progress .frame) (t .palette) (t .canvas) → Finishing s opening r g (finished answer) t
+  declining : {n : ℕ} {t : Reached} (why : Refusal) → numberOf why ≡ n → t .progress .outcome ≡ outcomes.Refused why
+      → settled s r .drawing ≡ r .drawing → SameDrawing s opening (r .drawing) g (t .progress .frame) (t .palette) (t .canvas)
+      → Finishing s opening r g (turnedDown n) t
 
-settled-finish : {s : Setting} {opening : List ℕ} {r : Reading} {g : Ground} {o : Option ℕ} {t : Turned} → settled s r .refusal ≡ o
+settled-finish : {s : Setting} {opening : List ℕ} {r : Reading} {g : Ground} {o : Option ℕ} {t : Reached} → settled s r .refusal ≡ o
     → Settling s opening r g o t → Finishing s opening r g (finishReading s r) t
 unfolding finishReading rested finish
-settled-finish {s} {opening} {r} {g} {t = t} q (settling e same) =
-    let d : SameDrawing s opening (settled s r .drawing) g (t .stepped .frame) (t .palette) (t .canvas) = same .drawing in
-    subst (λ (x : Finished). Finishing s opening r g x t) (sym (outcome-reports (r .parameters) (settled s r) q)) (reporting e (report-same (r .parameters) d) d)
+settled-finish {s} {opening} {r} {g} {t = t} q (settling e unread same) =
+    let d : SameDrawing s opening (settled s r .drawing) g (t .progress .frame) (t .palette) (t .canvas) = same .drawing in
+    subst (λ (x : Finished). Finishing s opening r g x t) (sym (outcome-reports (r .parameters) (settled s r) q))
+    (reporting e (report-same (r .parameters) d) d)
 settled-finish {s} {opening} {r} {g} {t = t} q (refusing why n e kept same) =
     subst (λ (x : Finished). Finishing s opening r g x t) (sym (ap turned q)) (declining why n e kept same)
   where

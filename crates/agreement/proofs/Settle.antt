@@ -12,15 +12,16 @@ use Rattle.frame.specs.declared.Frame.{Frame}
 use Rattle.frame.specs.declared.Ground.{Ground}
 use Rattle.frame.specs.declared.Outcome.the-variants as outcomes
 use Rattle.frame.specs.declared.Refusal.{Refusal}
+use Rattle.frame.specs.declared.VisibleArea.{VisibleArea}
 use Rattle.frame.specs.Numbers.{numberOf}
 use Rattle.frame.specs.Commands.{noCommand, refusedAs, Ended, endedIn, ended}
-use Rattle.bytewise.specs.Step.{Turned, settledStep}
+use Rattle.reference.specs.Step.{Reached, areaGrown, settledStep}
 use Rattle.meaning.specs.Commands as meaningCommands
 use Rattle.meaning.specs.Commands.{Begun, argued, closed}
 use Rattle.meaning.specs.Drawing.{Setting, Drawing, Drawn, drawCommand, Outcome, andThen, drawAll}
 use Rattle.meaning.specs.Sessions.{Reading, settled, rested}
 use Rattle.meaning.proofs.AreaLaws.{Sound, Follows, follows-refl, command-drawn, quiet-drawn}
-use Rattle.agreement.specs.Same.{groundOf, frameOf, canvasOf, Rated, Bounded, SameDrawing, SameBegun, Same}
+use Rattle.agreement.specs.Same.{groundOf, codeArea, frameOf, canvasOf, Rated, Bounded, SameDrawing, SameBegun, Same}
 use Rattle.agreement.proofs.Ratio.{command-rated}
 use Rattle.agreement.proofs.Ends.{settledTo, Ends, gives, turned, command-ends}
 
@@ -48,7 +49,7 @@ pub data EndsAs (s : Setting) (d : Drawing) (c : Command) : Outcome → Ended �
   settles : (e : Drawing) → Follows s d e → e .strokes ≡ d .strokes → (Rated (d .raster .ratio) → Rated (e .raster .ratio))
       → EndsAs s d c (record { drawing = e; refusal = none }) (settledTo e noCommand)
   refuses : (why : Refusal) {n : ℕ} → numberOf why ≡ n
-      → EndsAs s d c (record { drawing = d; refusal = some n }) (record { stepped = refusedAs (frameOf d c) why; palette = d .palette })
+      → EndsAs s d c (record { drawing = d; refusal = some n }) (record { progress = refusedAs (frameOf d c) why; palette = d .palette })
 
 -- whichever is pending, or none
 pub pending-ends : {s : Setting} {d : Drawing} → Bounded s → Sound s d → (background : List ℕ) (c : Command) (o : Option Begun) → SameBegun o c
@@ -82,33 +83,27 @@ grown-shows {s} {d} {e} opening sound follows same =
 -- ---- settling
 
 -- what a settling step comes to: the two stand for each other with the command carried out; or one refusal, and all is as it was
-pub data Settling (s : Setting) (opening : List ℕ) (r : Reading) (g : Ground) : Option ℕ → Turned → Type 0 where
-  settling : {t : Turned} → t .stepped .outcome ≡ outcomes.Settled → Same s opening (rested s r) g (t .stepped .frame) (t .palette) (t .canvas)
-      → Settling s opening r g none t
-  refusing : {t : Turned} {n : ℕ} (why : Refusal) → numberOf why ≡ n → t .stepped .outcome ≡ outcomes.Refused why → settled s r .drawing ≡ r .drawing
-      → SameDrawing s opening (r .drawing) g (t .stepped .frame) (t .palette) (t .canvas) → Settling s opening r g (some n) t
+pub data Settling (s : Setting) (opening : List ℕ) (r : Reading) (g : Ground) : Option ℕ → Reached → Type 0 where
+  settling : {t : Reached} → t .progress .outcome ≡ outcomes.Read → t .progress .consumed ≡ 0
+      → Same s opening (rested s r) g (t .progress .frame) (t .palette) (t .canvas) → Settling s opening r g none t
+  refusing : {t : Reached} {n : ℕ} (why : Refusal) → numberOf why ≡ n → t .progress .outcome ≡ outcomes.Refused why → settled s r .drawing ≡ r .drawing
+      → SameDrawing s opening (r .drawing) g (t .progress .frame) (t .palette) (t .canvas) → Settling s opening r g (some n) t
 
 -- the code's step with an ending known
-settledBy : Frame → Ground → List ℕ → Ended → Turned
+settledBy : Frame → Ground → List ℕ → Ended → Reached
+unfolding areaGrown
 settledBy f g l e =
-    record {
-      stepped = e .stepped;
-      palette = e .palette;
-      canvas =
-          grown (g .stride) (areaOf (f .sheet .width) (f .sheet .height))
-          (areaOf (e .stepped .frame .sheet .width) (e .stepped .frame .sheet .height))
-          (g .background)
-          l;
-    }
+    let new : VisibleArea = e .progress .frame .area in
+    record { progress = e .progress; palette = e .palette; canvas = areaGrown f g (new .width) (new .height) l }
 
 module _ {s : Setting} (opening : List ℕ) (r : Reading) (bounded : Bounded s) (sound : Sound s (r .drawing))
     (rated : Rated (r .drawing .raster .ratio)) (c : Command) where
   settle-ends : {out : Outcome} {e : Ended} → settled s r ≡ out → EndsAs s (r .drawing) c out e
       → Settling s opening r (groundOf s (r .drawing .background)) (out .refusal)
       (settledBy (frameOf (r .drawing) c) (groundOf s (r .drawing .background)) (canvasOf s (r .drawing) opening) e)
-  unfolding settledBy rested settledTo noCommand frameOf groundOf refusedAs
+  unfolding settledBy rested settledTo noCommand frameOf codeArea groundOf refusedAs
   settle-ends q (settles e follows same rates) =
-      settling refl
+      settling refl refl
       (record {
         drawing = same-drawing (ap (λ (out : Outcome). out .drawing) q)
             (record {

@@ -13,13 +13,13 @@ use Rattle.canvas.proofs.Strokes.{reach-within, reach-inside}
 use Rattle.canvas.proofs.Pictures.{picture-grown, picture-stroke}
 use Rattle.canvas.proofs.Shows.{sixel-stroked}
 use Rattle.frame.specs.declared.Command.{Command}
+use Rattle.frame.specs.declared.Extent.{Extent}
 use Rattle.frame.specs.declared.Frame.{Frame}
-use Rattle.frame.specs.declared.Sheet as codeSheet
-use Rattle.bytewise.specs.Step.{penAfter, inked, sheetAfter, canvasAfter, rowCeiling}
+use Rattle.reference.specs.Step.{penAfter, inked, extentAfter, areaGrown, canvasAfter, rowCeiling}
 use Rattle.meaning.specs.Commands.{draw}
 use Rattle.meaning.specs.Drawing.{Setting, Drawing, unless, strokeOf, stroked, drawCommand, columnsReached, rowsReached, extentOf}
 use Rattle.meaning.proofs.AreaLaws.{Allowed, Sound, Follows, command-drawn}
-use Rattle.agreement.specs.Same.{groundOf, penOf, sheetOf, rasterOf, frameOf, canvasOf, Rated, Bounded, SameDrawing}
+use Rattle.agreement.specs.Same.{groundOf, penOf, codeArea, codeExtent, rasterOf, frameOf, canvasOf, Rated, Bounded, SameDrawing}
 use Rattle.agreement.proofs.Sizes.{allowed-none}
 
 -- ---- the extent of one stroke more
@@ -41,7 +41,9 @@ rows-more (j ∷ ks) k = ap (max here) (rows-more ks k) ∙ go (eqb (k .bits) 0)
     here : ℕ
     here = cond (eqb (j .bits) 0) 1 (j .row + 6)
 
-    go : (t : Bool) → max here (cond t (rowsReached ks) (max (rowsReached ks) (k .row + 6))) ≡ cond t (max here (rowsReached ks)) (max (max here (rowsReached ks)) (k .row + 6))
+    go : (t : Bool)
+        → max here (cond t (rowsReached ks) (max (rowsReached ks) (k .row + 6)))
+        ≡ cond t (max here (rowsReached ks)) (max (max here (rowsReached ks)) (k .row + 6))
     go true = refl
     go false = omega arith
 
@@ -58,11 +60,10 @@ module _ {s : Setting} (bounded : Bounded s) (opening : List ℕ) {d : Drawing} 
   unfolding drawCommand unless
   stroke-follows = command-drawn s (draw bits) d (ap (λ (o : Option ℕ). unless o (stroked d (strokeOf bits d))) (allowed-none allowed))
 
-  -- the sheet has the area and the extent
-  stroke-sheet : {w h : ℕ} → w ≡ reach (d .area) (strokeOf bits d) .width → h ≡ reach (d .area) (strokeOf bits d) .height
-      → sheetAfter (sheetOf d) (penOf (d .palette) (d .pen)) bits w h ≡ sheetOf (stroked d (strokeOf bits d))
-  unfolding sheetAfter sheetOf penOf stroked strokeOf extentOf
-  stroke-sheet p q = λ i. record { width = p i; height = q i; right = sym (columns-more (d .strokes) k) i; bottom = low i }
+  -- the extent is that of one stroke more
+  stroke-extent : extentAfter (codeExtent d) (penOf (d .palette) (d .pen)) bits ≡ codeExtent (stroked d (strokeOf bits d))
+  unfolding extentAfter codeExtent penOf stroked strokeOf extentOf
+  stroke-extent = λ i. record { right = sym (columns-more (d .strokes) k) i; bottom = low i }
     where
       k : Stroke
       k = strokeOf bits d
@@ -76,7 +77,7 @@ module _ {s : Setting} (bounded : Bounded s) (opening : List ℕ) {d : Drawing} 
   -- the canvas shows the stroke on the grown area
   stroke-canvas : (c : Command) {w h : ℕ} → areaOf w h ≡ reach (d .area) (strokeOf bits d)
       → canvasAfter (frameOf d c) (groundOf s (d .background)) bits w h (canvasOf s d opening) ≡ canvasOf s (stroked d (strokeOf bits d)) opening
-  unfolding canvasAfter frameOf groundOf sheetOf penOf canvasOf stroked strokeOf
+  unfolding canvasAfter areaGrown frameOf groundOf codeArea penOf canvasOf stroked strokeOf
   stroke-canvas c grows =
       ap₂ paintedAt row-known grows
       ∙ ap (paint.sixelPainted stride (k .column) (k .row) (k .repeat) bits (k .colour))
@@ -96,20 +97,31 @@ module _ {s : Setting} (bounded : Bounded s) (opening : List ℕ) {d : Drawing} 
           (paint.grown stride (d .area) a (d .background) (picture stride (d .area) (d .background) (d .strokes) opening))
 
   -- the two stand for each other after the stroke
-  pub stroke-same : Rated (d .raster .ratio) → (c : Command) {w h : ℕ} → w ≡ reach (d .area) (strokeOf bits d) .width → h ≡ reach (d .area) (strokeOf bits d) .height
+  pub stroke-same : Rated (d .raster .ratio) → (c : Command) {w h : ℕ} → w ≡ reach (d .area) (strokeOf bits d) .width
+      → h ≡ reach (d .area) (strokeOf bits d) .height
       → SameDrawing s opening (stroked d (strokeOf bits d)) (groundOf s (d .background)) (inked (frameOf d c) bits w h) (d .palette)
       (canvasAfter (frameOf d c) (groundOf s (d .background)) bits w h (canvasOf s d opening))
-  unfolding inked frameOf stroked strokeOf
+  unfolding inked frameOf codeArea stroked strokeOf
   stroke-same rated c p q =
       record {
         bounded = bounded;
         sound = stroke-follows .sound sound;
         rated = rated;
         ground = refl;
-        frame = ap withSheet (stroke-sheet p q);
+        frame = framed p q stroke-extent;
         palette = refl;
         canvas = stroke-canvas c (ap₂ areaOf p q);
       }
     where
-      withSheet : codeSheet.Sheet → Frame
-      withSheet a = record { pen = penAfter (penOf (d .palette) (d .pen)); sheet = a; raster = rasterOf (d .raster); command = c }
+      frameWith : ℕ → ℕ → Extent → Frame
+      frameWith w h e =
+          record {
+            pen = penAfter (penOf (d .palette) (d .pen));
+            area = record { width = w; height = h };
+            extent = e;
+            raster = rasterOf (d .raster);
+            command = c;
+          }
+
+      framed : {w h w′ h′ : ℕ} {e e′ : Extent} → w ≡ w′ → h ≡ h′ → e ≡ e′ → frameWith w h e ≡ frameWith w′ h′ e′
+      framed p q r = λ i. frameWith (p i) (q i) (r i)

@@ -14,11 +14,11 @@ use Rattle.frame.specs.declared.sizes.Needed.{Needed}
 use Rattle.frame.specs.declared.sizes.Needed.the-variants as needed
 use Rattle.frame.specs.Numbers.{numberOf}
 use Rattle.frame.specs.Sizes.{roomFor, grownArea, rasterArea, sixelArea}
-use Rattle.bytewise.specs.Step.{rowCeiling}
+use Rattle.reference.specs.Step.{rowCeiling}
 use Rattle.meaning.specs.Drawing.{Setting, Pen, Drawing, pixelsOf, sizeRefusal}
 use Rattle.meaning.specs.Sizes.{Fits}
 use Rattle.meaning.proofs.AreaLaws.{both, cond-case, Allowed, Sound}
-use Rattle.agreement.specs.Same.{groundOf, penOf, sheetOf, Bounded}
+use Rattle.agreement.specs.Same.{groundOf, penOf, codeArea, Bounded}
 
 -- what a size comes to in the code and in the definition: the area grown to it, where it is allowed, or one refusal
 pub data Sized (s : Setting) (a : Area) (w h : ℕ) : Needed → Option ℕ → Type 0 where
@@ -99,8 +99,8 @@ same-refusal {n} (turns why q) e = turns why {n = n} (cc)
 
 module _ {s : Setting} {d : Drawing} (sound : Sound s d) (background : List ℕ) where
   -- a raster's size
-  pub raster-sized : (w h : ℕ) → Sized s (d .area) w h (rasterArea (sheetOf d) (groundOf s background) w h) (sizeRefusal s (d .area) w h)
-  unfolding rasterArea grownArea roomFor sizeRefusal groundOf sheetOf pixelsOf grownTo
+  pub raster-sized : (w h : ℕ) → Sized s (d .area) w h (rasterArea (codeArea d) (groundOf s background) w h) (sizeRefusal s (d .area) w h)
+  unfolding rasterArea grownArea roomFor sizeRefusal groundOf codeArea pixelsOf grownTo
   raster-sized w h =
       rw (max-test (s .stride) (d .area .width) w (sound .fits .stride), max-test (s .rows) (d .area .height) h (sound .fits .rows))
       (sized-by s (d .area) w h _ _ _ _ _ refl refl refl refl refl)
@@ -116,9 +116,9 @@ module _ {s : Setting} {d : Drawing} (sound : Sound s d) (background : List ℕ)
 
   -- a sixel's size, its row as the code has it
   sixel-row : (p : Pen) (row : ℕ) → min (p .row) rowCeiling ≡ row
-      → Sized s (d .area) (p .column + p .repeats) (row + 6) (sixelArea (penOf (d .palette) p) (sheetOf d) (groundOf s background))
+      → Sized s (d .area) (p .column + p .repeats) (row + 6) (sixelArea (penOf (d .palette) p) (codeArea d) (groundOf s background))
       (sizeRefusal s (d .area) (p .column + p .repeats) (row + 6))
-  unfolding sixelArea rasterArea penOf sheetOf groundOf
+  unfolding sixelArea rasterArea penOf codeArea groundOf
   sixel-row p row e =
       let w : ℕ = p .column + p .repeats in
       rw (e, cond-kept w (s .limits .width) (row + 6) (s .limits .height))
@@ -136,7 +136,7 @@ module _ {s : Setting} {d : Drawing} (sound : Sound s d) (background : List ℕ)
 
   -- a sixel's size
   pub sixel-sized : Bounded s → (p : Pen)
-      → Sized s (d .area) (p .column + p .repeats) (p .row + 6) (sixelArea (penOf (d .palette) p) (sheetOf d) (groundOf s background))
+      → Sized s (d .area) (p .column + p .repeats) (p .row + 6) (sixelArea (penOf (d .palette) p) (codeArea d) (groundOf s background))
       (sizeRefusal s (d .area) (p .column + p .repeats) (p .row + 6))
   sixel-sized bounded p = go (leb (p .row) rowCeiling) refl
     where
@@ -144,7 +144,7 @@ module _ {s : Setting} {d : Drawing} (sound : Sound s d) (background : List ℕ)
       w = p .column + p .repeats
 
       go : (t : Bool) → leb (p .row) rowCeiling ≡ t
-          → Sized s (d .area) w (p .row + 6) (sixelArea (penOf (d .palette) p) (sheetOf d) (groundOf s background))
+          → Sized s (d .area) w (p .row + 6) (sixelArea (penOf (d .palette) p) (codeArea d) (groundOf s background))
           (sizeRefusal s (d .area) w (p .row + 6))
       go true e = sixel-row p (p .row) (omega (arith, leb-true (p .row) rowCeiling e))
       go false e =

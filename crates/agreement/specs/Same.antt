@@ -10,13 +10,14 @@ use Rattle.colours.specs.declared.Palette.{Palette}
 use Rattle.colours.specs.Palette.{registerOf}
 use Rattle.canvas.specs.Picture.{areaOf, picture}
 use Rattle.frame.specs.declared.Command.{Command}
+use Rattle.frame.specs.declared.Extent.{Extent}
 use Rattle.frame.specs.declared.Frame.{Frame}
 use Rattle.frame.specs.declared.Ground.{Ground}
 use Rattle.frame.specs.declared.Kind.the-variants as kinds
 use Rattle.frame.specs.declared.Pen as codePen
 use Rattle.frame.specs.declared.Raster as codeRaster
-use Rattle.frame.specs.declared.Sheet as codeSheet
-use Rattle.bytewise.specs.Step.{rowCeiling}
+use Rattle.frame.specs.declared.VisibleArea.{VisibleArea}
+use Rattle.reference.specs.Step.{rowCeiling}
 use Rattle.meaning.specs.Commands.{repeat, colour, raster, Begun}
 use Rattle.meaning.specs.Drawing.{Setting, Pen, Raster, Drawing, transparent, extentOf}
 use Rattle.meaning.specs.Payload.{Parameters, Ratio, byRaster, leftToP1, Report}
@@ -46,15 +47,13 @@ penOf p d =
       color = registerOf p (d .register);
     }
 
--- the visible area and the extent
-unfoldable pub sheetOf : Drawing → codeSheet.Sheet
-sheetOf d =
-    record {
-      width = d .area .width;
-      height = d .area .height;
-      right = extentOf (d .strokes) .width;
-      bottom = extentOf (d .strokes) .height;
-    }
+-- the visible area
+unfoldable pub codeArea : Drawing → VisibleArea
+codeArea d = record { width = d .area .width; height = d .area .height }
+
+-- the extent
+unfoldable pub codeExtent : Drawing → Extent
+codeExtent d = record { right = extentOf (d .strokes) .width; bottom = extentOf (d .strokes) .height }
 
 -- a ratio as the code has it: 0 where there is none
 unfoldable pub ratioNumber : Option ℕ → ℕ
@@ -68,15 +67,23 @@ rasterOf d = record { ratio = ratioNumber (d .ratio); width = d .width; height =
 
 -- the whole frame, with a command that has begun or not
 unfoldable pub frameOf : Drawing → Command → Frame
-unfolding penOf sheetOf rasterOf
-frameOf d c = record { pen = penOf (d .palette) (d .pen); sheet = sheetOf d; raster = rasterOf (d .raster); command = c }
+unfolding penOf codeArea codeExtent rasterOf
+frameOf d c =
+    record {
+      pen = penOf (d .palette) (d .pen);
+      area = codeArea d;
+      extent = codeExtent d;
+      raster = rasterOf (d .raster);
+      command = c;
+    }
 
 -- the frame before the first byte
 unfoldable pub blankFrame : Palette → Command → Frame
 blankFrame p c =
     record {
       pen = record { column = 0; row = 0; repeat = 1; register = 0; color = registerOf p 0 };
-      sheet = record { width = 1; height = 1; right = 1; bottom = 1 };
+      area = record { width = 1; height = 1 };
+      extent = record { right = 1; bottom = 1 };
       raster = record { ratio = 0; width = 0; height = 0 };
       command = c;
     }
@@ -136,9 +143,9 @@ unfoldable pub reportFrom : Parameters → Frame → Palette → Report
 unfolding ratioFrom
 reportFrom o f p =
     record {
-      size = areaOf (f .sheet .width) (f .sheet .height);
+      size = areaOf (f .area .width) (f .area .height);
       ratio = ratioFrom (o .p1) (f .raster .ratio);
       clear = transparent (o .p2);
-      extent = areaOf (f .sheet .right) (f .sheet .bottom);
+      extent = areaOf (f .extent .right) (f .extent .bottom);
       palette = p;
     }

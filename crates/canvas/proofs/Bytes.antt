@@ -32,10 +32,12 @@ replaced-twice k f g (b ∷ bs) = ap {B = List ℕ} (λ r. g k (f k b) ∷ r) (r
 pub replaced-none : (k : ℕ) (f : ℕ → ℕ → ℕ) (l : List ℕ) → ((i b : ℕ) → f i b ≡ b) → replaced k f l ≡ l
 unfolding replaced
 replaced-none k f [] e = refl
-replaced-none k f (b ∷ bs) e = ap {A = ℕ} {B = List ℕ} (λ r. r ∷ replaced (suc k) f bs) (e k b) ∙ ap {B = List ℕ} (λ r. b ∷ r) (replaced-none (suc k) f bs e)
+replaced-none k f (b ∷ bs) e =
+    ap {A = ℕ} {B = List ℕ} (λ r. r ∷ replaced (suc k) f bs) (e k b) ∙ ap {B = List ℕ} (λ r. b ∷ r) (replaced-none (suc k) f bs e)
 
 -- two changes that agree at each place of the list
-pub replaced-alike : (f g : ℕ → ℕ → ℕ) (l : List ℕ) → ((i : ℕ) → i < length l → f i (getD l i 0) ≡ g i (getD l i 0)) → replaced 0 f l ≡ replaced 0 g l
+pub replaced-alike : (f g : ℕ → ℕ → ℕ) (l : List ℕ) → ((i : ℕ) → i < length l → f i (getD l i 0) ≡ g i (getD l i 0))
+    → replaced 0 f l ≡ replaced 0 g l
 replaced-alike f g l e =
     ext-getD 0 (replaced 0 f l) (replaced 0 g l) (length-replaced 0 f l ∙ sym (length-replaced 0 g l))
     (λ i h.
@@ -77,7 +79,8 @@ either false true u a b e = rw e
 either false false u a b e = rw e
 
 -- one pixel painted on two covers in turn is painted on both
-pub painted-both : (c₁ c₂ c : ℕ → Bool) (px l : List ℕ) → ((p : ℕ) → c p ≡ (c₁ p || c₂ p)) → painted c₂ px (painted c₁ px l) ≡ painted c px l
+pub painted-both : (c₁ c₂ c : ℕ → Bool) (px l : List ℕ) → ((p : ℕ) → c p ≡ (c₁ p || c₂ p))
+    → painted c₂ px (painted c₁ px l) ≡ painted c px l
 unfolding painted
 painted-both c₁ c₂ c px l e =
     replaced-twice 0 _ _ l

@@ -1,7 +1,7 @@
 -- Laws of copying: when a canvas has a picture, and its rows without gaps, one row after the other and byte by byte.
 -- Assumes nothing.
 use mathlib.Core.Path.{_≡_, refl, sym, ap, ap₂, _∙_}
-use mathlib.Core.Bool.{true, false, _&&_}
+use mathlib.Core.Bool.{Bool, true, false, not, _&&_}
 use mathlib.Core.List.{List, _++_, append-nil, append-assoc}
 use Prim.Native.Nat.{ℕ, zero, suc, _+_, _-_, _*_, _≤_, _<_}
 use native.Mathlib.Nat.{mul-le-mul-left, mul-le-mul-right, not-suc-le-zero, le-of-suc-le-suc}
@@ -10,21 +10,23 @@ use native.Mathlib.Omega.{arith}
 use lib.ListN.{length, getD, take, drop, length-append, length-drop, List·getD-append}
 use lib.Seq.{length-take-le, take-at, drop-append-add, drop-drop, getD-take, getD-drop, getD-append-add, paste}
 use lib.Dec.{leb, ltb}
-use borrow.Author.Tests.{ltb-true, lt-ltb, leb-true, le-leb, lt-leb, eqb-false}
+use borrow.Author.Tests.{ltb-true, lt-ltb, leb-true, le-leb, lt-leb, eqb-false, not-true, not-false}
 use Rattle.canvas.specs.Picture.{areaOf, fits, rowsOf}
 use Rattle.canvas.specs.Copy.{numberOf, hasPicture, packed, sizeOf, copied}
 use Rattle.canvas.specs.declared.Copied.{Copied}
 use Rattle.canvas.specs.declared.Copied.the-variants.{Done, Misfit, Short}
 use Rattle.canvas.proofs.Covers.{and-left, and-right, and-both, same-test}
 use Rattle.canvas.proofs.Grid.{rows-room}
-use Rattle.canvas.proofs.Growth.{fits-columns, fits-rows, fits-in}
+use Rattle.canvas.proofs.Growth.{rectangle-room, fits-columns, fits-rows, fits-in}
 
 -- ---- when a canvas has a picture
 
 module _ (stride n width height : ℕ) where
-  pub has-all : 0 < stride → 0 < width → 0 < height → width ≤ stride → height ≤ rowsOf n stride → hasPicture stride n (areaOf width height) ≡ true
+  pub has-all : 0 < stride → 0 < width → 0 < height → width ≤ stride → height ≤ rowsOf n stride
+      → hasPicture stride n (areaOf width height) ≡ true
   unfolding hasPicture
-  has-all a b c d e = and-both (lt-ltb _ _ a) (and-both (lt-ltb _ _ b) (and-both (lt-ltb _ _ c) (fits-in stride n (areaOf width height) d e)))
+  has-all a b c d e =
+      and-both (lt-ltb _ _ a) (and-both (lt-ltb _ _ b) (and-both (lt-ltb _ _ c) (fits-in stride n (areaOf width height) d e)))
 
   module _ (t : hasPicture stride n (areaOf width height) ≡ true) where
     pub has-stride : 0 < stride
@@ -70,7 +72,8 @@ size-room n stride width height h r =
 
 -- ---- rows without gaps
 
-pub length-packed : (stride width y : ℕ) (canvas : List ℕ) → width ≤ stride → 4 * (y * stride) ≤ length canvas → length (packed stride width y canvas) ≡ 4 * (width * y)
+pub length-packed : (stride width y : ℕ) (canvas : List ℕ) → width ≤ stride → 4 * (y * stride) ≤ length canvas
+    → length (packed stride width y canvas) ≡ 4 * (width * y)
 unfolding packed
 length-packed stride width zero canvas h r = omega arith
 length-packed stride width (suc y) canvas h r =
@@ -121,7 +124,8 @@ packed-more stride width y canvas out rows h r e f =
     (sym (ap (λ (k : ℕ). packed stride width k canvas) (add-one y) ∙ packed-row stride width y (4 * (y * stride)) canvas refl))
 
 -- byte k of pixel (x, y) of a picture stands at pixel y * width + x of its rows without gaps
-pub packed-byte : (stride width height : ℕ) (canvas : List ℕ) (x y k : ℕ) → width ≤ stride → 4 * (height * stride) ≤ length canvas → x < width → y < height → k < 4
+pub packed-byte : (stride width height : ℕ) (canvas : List ℕ) (x y k : ℕ) → width ≤ stride → 4 * (height * stride) ≤ length canvas
+    → x < width → y < height → k < 4
     → getD (packed stride width height canvas) (4 * (y * width + x) + k) 0 ≡ getD canvas (4 * (y * stride + x) + k) 0
 unfolding packed
 packed-byte stride width zero canvas x y k h r hx hy hk = absurd (not-suc-le-zero hy)
@@ -162,19 +166,46 @@ packed-none stride width canvas out =
     let start : 4 * (width * 0) ≡ 0 = omega arith in
     sym (ap (λ (k : ℕ). drop k out) start)
 
+-- ---- a picture's rows, one after the other
+
+module _ (stride width : ℕ) (canvas out : List ℕ) where
+  -- one row more
+  pub rows-next : {before after : List ℕ} (y height : ℕ) → width ≤ stride → height ≤ rowsOf (length canvas) stride → y < height
+      → before ≡ packed stride width y canvas ++ drop (4 * (width * y)) out
+      → after ≡ paste before (4 * (width * y)) (drop (4 * (y * stride)) canvas) (4 * width)
+      → after ≡ packed stride width (y + 1) canvas ++ drop (4 * (width * (y + 1))) out
+  rows-next {before} y height h r less e f =
+      let below : 4 * (y * stride) ≤ length canvas =
+      omega (arith, rectangle-room (length canvas) stride width height y h r less) in
+      packed-more stride width y canvas out before h below e f
+
+  -- all of them
+  pub rows-last : {after : List ℕ} (y height : ℕ) → y ≤ height → height ≤ y
+      → after ≡ packed stride width y canvas ++ drop (4 * (width * y)) out
+      → after ≡ packed stride width height canvas ++ drop (sizeOf (areaOf width height)) out
+  unfolding sizeOf
+  rows-last y height h k e =
+      let same : y ≡ height = omega arith in
+      e ∙ ap (λ (n : ℕ). packed stride width n canvas ++ drop (4 * (width * n)) out) same
+
+pub ruleset row-turns = (packed-none, rows-next, rows-last)
+
 -- ---- each answer
 
 module _ (stride width height : ℕ) (canvas out : List ℕ) where
-  pub copied-misfit : hasPicture stride (length canvas) (areaOf width height) ≡ false → (12, out) ≡ copied stride (areaOf width height) canvas out
+  pub copied-misfit : hasPicture stride (length canvas) (areaOf width height) ≡ false
+      → (12, out) ≡ copied stride (areaOf width height) canvas out
   unfolding copied
   copied-misfit t = rw t
 
-  pub copied-short : hasPicture stride (length canvas) (areaOf width height) ≡ true → length out < 4 * (width * height) → (14, out) ≡ copied stride (areaOf width height) canvas out
+  pub copied-short : hasPicture stride (length canvas) (areaOf width height) ≡ true → length out < 4 * (width * height)
+      → (14, out) ≡ copied stride (areaOf width height) canvas out
   unfolding copied sizeOf
   copied-short t h = rw (t, lt-leb (4 * (width * height)) (length out) h)
 
   pub copied-done : {out′ : List ℕ} → hasPicture stride (length canvas) (areaOf width height) ≡ true → 4 * (width * height) ≤ length out
-      → out′ ≡ packed stride width height canvas ++ drop (sizeOf (areaOf width height)) out → (0, out′) ≡ copied stride (areaOf width height) canvas out
+      → out′ ≡ packed stride width height canvas ++ drop (sizeOf (areaOf width height)) out
+      → (0, out′) ≡ copied stride (areaOf width height) canvas out
   unfolding copied sizeOf
   copied-done t h e = rw (t, le-leb (4 * (width * height)) (length out) h, e)
 
@@ -194,7 +225,8 @@ module _ (stride width height : ℕ) (canvas out : List ℕ) where
         → getD (copied stride (areaOf width height) canvas out .1) (4 * (y * width + x) + k) 0 ≡ getD canvas (4 * (y * stride + x) + k) 0
     copied-pixel x y k hx hy hk =
         let one-more : y + 1 ≤ height = omega arith in
-        let short : 4 * (y * width + x) + k < length (packed stride width height canvas) = omega (arith, mul-le-mul-right width one-more, long) in
+        let short : 4 * (y * width + x) + k < length (packed stride width height canvas) =
+        omega (arith, mul-le-mul-right width one-more, long) in
         ap (λ (r : ℕ × List ℕ). getD (r .1) (4 * (y * width + x) + k) 0) answered
         ∙ List·getD-append (packed stride width height canvas) _ 0 (4 * (y * width + x) + k) short
         ∙ packed-byte stride width height canvas x y k
@@ -212,6 +244,37 @@ module _ (stride width height : ℕ) (canvas out : List ℕ) where
         ∙ getD-append-add (packed stride width height canvas) (drop size out) (k - size) 0
         ∙ getD-drop size out (k - size) 0
         ∙ ap (λ (i : ℕ). getD out i 0) back
+
+-- ---- the paths of the code: `t` is what the test of the picture told
+
+module _ (stride n width height : ℕ) {t : Bool} (told : t ≡ hasPicture stride n (areaOf width height)) (f : not t ≡ false) where
+  has : hasPicture stride n (areaOf width height) ≡ true
+  has = sym told ∙ not-false t f
+
+  pub path-columns : width ≤ stride
+  path-columns = has-columns stride n width height has
+
+  pub path-rows : height ≤ rowsOf n stride
+  path-rows = has-rows stride n width height has
+
+  pub path-room : 4 * (width * height) ≤ n
+  unfolding sizeOf
+  path-room = size-room n stride width height path-columns path-rows
+
+module _ (stride width height : ℕ) (canvas out : List ℕ) {t : Bool}
+    (told : t ≡ hasPicture stride (length canvas) (areaOf width height)) where
+  pub path-misfit : not t ≡ true → (12, out) ≡ copied stride (areaOf width height) canvas out
+  path-misfit f = copied-misfit stride width height canvas out (sym told ∙ not-true t f)
+
+  pub path-short : not t ≡ false → length out < 4 * (width * height) → (14, out) ≡ copied stride (areaOf width height) canvas out
+  path-short f h = copied-short stride width height canvas out (has stride (length canvas) width height told f) h
+
+  pub path-done : {out′ : List ℕ} → not t ≡ false → 4 * (width * height) ≤ length out
+      → out′ ≡ packed stride width height canvas ++ drop (sizeOf (areaOf width height)) out
+      → (0, out′) ≡ copied stride (areaOf width height) canvas out
+  path-done f h e = copied-done stride width height canvas out (has stride (length canvas) width height told f) h e
+
+pub ruleset copy-paths = (path-columns, path-rows, path-misfit, path-short, path-done)
 
 -- an answer is told by its number, so that one outcome is allowed
 pub numberOf-one : (a b : Copied) → numberOf a ≡ numberOf b → a ≡ b

@@ -12,7 +12,7 @@ use lib.Dec.{leb, ltb, lit<}
 use borrow.Author.Tests.{ltb-true, ltb-false, leb-true, lt-ltb, le-leb}
 use Rattle.canvas.specs.Picture.{span}
 use Rattle.canvas.specs.Paint.{painted}
-use Rattle.canvas.proofs.Bytes.{length-painted, getD-painted, painted-both}
+use Rattle.canvas.proofs.Bytes.{length-painted, getD-painted, painted-both, painted-none}
 
 -- ---- tests
 
@@ -95,7 +95,8 @@ by-four P zero h a b c d = a
 by-four P (suc zero) h a b c d = b
 by-four P (suc (suc zero)) h a b c d = c
 by-four P (suc (suc (suc zero))) h a b c d = d
-by-four P (suc (suc (suc (suc r)))) h a b c d = absurd (not-suc-le-zero (le-of-suc-le-suc (le-of-suc-le-suc (le-of-suc-le-suc (le-of-suc-le-suc h)))))
+by-four P (suc (suc (suc (suc r)))) h a b c d =
+    absurd (not-suc-le-zero (le-of-suc-le-suc (le-of-suc-le-suc (le-of-suc-le-suc (le-of-suc-le-suc h)))))
 
 -- at the pixel's own bytes
 stored-own : (l px : List ℕ) (i : ℕ) → i + 3 < length l → (r : ℕ) → r < 4 → getD (stored l px i) (i + r) 0 ≡ getD px r 0
@@ -147,7 +148,9 @@ pub span-more : (a p : ℕ) → a ≤ p → (q : ℕ) → span a (p + 1) q ≡ (
 span-more a p h q =
     same-test _ _
     (λ t.
-    split q p (λ lt. or-left (span a p q) (span p (p + 1) q) (span-in a p q (span-low a (p + 1) q t) lt)) (λ ge. or-right (span a p q) (span p (p + 1) q) (span-in p (p + 1) q ge (span-high a (p + 1) q t))))
+    split q p
+    (λ lt. or-left (span a p q) (span p (p + 1) q) (span-in a p q (span-low a (p + 1) q t) lt))
+    (λ ge. or-right (span a p q) (span p (p + 1) q) (span-in p (p + 1) q ge (span-high a (p + 1) q t))))
     (λ t.
     or-case (span a p q) (span p (p + 1) q) t
     (λ s. span-in a (p + 1) q (span-low a p q s) (omega (arith, span-high a p q s)))
@@ -158,3 +161,25 @@ pub stored-more : (l px : List ℕ) (a p : ℕ) → a ≤ p → 4 * p + 3 < leng
 stored-more l px a p h k =
     stored-painted (painted (span a p) px l) px p (rw (length-painted (span a p) px l) k)
     ∙ painted-both (span a p) (span p (p + 1)) (span a (p + 1)) px l (span-more a p h)
+
+-- ---- a span's pixels, one after the other
+
+module _ (from : ℕ) (px l : List ℕ) where
+  -- none yet
+  pub span-first : l ≡ painted (span from from) px l
+  span-first = sym (painted-none (span from from) px l (λ p. span-empty from from p (omega arith)))
+
+  -- one more, by four stores
+  pub span-next : {before : List ℕ} (p to : ℕ) → from ≤ p → p < to → 4 * to ≤ length l
+      → before ≡ painted (span from p) px l → stored before px (4 * p) ≡ painted (span from (p + 1)) px l
+  span-next p to h less room e =
+      let long : 4 * p + 3 < length l = omega arith in
+      ap (λ (m : List ℕ). stored m px (4 * p)) e ∙ stored-more l px from p h long
+
+  -- all of them
+  pub span-last : {after : List ℕ} (p to : ℕ) → p ≤ to → to ≤ p → after ≡ painted (span from p) px l → after ≡ painted (span from to) px l
+  span-last p to h k e =
+      let same : p ≡ to = omega arith in
+      e ∙ ap (λ (q : ℕ). painted (span from q) px l) same
+
+pub ruleset span-turns = (span-first, span-next, span-last)

@@ -4,14 +4,14 @@ use mathlib.Core.Path.{_≡_, sym, ap, _∙_}
 use mathlib.Core.Bool.{Bool, true, _&&_, _||_}
 use mathlib.Core.List.{List}
 use Prim.Native.Nat.{ℕ, _+_, _-_, _*_, _/_, _%_, _^_, _≤_, _<_}
-use native.Mathlib.Nat.{add-assoc, div-le-self, div-mul-le-self, mul-le-mul-right, div-div-eq-div-mul, pow-suc, div-add-mod'}
+use native.Mathlib.Nat.{add-assoc, div-le-self, div-mul-le-self, mul-le-mul-right, div-div-eq-div-mul, pow-suc, div-add-mod', div-one}
 use native.Mathlib.Numerals.{add-one}
 use native.Mathlib.Omega.{arith}
 use lib.Arith.{digits-div, digits-mod}
 use lib.Dec.{eqb}
 use borrow.Author.Tests.{eqb-true, eq-eqb}
-use Rattle.canvas.specs.Picture.{span, grid, bit, rowsOf}
-use Rattle.canvas.specs.Paint.{painted}
+use Rattle.canvas.specs.Picture.{span, grid, bit, inSixel, rowsOf}
+use Rattle.canvas.specs.Paint.{painted, sixelPainted}
 use Rattle.canvas.proofs.Bytes.{painted-both, painted-none, painted-same}
 use Rattle.canvas.proofs.Covers.{and-left, and-right, and-both, same-test, no-test, split, or-left, or-right, or-case, span-low, span-high, span-in}
 
@@ -39,7 +39,8 @@ module _ (stride y p : ℕ) (low : y * stride ≤ p) (high : p < y * stride + st
   column-of : p % stride ≡ p - y * stride
   column-of = ap (λ (n : ℕ). n % stride) apart ∙ digits-mod y below
 
-pub row-span : (stride left right y : ℕ) → right ≤ stride → (p : ℕ) → span (y * stride + left) (y * stride + right) p ≡ grid stride (inRow left right y) p
+pub row-span : (stride left right y : ℕ) → right ≤ stride → (p : ℕ)
+    → span (y * stride + left) (y * stride + right) p ≡ grid stride (inRow left right y) p
 unfolding grid inRow
 row-span stride left right y h p =
     same-test _ _
@@ -63,7 +64,8 @@ unfoldable pub firstRows : ℕ → ℕ → ℕ → ℕ → ℕ → ℕ → ℕ �
 firstRows k column row repeat bits x y = span column (column + repeat) x && (span row (row + k) y && bit bits (y - row))
 
 module _ (k column row repeat bits x y : ℕ) where
-  first-in : span column (column + repeat) x ≡ true → row ≤ y → y < row + k → bit bits (y - row) ≡ true → firstRows k column row repeat bits x y ≡ true
+  first-in : span column (column + repeat) x ≡ true → row ≤ y → y < row + k → bit bits (y - row) ≡ true
+      → firstRows k column row repeat bits x y ≡ true
   unfolding firstRows
   first-in s l h b = and-both s (and-both (span-in row (row + k) y l h) b)
 
@@ -86,7 +88,8 @@ module _ (k column row repeat bits x y : ℕ) where
     first-bit = and-right (span row (row + k) y) _ first-rest
 
 -- a row more keeps what there is
-first-more : (k column row repeat bits x y : ℕ) → firstRows k column row repeat bits x y ≡ true → firstRows (k + 1) column row repeat bits x y ≡ true
+first-more : (k column row repeat bits x y : ℕ) → firstRows k column row repeat bits x y ≡ true
+    → firstRows (k + 1) column row repeat bits x y ≡ true
 first-more k column row repeat bits x y t =
     first-in (k + 1) column row repeat bits x y
     (first-columns k column row repeat bits x y t)
@@ -103,7 +106,9 @@ bit-at bits row k y at =
 
 module _ (k column row repeat bits x y : ℕ) where
   -- where bit k is 1, one row more is the sixel's columns in that row more
-  rows-more : bits / 2 ^ k % 2 ≡ 1 → firstRows (k + 1) column row repeat bits x y ≡ (firstRows k column row repeat bits x y || inRow column (column + repeat) (row + k) x y)
+  rows-more : bits / 2 ^ k % 2 ≡ 1
+      → firstRows (k + 1) column row repeat bits x y
+      ≡ (firstRows k column row repeat bits x y || inRow column (column + repeat) (row + k) x y)
   unfolding inRow
   rows-more on =
       same-test _ _
@@ -140,7 +145,8 @@ rest-more bits k = div-div-eq-div-mul bits (2 ^ k) 2 ∙ ap (λ (m : ℕ). bits 
 
 -- a canvas with a sixel's first k rows painted: the next as a span, where its bit is 1
 pub sixel-more : (stride column row repeat bits rest k : ℕ) (px l : List ℕ) → rest ≡ bits / 2 ^ k → rest % 2 ≡ 1 → column + repeat ≤ stride
-    → painted (span ((row + k) * stride + column) ((row + k) * stride + column + repeat)) px (painted (grid stride (firstRows k column row repeat bits)) px l)
+    → painted (span ((row + k) * stride + column) ((row + k) * stride + column + repeat)) px
+    (painted (grid stride (firstRows k column row repeat bits)) px l)
     ≡ painted (grid stride (firstRows (k + 1) column row repeat bits)) px l
 unfolding grid
 sixel-more stride column row repeat bits rest k px l e on h =
@@ -153,7 +159,8 @@ sixel-more stride column row repeat bits rest k px l e on h =
 
 -- and nothing more, where it is not
 pub sixel-skip : (stride column row repeat bits rest k : ℕ) (px l : List ℕ) → rest ≡ bits / 2 ^ k → (rest % 2 ≡ 1 → ⊥)
-    → painted (grid stride (firstRows k column row repeat bits)) px l ≡ painted (grid stride (firstRows (k + 1) column row repeat bits)) px l
+    → painted (grid stride (firstRows k column row repeat bits)) px l
+    ≡ painted (grid stride (firstRows (k + 1) column row repeat bits)) px l
 unfolding grid
 sixel-skip stride column row repeat bits rest k px l e off =
     painted-same _ _ px l
@@ -167,7 +174,46 @@ sixel-none stride column row repeat bits px l =
     (λ p.
     no-test _
     (λ t.
-    omega (arith, first-low 0 column row repeat bits (p % stride) (p / stride) t, first-high 0 column row repeat bits (p % stride) (p / stride) t))))
+    let low = first-low 0 column row repeat bits (p % stride) (p / stride) t in
+    let high = first-high 0 column row repeat bits (p % stride) (p / stride) t in
+    omega (arith, low, high))))
+
+-- ---- a sixel's rows, one after the other
+
+module _ (stride column row repeat bits : ℕ) (px l : List ℕ) where
+  -- one row more, painted
+  pub sixel-on : {before after : List ℕ} (rest k : ℕ) → rest ≡ bits / 2 ^ k → rest % 2 ≡ 1 → column + repeat ≤ stride
+      → before ≡ painted (grid stride (firstRows k column row repeat bits)) px l
+      → after ≡ painted (span ((row + k) * stride + column) ((row + k) * stride + column + repeat)) px before
+      → after ≡ painted (grid stride (firstRows (k + 1) column row repeat bits)) px l
+  sixel-on rest k r on h e f =
+      f
+      ∙ ap (painted (span ((row + k) * stride + column) ((row + k) * stride + column + repeat)) px) e
+      ∙ sixel-more stride column row repeat bits rest k px l r on h
+
+  -- one row more, left as it is
+  pub sixel-off : {before : List ℕ} (rest k : ℕ) → rest ≡ bits / 2 ^ k → (rest % 2 ≡ 1 → ⊥)
+      → before ≡ painted (grid stride (firstRows k column row repeat bits)) px l
+      → before ≡ painted (grid stride (firstRows (k + 1) column row repeat bits)) px l
+  sixel-off rest k r off e = e ∙ sixel-skip stride column row repeat bits rest k px l r off
+
+  -- all six of them
+  pub sixel-last : {after : List ℕ} (k : ℕ) → k ≤ 6 → 6 ≤ k
+      → after ≡ painted (grid stride (firstRows k column row repeat bits)) px l
+      → after ≡ sixelPainted stride column row repeat bits px l
+  unfolding sixelPainted inSixel firstRows
+  sixel-last k h g e =
+      let same : k ≡ 6 = omega arith in
+      e ∙ ap (λ (n : ℕ). painted (grid stride (firstRows n column row repeat bits)) px l) same
+
+-- the bits that are left: all at first, and half of them after a row
+pub rest-first : (bits : ℕ) → bits ≡ bits / 2 ^ 0
+rest-first bits = sym (div-one bits)
+
+pub rest-next : (bits rest k : ℕ) → rest ≡ bits / 2 ^ k → rest / 2 ≡ bits / 2 ^ (k + 1)
+rest-next bits rest k e = ap (λ (n : ℕ). n / 2) e ∙ rest-more bits k
+
+pub ruleset sixel-turns = (sixel-none, sixel-on, sixel-off, sixel-last, rest-first, rest-next)
 
 -- the sixel's columns in one of its rows lie on the canvas
 pub sixel-room : (n stride column row repeat k : ℕ) → column + repeat ≤ stride → row + 6 ≤ rowsOf n stride → k < 6

@@ -1,6 +1,6 @@
 -- Laws of rectangles and of growth: row by row, and the new pixels of a larger area as two rectangles.
 -- Assumes nothing.
-use mathlib.Core.Path.{_≡_, sym, ap, _∙_}
+use mathlib.Core.Path.{_≡_, sym, ap, _∙_, subst}
 use mathlib.Core.Bool.{Bool, true, false, not, _&&_, _||_, true≢false, and-or-distrib-left}
 use mathlib.Core.List.{List}
 use Prim.Native.Nat.{ℕ, _+_, _*_, _/_, _%_, _≤_, _<_, zero-le}
@@ -16,6 +16,7 @@ use Rattle.canvas.proofs.Grid.{inRow, row-span, rows-room}
 
 -- ---- rectangles
 
+-- a span of one row is that row
 one-row : (y v : ℕ) → span y (y + 1) v ≡ eqb v y
 one-row y v =
     same-test _ _
@@ -49,7 +50,8 @@ pub rectangle-rows : (left right top bottom x y : ℕ) → rectangle left right 
 unfolding rectangle
 rectangle-rows left right top bottom x y t = and-right (span left right x) _ t
 
-pub rectangle-in : (left right top bottom x y : ℕ) → left ≤ x → x < right → top ≤ y → y < bottom → rectangle left right top bottom x y ≡ true
+pub rectangle-in : (left right top bottom x y : ℕ) → left ≤ x → x < right → top ≤ y → y < bottom
+    → rectangle left right top bottom x y ≡ true
 unfolding rectangle
 rectangle-in left right top bottom x y a b c d = and-both (span-in left right x a b) (span-in top bottom y c d)
 
@@ -64,7 +66,42 @@ rectangle-none stride left right top bottom px l none =
     (λ t.
     let columns = rectangle-columns left right top bottom (p % stride) (p / stride) t in
     let rows = rectangle-rows left right top bottom (p % stride) (p / stride) t in
-    none (p % stride) (p / stride) (span-low left right _ columns) (span-high left right _ columns) (span-low top bottom _ rows) (span-high top bottom _ rows))))
+    none (p % stride) (p / stride)
+    (span-low left right _ columns) (span-high left right _ columns)
+    (span-low top bottom _ rows) (span-high top bottom _ rows))))
+
+-- ---- a rectangle's rows, one after the other
+
+module _ (stride left right top : ℕ) (px l : List ℕ) where
+  -- no columns
+  pub rectangle-narrow : (bottom : ℕ) → left ≡ right → l ≡ painted (grid stride (rectangle left right top bottom)) px l
+  rectangle-narrow bottom e = rectangle-none stride left right top bottom px l (λ x y a b c d. omega arith)
+
+  -- no rows yet
+  pub rectangle-first : l ≡ painted (grid stride (rectangle left right top top)) px l
+  rectangle-first = rectangle-none stride left right top top px l (λ x y a b c d. omega arith)
+
+  -- one row more
+  pub rectangle-next : {before after : List ℕ} (y : ℕ) → right ≤ stride → top ≤ y
+      → before ≡ painted (grid stride (rectangle left right top y)) px l
+      → after ≡ painted (span (y * stride + left) (y * stride + right)) px before
+      → after ≡ painted (grid stride (rectangle left right top (y + 1))) px l
+  rectangle-next y h k e f =
+      f ∙ ap (painted (span (y * stride + left) (y * stride + right)) px) e ∙ rectangle-more stride left right top y px l h k
+
+  -- all of them
+  pub rectangle-last : {after : List ℕ} (y bottom : ℕ) → y ≤ bottom → bottom ≤ y
+      → after ≡ painted (grid stride (rectangle left right top y)) px l
+      → after ≡ painted (grid stride (rectangle left right top bottom)) px l
+  rectangle-last y bottom h k e =
+      let same : y ≡ bottom = omega arith in
+      e ∙ ap (λ (n : ℕ). painted (grid stride (rectangle left right top n)) px l) same
+
+pub ruleset rectangle-turns = (rectangle-narrow, rectangle-first, rectangle-next, rectangle-last)
+
+-- a canvas as long has as many rows
+pub rows-kept : {n m : ℕ} (stride height : ℕ) → n ≡ m → height ≤ rowsOf m stride → height ≤ rowsOf n stride
+rows-kept stride height e h = subst (λ (k : ℕ). height ≤ rowsOf k stride) (sym e) h
 
 -- a row of a rectangle lies on the canvas
 pub rectangle-room : (n stride right bottom y : ℕ) → right ≤ stride → bottom ≤ rowsOf n stride → y < bottom → 4 * (y * stride + right) ≤ n

@@ -17,18 +17,22 @@ use Rattle.canvas.proofs.Covers.{same-test, no-test, by-test, or-left, 
 use Rattle.canvas.proofs.Growth.{rectangle-room, fits-columns, fits-rows, visible-column, visible-row, visible-in, fresh-in, fresh-new, fresh-old}
 use Rattle.canvas.proofs.Strokes.{Within, covers-visible, colour-more, colour-outside, blank-covers, reach-within, reach-inside}
 
-pub length-picture : (stride : ℕ) (area : Area) (background : List ℕ) (ss : List Stroke) (opening : List ℕ) → length (picture stride area background ss opening) ≡ length opening
+-- a picture is as long as the canvas that was lent
+pub length-picture : (stride : ℕ) (area : Area) (background : List ℕ) (ss : List Stroke) (opening : List ℕ)
+    → length (picture stride area background ss opening) ≡ length opening
 unfolding picture
 length-picture stride area background ss opening = length-replaced 0 _ opening
 
 -- byte k of a picture
-pub picture-byte : (stride : ℕ) (area : Area) (background : List ℕ) (ss : List Stroke) (opening : List ℕ) (k : ℕ) → k < length opening
+pub picture-byte : (stride : ℕ) (area : Area) (background : List ℕ) (ss : List Stroke) (opening : List ℕ) (k : ℕ)
+    → k < length opening
     → getD (picture stride area background ss opening) k 0
     ≡ cond (grid stride (visible area) (k / 4)) (getD (grid stride (shownColour background ss) (k / 4)) (k % 4) 0) (getD opening k 0)
 unfolding picture
 picture-byte stride area background ss opening k h =
+    let shown : ℕ → ℕ = λ n. getD (grid stride (shownColour background ss) (n / 4)) (n % 4) 0 in
     getD-replaced 0 _ opening k h
-    ∙ ap (λ (n : ℕ). cond (grid stride (visible area) (n / 4)) (getD (grid stride (shownColour background ss) (n / 4)) (n % 4) 0) (getD opening k 0)) (zero-add k)
+    ∙ ap (λ (n : ℕ). cond (grid stride (visible area) (n / 4)) (shown n) (getD opening k 0)) (zero-add k)
 
 -- byte c of the visible pixel (x, y) is byte c of what is shown there
 pub picture-pixel : (stride : ℕ) (area : Area) (background : List ℕ) (ss : List Stroke) (opening : List ℕ) (x y c : ℕ)
@@ -39,7 +43,9 @@ picture-pixel stride area background ss opening x y c f t h =
     let columns : area .width ≤ stride = fits-columns stride (length opening) area f in
     let left : x < area .width = visible-column area x y t in
     let on : 4 * (y * stride + area .width) ≤ length opening =
-    rectangle-room (length opening) stride (area .width) (area .height) y columns (fits-rows stride (length opening) area f) (visible-row area x y t) in
+    rectangle-room (length opening) stride (area .width) (area .height) y columns
+    (fits-rows stride (length opening) area f)
+    (visible-row area x y t) in
     let k : ℕ = 4 * (y * stride + x) + c in
     let short : x < stride = omega arith in
     let pixel : k / 4 ≡ y * stride + x = omega arith in
@@ -52,6 +58,7 @@ picture-pixel stride area background ss opening x y c f t h =
 
 -- ---- one stroke more
 
+-- one byte: the stroke's colour where it covers, which is a visible pixel, and else what was shown
 over : (c v : Bool) (b r : ℕ) (colour shown shown′ : List ℕ) → (c ≡ true → v ≡ true) → shown′ ≡ cond c colour shown
     → cond c (getD colour r 0) (cond v (getD shown r 0) b) ≡ cond v (getD shown′ r 0) b
 over true true b r colour shown shown′ h e = rw e
@@ -59,7 +66,9 @@ over true false b r colour shown shown′ h e = absurd (true≢false (sym (h ref
 over false true b r colour shown shown′ h e = rw e
 over false false b r colour shown shown′ h e = refl
 
-pub picture-stroke : (stride : ℕ) (area : Area) (background : List ℕ) (ss : List Stroke) (opening : List ℕ) (s : Stroke) → inside area s ≡ true
+-- painting a stroke that lies in the area is adding it to the picture as the last
+pub picture-stroke : (stride : ℕ) (area : Area) (background : List ℕ) (ss : List Stroke) (opening : List ℕ) (s : Stroke)
+    → inside area s ≡ true
     → stroked stride s (picture stride area background ss opening) ≡ picture stride area background (ss ++ s ∷ []) opening
 unfolding stroked painted picture grid
 picture-stroke stride area background ss opening s i =
@@ -74,6 +83,7 @@ picture-stroke stride area background ss opening s i =
 
 -- ---- a larger area
 
+-- one byte: the background where a pixel is new, since no stroke was shown there, and else what was shown
 under : (f o n : Bool) (b r : ℕ) (background shown : List ℕ) → f ≡ (n && not o) → (o ≡ true → n ≡ true) → (o ≡ false → shown ≡ background)
     → cond f (getD background r 0) (cond o (getD shown r 0) b) ≡ cond n (getD shown r 0) b
 under f true true b r background shown e h g = rw e
@@ -85,7 +95,9 @@ visible-within : (old new : Area) → Within old new → (x y : ℕ) → visible
 visible-within old new w x y t =
     visible-in new x y (omega (arith, visible-column old x y t)) (omega (arith, visible-row old x y t))
 
-pub picture-grown : (stride : ℕ) (old new : Area) (background : List ℕ) (ss : List Stroke) (opening : List ℕ) → Within old new → allInside old ss ≡ true
+-- giving the new pixels the background is having the same strokes on the larger area
+pub picture-grown : (stride : ℕ) (old new : Area) (background : List ℕ) (ss : List Stroke) (opening : List ℕ)
+    → Within old new → allInside old ss ≡ true
     → grown stride old new background (picture stride old background ss opening) ≡ picture stride new background ss opening
 unfolding grown painted picture grid fresh
 picture-grown stride old new background ss opening w t =
@@ -100,7 +112,8 @@ picture-grown stride old new background ss opening w t =
     (colour-outside old background ss x y t))
 
 -- the first pixel alone
-pub picture-opened : (stride : ℕ) (background opening : List ℕ) → painted (span 0 1) background opening ≡ picture stride (areaOf 1 1) background [] opening
+pub picture-opened : (stride : ℕ) (background opening : List ℕ)
+    → painted (span 0 1) background opening ≡ picture stride (areaOf 1 1) background [] opening
 unfolding painted picture grid shownColour colourAt lastStroke
 picture-opened stride background opening =
     replaced-same _ _ opening (λ k b. ap (λ (t : Bool). cond t (getD background (k % 4) 0) b) (corner (k / 4)))
@@ -108,7 +121,10 @@ picture-opened stride background opening =
     corner : (p : ℕ) → span 0 1 p ≡ visible (areaOf 1 1) (p % stride) (p / stride)
     corner p =
         same-test _ _
-        (λ t. visible-in (areaOf 1 1) (p % stride) (p / stride) (omega (arith, span-high 0 1 p t, mod-le p stride)) (omega (arith, span-high 0 1 p t, div-le-self p stride)))
+        (λ t.
+        visible-in (areaOf 1 1) (p % stride) (p / stride)
+        (omega (arith, span-high 0 1 p t, mod-le p stride))
+        (omega (arith, span-high 0 1 p t, div-le-self p stride)))
         (λ t.
         let row : p / stride ≡ 0 = omega (arith, visible-row (areaOf 1 1) (p % stride) (p / stride) t) in
         let start : p / stride * stride ≡ 0 * stride = ap (λ (n : ℕ). n * stride) row in
@@ -156,10 +172,12 @@ grown-none stride area background l =
 within-trans : (a b c : Area) → Within a b → Within b c → Within a c
 within-trans a b c v w = record { columns = omega arith; rows = omega arith }
 
+-- what reaches all of the strokes has the area in it
 pub reach-all-within : (area : Area) (ss : List Stroke) → Within area (reachAll area ss)
 unfolding reachAll
 reach-all-within area [] = record { columns = le-refl _; rows = le-refl _ }
-reach-all-within area (s ∷ ss) = within-trans area (reach area s) (reachAll (reach area s) ss) (reach-within area s) (reach-all-within (reach area s) ss)
+reach-all-within area (s ∷ ss) =
+    within-trans area (reach area s) (reachAll (reach area s) ss) (reach-within area s) (reach-all-within (reach area s) ss)
 
 -- growing once for several strokes is growing for each
 pub grown-once : (stride : ℕ) (area : Area) (background : List ℕ) (ss : List Stroke) (l : List ℕ)
@@ -176,10 +194,7 @@ grown-once stride area background (s ∷ ss) l =
 
 -- ---- a blank stroke
 
-pub stroked-blank : (stride : ℕ) (s : Stroke) (l : List ℕ) → s .bits ≡ 0 → stroked stride s l ≡ l
-unfolding stroked grid
-stroked-blank stride s l e = painted-none _ (s .colour) l (λ p. blank-covers s e (p % stride) (p / stride))
-
+-- a stroke with no bit changes no picture
 pub picture-blank : (stride : ℕ) (area : Area) (background : List ℕ) (ss : List Stroke) (opening : List ℕ) (s : Stroke) → s .bits ≡ 0
     → picture stride area background (ss ++ s ∷ []) opening ≡ picture stride area background ss opening
 unfolding picture grid

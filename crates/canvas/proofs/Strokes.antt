@@ -43,23 +43,6 @@ pub record Within (old new : Area) : Type 0 where
   pub columns : old .width ≤ new .width
   pub rows : old .height ≤ new .height
 
-pub inside-within : (old new : Area) (s : Stroke) → Within old new → inside old s ≡ true → inside new s ≡ true
-inside-within old new s w i =
-    inside-in new s
-    (omega (arith, inside-column old s i))
-    (omega (arith, inside-row old s i))
-
-pub all-within : (old new : Area) (ss : List Stroke) → Within old new → allInside old ss ≡ true → allInside new ss ≡ true
-unfolding allInside
-all-within old new [] w t = refl
-all-within old new (s ∷ ss) w t =
-    and-both (inside-within old new s w (and-left _ _ t)) (all-within old new ss w (and-right (inside old s) _ t))
-
-pub all-more : (area : Area) (ss : List Stroke) (s : Stroke) → allInside area ss ≡ true → inside area s ≡ true → allInside area (ss ++ s ∷ []) ≡ true
-unfolding allInside
-all-more area [] s t i = and-both i refl
-all-more area (a ∷ ss) s t i = and-both {a = inside area a} (and-left (inside area a) _ t) (all-more area ss s (and-right (inside area a) _ t) i)
-
 pub grown-within : (area : Area) (w h : ℕ) → Within area (grownTo area w h)
 unfolding grownTo
 grown-within area w h = record { columns = omega arith; rows = omega arith }
@@ -74,7 +57,8 @@ reach-inside area s = inside-in (reach area s) s (omega arith) (omega arith)
 
 -- ---- the last stroke
 
-pub last-more : (ss : List Stroke) (s : Stroke) (x y : ℕ) → lastStroke (ss ++ s ∷ []) x y ≡ cond (covers s x y) (some (length ss)) (lastStroke ss x y)
+pub last-more : (ss : List Stroke) (s : Stroke) (x y : ℕ)
+    → lastStroke (ss ++ s ∷ []) x y ≡ cond (covers s x y) (some (length ss)) (lastStroke ss x y)
 unfolding lastStroke orHere
 last-more [] s x y = by-test (covers s x y) (λ t. rw t) (λ t. rw t)
 last-more (a ∷ ss) s x y =
@@ -153,6 +137,7 @@ unfolding covers inSixel bit
 blank-covers s e x y =
     no-test _
     (λ t.
-    let one-bit : s .bits / 2 ^ (y - s .row) % 2 ≡ 1 = eqb-true _ _ (and-right (span (s .row) (s .row + 6) y) _ (and-right (span (s .column) (s .column + s .repeat) x) _ t)) in
+    let in-rows = and-right (span (s .column) (s .column + s .repeat) x) _ t in
+    let one-bit : s .bits / 2 ^ (y - s .row) % 2 ≡ 1 = eqb-true _ _ (and-right (span (s .row) (s .row + 6) y) _ in-rows) in
     let no-bit : s .bits / 2 ^ (y - s .row) ≡ 0 = ap (λ (b : ℕ). b / 2 ^ (y - s .row)) e ∙ zero-div _ in
     omega arith)

@@ -9,8 +9,8 @@ use mathlib.Core.List.{List, [], _∷_, map}
 use lib.ListN.{getD}
 use lib.Dec.{leb, ltb, eqb}
 
--- rule 3.9: one sixel's mark: its repeat's columns from `column`, six rows from `row`, the six bits, a pixel of four bytes, and the register that the
--- pixel came from
+-- rule 3.9: one sixel's mark: its repeat's columns from `column`, six rows from `row`, the six bits, a pixel of four bytes, and the
+-- register that the pixel came from
 pub record Stroke : Type 0 where
   pub column : ℕ
   pub row : ℕ

@@ -51,23 +51,34 @@ pub packs : {color red green blue : ℕ} (r g b : ℤ) → SFits w32 r → SFits
 packs r g b fr fg fb er eg eb ec = ec ∙ rw (er, eg, eb, toZ-ofZ w32 r fr, toZ-ofZ w32 g fg, toZ-ofZ w32 b fb)
 
 -- storing what three percents pack to is setting by them
-pub sets-rgb : (p : Palette) (n color red green blue : ℕ) (r g b : ℤ) → SFits w32 r → SFits w32 g → SFits w32 b
+pub sets-rgb : {q : Palette} (p : Palette) (n color red green blue : ℕ) (r g b : ℤ) → SFits w32 r → SFits w32 g → SFits w32 b
     → red ≡ percentByte (passed r) → green ≡ percentByte (passed g) → blue ≡ percentByte (passed b) → color ≡ packed red green blue
-    → stored p n color ≡ setRgb p n r g b
+    → q ≡ stored p n color → q ≡ setRgb p n r g b
 unfolding setRgb
-sets-rgb p n color red green blue r g b fr fg fb er eg eb ec = ap (stored p n) (packs r g b fr fg fb er eg eb ec)
+sets-rgb p n color red green blue r g b fr fg fb er eg eb ec e = e ∙ ap (stored p n) (packs r g b fr fg fb er eg eb ec)
 
 -- storing what the three bytes of HLS pack to is setting by it
-pub sets-hls : (p : Palette) (n color : ℕ) (rgb : List ℕ) (h l s : ℤ) → SFits w32 h → SFits w32 l → SFits w32 s
+pub sets-hls : {q : Palette} (p : Palette) (n color : ℕ) (rgb : List ℕ) (h l s : ℤ) → SFits w32 h → SFits w32 l → SFits w32 s
     → rgb ≡ hlsBytes (passed h) (passed l) (passed s) → color ≡ packed (getD rgb 0 0) (getD rgb 1 0) (getD rgb 2 0)
-    → stored p n color ≡ setHls p n h l s
+    → q ≡ stored p n color → q ≡ setHls p n h l s
 unfolding setHls packedBytes
-sets-hls p n color rgb h l s fh fl fs er ec =
-    rw (ec, er, toZ-ofZ w32 h fh, toZ-ofZ w32 l fl, toZ-ofZ w32 s fs)
+sets-hls p n color rgb h l s fh fl fs er ec e =
+    e ∙ rw (ec, er, toZ-ofZ w32 h fh, toZ-ofZ w32 l fl, toZ-ofZ w32 s fs)
 
 -- a palette's table taken out, set and put back is the palette set
-pub put-back : (f : Palette → ℤ → ℤ → ℤ → Palette) {p taken after q : Palette} {x y z : ℤ} → SFits w32 x → SFits w32 y → SFits w32 z
+put-back : (f : Palette → ℤ → ℤ → ℤ → Palette) {p taken after q : Palette} {x y z : ℤ} → SFits w32 x → SFits w32 y → SFits w32 z
     → taken ≡ p → after ≡ f taken (passed x) (passed y) (passed z) → q ≡ after
     → q ≡ f p x y z
 put-back f {x = x} {y = y} {z = z} fx fy fz et ea eq =
     eq ∙ ea ∙ rw (et, toZ-ofZ w32 x fx, toZ-ofZ w32 y fy, toZ-ofZ w32 z fz)
+
+-- so for a register set by three percents, and for one set by HLS
+pub put-back-rgb : {p taken after q : Palette} (n : ℕ) {r g b : ℤ} → SFits w32 r → SFits w32 g → SFits w32 b
+    → taken ≡ p → after ≡ setRgb taken n (passed r) (passed g) (passed b) → q ≡ after
+    → q ≡ setRgb p n r g b
+put-back-rgb n = put-back (λ p. setRgb p n)
+
+pub put-back-hls : {p taken after q : Palette} (n : ℕ) {h l s : ℤ} → SFits w32 h → SFits w32 l → SFits w32 s
+    → taken ≡ p → after ≡ setHls taken n (passed h) (passed l) (passed s) → q ≡ after
+    → q ≡ setHls p n h l s
+put-back-hls n = put-back (λ p. setHls p n)

@@ -20,7 +20,8 @@ packs-percents r g b hr hg hb er eg eb ec =
     packs (pos r) (pos g) (pos b) (record { sfits = hr }) (record { sfits = hg }) (record { sfits = hb }) er eg eb ec
 
 -- a colour of the cube, and a grey, by what its percents come to
-pub is-cube : (k r g b : ℕ) {color : ℕ} → color ≡ percents r g b → r ≡ 20 * (k / 36) → g ≡ 20 * (k / 6 % 6) → b ≡ 20 * (k % 6) → color ≡ cube k
+pub is-cube : (k r g b : ℕ) {color : ℕ} → color ≡ percents r g b → r ≡ 20 * (k / 36) → g ≡ 20 * (k / 6 % 6) → b ≡ 20 * (k % 6)
+    → color ≡ cube k
 unfolding cube
 is-cube k r g b e er eg eb = e ∙ rw (er, eg, eb)
 

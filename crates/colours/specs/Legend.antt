@@ -13,7 +13,8 @@ greyPixel percent =
     let channel = percentByte (pos percent) in
     channel ∷ channel ∷ channel ∷ 255 ∷ []
 
--- rule 9.7: two pixels are greys, the second lighter by 4 or 5 percent. Up to 100 no two percents have one byte, so that `within` leaves no choice
+-- rule 9.7: two pixels are greys, the second lighter by 4 or 5 percent. Up to 100 no two percents have one byte, so that `within`
+-- leaves no choice
 pub record EvenStep (px next : List ℕ) : Type 0 where
   pub percent : ℕ
   pub step : ℕ

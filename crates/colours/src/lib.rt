@@ -1,5 +1,5 @@
-// The palette (docs/RULES.md, section 9): 256 registers, each a colour packed into one number, read as pixels and set by percents or by HLS.
-// A caller lends a palette's table in a loop, and takes it out and puts it back around that.
+// The palette (docs/RULES.md, section 9): 256 registers, each a colour packed into one number, read as pixels and set by percents
+// or by HLS. A caller lends a palette's table in a loop, and takes it out and puts it back around that.
 mod standard;
 
 ghost use mathlib.Core.Path.{_≡_};

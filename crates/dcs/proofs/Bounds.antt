@@ -9,24 +9,23 @@ use Rattle.frame.specs.declared.Ground.{Ground}
 use Rattle.frame.specs.declared.Outcome.{Outcome}
 use Rattle.frame.specs.declared.Outcome.the-variants as outcomes
 use Rattle.frame.specs.declared.Progress.{Progress}
-use Rattle.bytewise.specs.Step.{Turned}
-use Rattle.bytewise.specs.Feed.{byteStep, Reached, reachedAs, goOn, feedFrom}
+use Rattle.reference.specs.Step.{Reached}
+use Rattle.reference.specs.Feed.{byteStep, reachedAs, goOn, feedFrom}
 use Rattle.payload.specs.declared.Answer.{Answer}
 use Rattle.payload.specs.declared.Answer.the-variants as answers
 use Rattle.payload.specs.declared.Life.{Life}
 use Rattle.payload.specs.declared.Life.the-variants as lives
 use Rattle.payload.specs.declared.Session.{Session}
-use Rattle.payload.specs.declared.judge.Judged.{Judged}
-use Rattle.payload.specs.declared.judge.Judged.the-variants as judged
-use Rattle.payload.specs.Judge.{feedJudged}
+use Rattle.payload.specs.declared.refusals.Verdict.{Verdict}
+use Rattle.payload.specs.declared.refusals.Verdict.the-variants as judged
+use Rattle.payload.specs.Refusals.{feedJudged}
 use Rattle.payload.specs.Session.{answeredIn, answeredBy, fedLive, fedIn, fedAs, fedBy}
 
-go-bound : (o : Outcome) (t : Turned) (n i m : ℕ) (later : ℕ → ℕ → Frame → Palette → List ℕ → Reached)
+go-bound : (o : Outcome) (t : Reached) (n i m : ℕ) (later : ℕ → ℕ → Frame → Palette → List ℕ → Reached)
     → ((i : ℕ) (f : Frame) (p : Palette) (l : List ℕ) → later (n + 1) i f p l .progress .consumed ≤ n + 1 + m)
     → goOn o t n i later .progress .consumed ≤ n + suc m
 unfolding goOn reachedAs
-go-bound outcomes.Read t n i m later k = omega (arith, k (i + t .stepped .ink) (t .stepped .frame) (t .palette) (t .canvas))
-go-bound outcomes.Settled t n i m later k = omega arith
+go-bound outcomes.Read t n i m later k = omega (arith, k (i + t .progress .ink) (t .progress .frame) (t .palette) (t .canvas))
 go-bound outcomes.Stopped t n i m later k = omega arith
 go-bound (outcomes.Ended b) t n i m later k = omega arith
 go-bound (outcomes.Refused r) t n i m later k = omega arith
@@ -36,7 +35,7 @@ reached-bound : (g : Ground) (allowance : ℕ) (bs : List ℕ) (n i : ℕ) (f : 
 unfolding feedFrom reachedAs
 reached-bound g allowance [] n i f p l = omega arith
 reached-bound g allowance (b ∷ bs) n i f p l =
-    go-bound (byteStep f g b (allowance - i) p l .stepped .outcome) (byteStep f g b (allowance - i) p l) n i (length bs)
+    go-bound (byteStep f g b (allowance - i) p l .progress .outcome) (byteStep f g b (allowance - i) p l) n i (length bs)
     (λ n′ i′ f′ p′ l′. feedFrom g allowance bs n′ i′ f′ p′ l′) (λ i′ f′ p′ l′. reached-bound g allowance bs (n + 1) i′ f′ p′ l′)
 
 -- an answer's count is at most this
@@ -49,7 +48,6 @@ AtMost m (answers.Refused r) = Unit
 answered-bound : (m : ℕ) (o : Outcome) (s : Session) (r : Progress) (p : Palette) → r .consumed ≤ m → AtMost m (answeredIn o s r p .answer)
 unfolding answeredIn
 answered-bound m outcomes.Read s r p h = h
-answered-bound m outcomes.Settled s r p h = h
 answered-bound m outcomes.Stopped s r p h = h
 answered-bound m (outcomes.Ended b) s r p h = h
 answered-bound m (outcomes.Refused n) s r p h = tt
@@ -68,7 +66,7 @@ module _ (s : Session) (canvas bs : List ℕ) (allowance : ℕ) where
   in-bound (lives.Ended b) = omega arith
   in-bound lives.Failed = live-bound
 
-  as-bound : (j : Judged) → AtMost (length bs) (fedAs j s canvas bs allowance .0 .answer)
+  as-bound : (j : Verdict) → AtMost (length bs) (fedAs j s canvas bs allowance .0 .answer)
   unfolding fedAs
   as-bound judged.Fine = in-bound (s .life)
   as-bound (judged.Refused n) = tt

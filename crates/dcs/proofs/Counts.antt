@@ -9,10 +9,10 @@ use Rattle.payload.specs.declared.Answer as payloadAnswer
 use Rattle.payload.specs.declared.Answer.the-variants as payloadAnswers
 use Rattle.payload.specs.declared.Fed as payloadFed
 use Rattle.payload.specs.declared.Session as payloadSession
-use Rattle.payload.specs.declared.judge.Judged.{Judged}
-use Rattle.payload.specs.declared.judge.Judged.the-variants as judged
-use Rattle.payload.specs.Begin.{begunBy}
-use Rattle.payload.specs.Judge.{feedJudged}
+use Rattle.payload.specs.declared.refusals.Verdict.{Verdict}
+use Rattle.payload.specs.declared.refusals.Verdict.the-variants as judged
+use Rattle.payload.specs.Deferred.{begunBy}
+use Rattle.payload.specs.Refusals.{feedJudged}
 use Rattle.payload.specs.Session as payload
 use Rattle.dcs.specs.declared.Answer.{Answer}
 use Rattle.dcs.specs.declared.Answer.the-variants as answers
@@ -45,15 +45,19 @@ module _ (m : ℕ) where
   escaped-within : (s : Session) (bs : List ℕ) (n i : ℕ) → n + length bs ≤ m → Within m (escapedBy s bs n i .answer)
   unfolding escapedBy overAs
   escaped-within s [] n i h = omega arith
-  escaped-within s (b ∷ bs) n i h = either m (eqb b 0x5C) (overAs s (n + 1) i endings.Complete) (overAs s n i (endings.Interrupted 0x1B)) (omega arith) (omega arith)
+  escaped-within s (b ∷ bs) n i h =
+      either m (eqb b 0x5C) (overAs s (n + 1) i endings.Complete) (overAs s n i (endings.Interrupted 0x1B)) (omega arith) (omega arith)
 
   closed-within : (s : Session) (bs : List ℕ) (n i : ℕ) → n + length bs ≤ m → Within m (closedBy s bs n i .answer)
   unfolding closedBy overAs
   closed-within s [] n i h = omega arith
   closed-within s (b ∷ bs) n i h =
-      let other : Fed = cond (eqb b 0x18 || eqb b 0x1A) (overAs s (n + 1) i (endings.Cancelled b)) (overAs s n i (endings.Interrupted b)) in
-      let last : Within m (other .answer) = either m (eqb b 0x18 || eqb b 0x1A) (overAs s (n + 1) i (endings.Cancelled b)) (overAs s n i (endings.Interrupted b)) (omega arith) (omega arith) in
-      either m (eqb b 0x1B) (escapedBy s bs (n + 1) i) (cond (eqb b 0x9C) (overAs s (n + 1) i endings.Complete) other) (escaped-within s bs (n + 1) i (omega arith))
+      let cancelled : Fed = overAs s (n + 1) i (endings.Cancelled b) in
+      let interrupted : Fed = overAs s n i (endings.Interrupted b) in
+      let other : Fed = cond (eqb b 0x18 || eqb b 0x1A) cancelled interrupted in
+      let last : Within m (other .answer) = either m (eqb b 0x18 || eqb b 0x1A) cancelled interrupted (omega arith) (omega arith) in
+      either m (eqb b 0x1B) (escapedBy s bs (n + 1) i) (cond (eqb b 0x9C) (overAs s (n + 1) i endings.Complete) other)
+      (escaped-within s bs (n + 1) i (omega arith))
       (either m (eqb b 0x9C) (overAs s (n + 1) i endings.Complete) other (omega arith) last)
 
   passed-within : (a : payloadAnswer.Answer) (s : Session) (bs : List ℕ) (n : ℕ) → AtMost (length bs) a → n + length bs ≤ m
@@ -64,7 +68,8 @@ module _ (m : ℕ) where
   passed-within (payloadAnswers.Ended c i b) s bs n k h = closed-within s (drop c bs) (n + c) i (omega (arith, length-drop c bs))
   passed-within (payloadAnswers.Refused r) s bs n k h = tt
 
-  payload-within : (s : Session) (canvas bs : List ℕ) (n allowance : ℕ) → n + length bs ≤ m → Within m (fedPayload s canvas bs n allowance .0 .answer)
+  payload-within : (s : Session) (canvas bs : List ℕ) (n allowance : ℕ) → n + length bs ≤ m
+      → Within m (fedPayload s canvas bs n allowance .0 .answer)
   unfolding fedPayload
   payload-within s canvas bs n allowance h =
       let r : payloadFed.Fed × List ℕ = payload.fedBy (s .payload) canvas bs allowance in
@@ -76,7 +81,8 @@ module _ (m : ℕ) where
   led-within leds.On l s canvas bs allowance k h = omega arith
   led-within leds.Begins l s canvas bs allowance k h =
       let b : payloadSession.Session × List ℕ = begunBy (s .payload) (settingsFrom (l .header)) canvas in
-      payload-within (sessionOf (b .0) (l .header) phases.Within) (b .1) (drop (l .consumed) bs) (l .consumed) allowance (omega (arith, length-drop (l .consumed) bs))
+      payload-within (sessionOf (b .0) (l .header) phases.Within) (b .1) (drop (l .consumed) bs) (l .consumed) allowance
+      (omega (arith, length-drop (l .consumed) bs))
   led-within (leds.Refused r) l s canvas bs allowance k h = tt
 
 module _ (s : Session) (canvas bs : List ℕ) (allowance : ℕ) where
@@ -89,7 +95,7 @@ module _ (s : Session) (canvas bs : List ℕ) (allowance : ℕ) where
   in-within phases.Escaped = escaped-within (length bs) s bs 0 0 (omega arith)
   in-within (phases.Over e) = omega arith
 
-  as-within : (j : Judged) → Within (length bs) (fedAs j s canvas bs allowance .0 .answer)
+  as-within : (j : Verdict) → Within (length bs) (fedAs j s canvas bs allowance .0 .answer)
   unfolding fedAs
   as-within judged.Fine = in-within (s .phase)
   as-within (judged.Refused n) = tt

@@ -1,4 +1,5 @@
--- Any calls of the code, the canvas given back each time as it was left, are the definition's; and so demands 2 and 3 hold of the code.
+-- Any calls of the code, the canvas given back each time as it was left, are the definition's; and so demands 2 and 3 hold of the
+-- code: each law here takes what the definition's law says of its caller over to the code's, by `CallerStands`.
 use Prim.Native.Nat.{ℕ, _+_, _-_, _*_, _/_, _≤_}
 use native.Mathlib.Omega.{arith}
 use mathlib.Core.Bool.{true, false}
@@ -21,22 +22,21 @@ use Rattle.meaning.specs.Sessions.{End, Phase, start, dcsStep, finishDcs}
 use Rattle.meaning.proofs.DcsLaws.{readSequence}
 use Rattle.meaning.proofs.DcsSoFar.{dcs-finish-drawing, dcs-refused-drawn}
 use Rattle.meaning.proofs.Demand3.{dcs-calls, dcs-outcome, dcs-finishes, dcs-refused, dcs-all-ink}
-use Rattle.meaning.proofs.FeedingLaws.{finish-answers}
 use Rattle.meaning.proofs.SequenceLaws.{sequence-drawn, sequence-refusal, sequence-ended, sequence-consumed, sequence-finished, ended-found}
 use Rattle.meaning.proofs.ToldLaws as toldLaws
 use Rattle.meaning.proofs.ToldLaws.{all-pass, endTold, refused-told, told-end, told-refusal}
 use Rattle.payload.specs.declared.Finished.{Finished}
 use Rattle.payload.specs.History.{Finishes, pictures, declines}
 use Rattle.payload.specs.Meant.{settingMeant, limitsMeant}
-use Rattle.payload.specs.Judge.{openable}
+use Rattle.payload.specs.Refusals.{openable}
 use Rattle.payload.proofs.Openings.{opens-meant}
 use Rattle.dcs.specs.declared.Session.{Session}
 use Rattle.dcs.specs.Session.{openedBy, fedBy, finishedBy}
-use Rattle.dcs.specs.History.{heldAt, Stands, Feeds, Held, feedHeld, tellHeld, feedMeant, Past, fedAll, PastMeant, fedAllMeant, callsOf, properCalls}
+use Rattle.dcs.specs.History.{Stands, Feeds, Held, feedHeld, tellHeld, feedMeant, Past, fedAll, PastMeant, fedAllMeant, callsOf, properCalls}
 use Rattle.dcs.specs.Meant.{answerMeant}
-use Rattle.dcs.proofs.Standing.{feed-stands, finish-stands, stands-shows, stands-long, stands-fit}
+use Rattle.dcs.proofs.Standing.{feed-stands, finish-stands, stands-shows, stands-long}
 use Rattle.dcs.proofs.Openings.{opened-stands}
-use Rattle.dcs.proofs.Callers.{CallerStands, sessionAt, calls-stand, status-stands}
+use Rattle.dcs.proofs.Callers.{CallerStands, sessionAt, finish-there, calls-stand, status-stands}
 
 -- ---- any calls
 
@@ -45,35 +45,40 @@ abbrev pub Passes : Limits → ℕ → Palette → List ℕ → Past → PastMea
 Passes l stride p opening = toldLaws.Passes (λ (h : Held) (m : calls.Session Phase). Stands l stride p opening (h .0) (h .1) m) answerMeant
 
 -- any calls of the code are the definition's
-pub history-stands : (l : Limits) (stride : ℕ) (p : Palette) (opening : List ℕ) {s : Session} {c : List ℕ} {m : calls.Session Phase} → Stands l stride p opening s c m → (cs : List Ask)
-    → Passes l stride p opening (fedAll s c cs) (fedAllMeant p m (length opening) cs)
-history-stands l stride p opening =
-    all-pass feedHeld (feedMeant p (length opening)) (λ (h : Held) (m : calls.Session Phase). Stands l stride p opening (h .0) (h .1) m) answerMeant
-    (λ h m k bs a.
-    let f : Feeds l stride p opening (fedBy (h .0) (h .1) bs a) (calls.feedDcs p m (length opening) a bs) =
-    subst (λ (n : ℕ). Feeds l stride p opening (fedBy (h .0) (h .1) bs a) (calls.feedDcs p m n a bs)) (stands-long l stride p opening k) (feed-stands l stride p opening k bs a) in
-    (f .answer, f .session))
+module _ (l : Limits) (stride : ℕ) (p : Palette) (opening : List ℕ) where
+  pub history-stands : {s : Session} {c : List ℕ} {m : calls.Session Phase} → Stands l stride p opening s c m → (cs : List Ask)
+      → Passes l stride p opening (fedAll s c cs) (fedAllMeant p m (length opening) cs)
+  history-stands =
+      all-pass feedHeld (feedMeant p (length opening))
+      (λ (h : Held) (m : calls.Session Phase). Stands l stride p opening (h .0) (h .1) m) answerMeant
+      (λ h m k bs a.
+      let f : Feeds l stride p opening (fedBy (h .0) (h .1) bs a) (calls.feedDcs p m (length opening) a bs) =
+      subst (λ (n : ℕ). Feeds l stride p opening (fedBy (h .0) (h .1) bs a) (calls.feedDcs p m n a bs))
+      (stands-long l stride p opening k) (feed-stands l stride p opening k bs a) in
+      (f .answer, f .session))
 
--- so after any calls the canvas shows the drawing of the definition's state
-pub history-shows : (l : Limits) (stride : ℕ) (p : Palette) (opening : List ℕ) {s : Session} {c : List ℕ} {m : calls.Session Phase} → Stands l stride p opening s c m → (cs : List Ask)
-    → fedAll s c cs .state .1 ≡ calls.dcsShown (fedAllMeant p m (length opening) cs .state) opening
-history-shows l stride p opening k cs = stands-shows l stride p opening (history-stands l stride p opening k cs .state)
+  -- so after any calls the canvas shows the drawing of the definition's state
+  pub history-shows : {s : Session} {c : List ℕ} {m : calls.Session Phase} → Stands l stride p opening s c m → (cs : List Ask)
+      → fedAll s c cs .state .1 ≡ calls.dcsShown (fedAllMeant p m (length opening) cs .state) opening
+  history-shows k cs = stands-shows l stride p opening (history-stands k cs .state)
 
--- and a finish then is the definition's
-pub history-finishes : (l : Limits) (stride : ℕ) (p : Palette) (opening : List ℕ) {s : Session} {c : List ℕ} {m : calls.Session Phase} → Stands l stride p opening s c m → (cs : List Ask) (owner : Palette)
-    → Finishes (calls.dcsShownAtFinish (fedAllMeant p m (length opening) cs .state) opening) owner (fedAll s c cs .state .1)
-    (finishedBy (fedAll s c cs .state .0) owner (fedAll s c cs .state .1)) (calls.finishDcsSession (fedAllMeant p m (length opening) cs .state) (length opening))
-history-finishes l stride p opening {s} {c} {m} k cs owner =
-    let after = history-stands l stride p opening k cs .state in
-    subst
-    (λ (n : ℕ).
-    Finishes (calls.dcsShownAtFinish (fedAllMeant p m (length opening) cs .state) opening) owner (fedAll s c cs .state .1)
-    (finishedBy (fedAll s c cs .state .0) owner (fedAll s c cs .state .1)) (calls.finishDcsSession (fedAllMeant p m (length opening) cs .state) n))
-    (stands-long l stride p opening after)
-    (finish-stands l stride p opening owner after)
+  -- and a finish then is the definition's
+  abbrev FinishesAs : Held → calls.Session Phase → Palette → ℕ → Type 0
+  FinishesAs h m owner size =
+      Finishes (calls.dcsShownAtFinish m opening) owner (h .1) (finishedBy (h .0) owner (h .1)) (calls.finishDcsSession m size)
+
+  pub history-finishes : {s : Session} {c : List ℕ} {m : calls.Session Phase} → Stands l stride p opening s c m
+      → (cs : List Ask) (owner : Palette)
+      → FinishesAs (fedAll s c cs .state) (fedAllMeant p m (length opening) cs .state) owner (length opening)
+  history-finishes {s} {c} {m} k cs owner =
+      let after = history-stands k cs .state in
+      subst (FinishesAs (fedAll s c cs .state) (fedAllMeant p m (length opening) cs .state) owner)
+      (stands-long l stride p opening after)
+      (finish-stands l stride p opening owner after)
 
 -- a finish that is refused shows no picture, whichever it would be
-declined-alike : {picture other l : List ℕ} {owner : Palette} {y : Finished × List ℕ} {z : meant.Finished} {n : ℕ} → Finishes picture owner l y z
+declined-alike : {picture other l : List ℕ} {owner : Palette} {y : Finished × List ℕ} {z : meant.Finished} {n : ℕ}
+    → Finishes picture owner l y z
     → z ≡ meant.turnedDown n → Finishes other owner l y z
 declined-alike pictures e = absurd (let never : _≡_ {A = ℕ} 0 1 = cc in omega arith)
 declined-alike (declines n) e = declines n
@@ -87,6 +92,10 @@ module _ (l : Limits) (stride : ℕ) (p : Palette) (opening : List ℕ) (opens :
 
   abbrev pub setting : Setting
   setting = settingMeant l stride (length opening)
+
+  -- what the canvas shows of a drawing, if there is one
+  abbrev shownOf : Option Drawing → List ℕ
+  shownOf d = calls.shown stride d opening
 
   start-stands : CallerStands l stride p opening opened (ready start)
   unfolding ready isRefused endTold calls.dcsEnd
@@ -106,6 +115,10 @@ module _ (l : Limits) (stride : ℕ) (p : Palette) (opening : List ℕ) (opens :
 
     abbrev pub canvas : List ℕ
     canvas = now .state .1
+
+    -- a finish then answers this, and leaves a picture on the canvas if it has one
+    abbrev FinishesWith : List ℕ → Palette → meant.Finished → Type 0
+    FinishesWith shown owner = Finishes shown owner canvas (finishedBy session owner canvas)
 
     pub roomy : 6 * setting .limits .width ≤ A
     unfolding settingMeant limitsMeant calls.settingFor
@@ -135,7 +148,7 @@ module _ (l : Limits) (stride : ℕ) (p : Palette) (opening : List ℕ) (opens :
     calls-bounded = dcs-calls setting p A ts roomy proper-there
 
     -- The canvas shows the drawing of the session's state, and before `q` nothing is written.
-    pub canvas-shows : canvas ≡ calls.shown stride (calls.drawingOf (there .state)) opening
+    pub canvas-shows : canvas ≡ shownOf (calls.drawingOf (there .state))
     unfolding calls.dcsShown settingMeant calls.settingFor
     canvas-shows = stands-shows l stride p opening (stood .session)
 
@@ -144,47 +157,44 @@ module _ (l : Limits) (stride : ℕ) (p : Palette) (opening : List ℕ) (opens :
     whole-state going = dcs-outcome setting p A ts proper-there (going-there going)
 
     -- Demand 2, and the second sentence of demand 3: at an end a finish answers what reading the whole stream at once does.
-    pub whole-finishes : (now .how ≡ stopped → ⊥) → isRefused (now .how) ≡ false → {e : End} → calls.dcsEnd (there .state) ≡ some e → (owner : Palette)
-        → Finishes (calls.shown stride (calls.drawingAtFinish setting (there .state)) opening) owner canvas (finishedBy session owner canvas) (oneShot setting p (stream ts))
-    unfolding calls.dcsShownAtFinish settingMeant calls.settingFor calls.finishDcsSession
+    pub whole-finishes : (now .how ≡ stopped → ⊥) → isRefused (now .how) ≡ false
+        → {e : End} → calls.dcsEnd (there .state) ≡ some e → (owner : Palette)
+        → FinishesWith (shownOf (calls.drawingAtFinish setting (there .state))) owner (oneShot setting p (stream ts))
+    unfolding calls.dcsShownAtFinish settingMeant calls.settingFor
     whole-finishes going fine e owner =
-        let m : calls.Session Phase = heldAt l stride (length opening) (there .state) (isRefused (there .how)) in
-        let answer : calls.finishDcsSession m (length canvas) ≡ oneShot setting p (stream ts) =
-        ap (calls.finishDcsSession m) (stands-long l stride p opening (stood .session))
-        ∙ finish-answers (λ (t : Phase). calls.visibleArea (calls.drawingOf t)) finishDcs m (length opening) (fine-there fine) (stands-fit l stride p opening (stood .session))
-        ∙ dcs-finishes setting p A ts proper-there (going-there going) e in
-        subst (Finishes (calls.shown stride (calls.drawingAtFinish setting (there .state)) opening) owner canvas (finishedBy session owner canvas)) answer
+        subst (FinishesWith (shownOf (calls.drawingAtFinish setting (there .state))) owner)
+        (finish-there l stride p opening stood (fine-there fine) ∙ dcs-finishes setting p A ts proper-there (going-there going) e)
         (finish-stands l stride p opening owner (stood .session))
 
     -- what reading the whole stream at once leaves on the canvas
     abbrev pub picture : List ℕ
     picture = calls.oneShotShown (limitsMeant l) stride (length opening) p (stream ts) opening
 
-    picture-shown : {d : Option Drawing} → d ≡ calls.drawingFound setting p (findPayload (stream ts)) → calls.shown stride d opening ≡ picture
+    picture-shown : {d : Option Drawing} → d ≡ calls.drawingFound setting p (findPayload (stream ts)) → shownOf d ≡ picture
     unfolding calls.oneShotShown settingMeant
     picture-shown e =
-        ap (λ (d : Option Drawing). calls.shown stride d opening) e ∙ sym (cond-yes _ _ (sym (opens-meant l stride (length opening)) ∙ opens))
+        ap shownOf e ∙ sym (cond-yes _ _ (sym (opens-meant l stride (length opening)) ∙ opens))
 
     -- So once an end is told, a finish answers that and leaves that picture, both said of the stream alone.
-    pub stream-finishes : now .how ≡ halted → (owner : Palette)
-        → Finishes picture owner canvas (finishedBy session owner canvas) (oneShot setting p (stream ts))
+    pub stream-finishes : now .how ≡ halted → (owner : Palette) → FinishesWith picture owner (oneShot setting p (stream ts))
     unfolding isRefused
     stream-finishes told owner =
         let ended = told-end (there .how) (calls.dcsEnd (there .state)) (sym (stood .learned .how) ∙ told) in
-        subst (λ (shown : List ℕ). Finishes shown owner canvas (finishedBy session owner canvas) (oneShot setting p (stream ts)))
+        subst (λ (shown : List ℕ). FinishesWith shown owner (oneShot setting p (stream ts)))
         (picture-shown (dcs-finish-drawing setting p A ts roomy proper-there (ended .0) (ended .2 .1)))
         (whole-finishes (λ e. let never : _≡_ {A = ℕ} 0 1 = cc in omega arith) (ap isRefused told) (ended .2 .1) owner)
 
-    -- A refusal is what introducer and header are refused with, or what reading the whole at once answers; the canvas shows what came before it.
+    -- A refusal is what introducer and header are refused with, or what reading the whole at once answers; the canvas shows what came
+    -- before it.
     pub whole-refused : {n : ℕ} → now .how ≡ refusedBy n
         → (n ≤ 3 → sequencePayload (stream ts) ≡ refusedWith n) × (2 ≤ n → oneShot setting p (stream ts) ≡ meant.turnedDown n)
-        × (canvas ≡ calls.shown stride (calls.drawingFound setting p (sequencePayload (stream ts))) opening)
+        × (canvas ≡ shownOf (calls.drawingFound setting p (sequencePayload (stream ts))))
     whole-refused told =
         let e = told-refusal (there .how) (calls.dcsEnd (there .state)) (sym (stood .learned .how) ∙ told) in
         let numbers = dcs-refused setting p A ts proper-there e in (
           numbers .0,
           numbers .1,
-          canvas-shows ∙ ap (λ (d : Option Drawing). calls.shown stride d opening) (dcs-refused-drawn setting p A ts roomy proper-there e),
+          canvas-shows ∙ ap shownOf (dcs-refused-drawn setting p A ts roomy proper-there e),
         )
 
     -- Demand 3, its third sentence: the ink that the calls told adds up to I.
@@ -203,12 +213,11 @@ module _ (l : Limits) (stride : ℕ) (p : Palette) (opening : List ℕ) (opens :
         (sequence-refusal setting p (stream ts) n)
 
     -- The canvas shows what has been drawn once the whole stream is read, up to a refusal.
-    pub whole-drawn : (now .how ≡ stopped → ⊥) → canvas ≡ calls.shown stride (sequenceDrawn setting p (stream ts)) opening
+    pub whole-drawn : (now .how ≡ stopped → ⊥) → canvas ≡ shownOf (sequenceDrawn setting p (stream ts))
     unfolding ranBy
     whole-drawn going =
         canvas-shows
-        ∙ ap (λ (d : Option Drawing). calls.shown stride d opening)
-        (sym (ap (λ (q : Run Phase). calls.drawingOf (q .state)) (whole-state going)) ∙ sequence-drawn setting p (stream ts))
+        ∙ ap shownOf (sym (ap (λ (q : Run Phase). calls.drawingOf (q .state)) (whole-state going)) ∙ sequence-drawn setting p (stream ts))
 
     -- ---- unless the last call stopped or was refused
 
@@ -236,32 +245,33 @@ module _ (l : Limits) (stride : ℕ) (p : Palette) (opening : List ℕ) (opens :
           ∙ sequence-consumed setting p (stream ts) unrefused
 
       answers-whole : calls.finishDcsSession (sessionAt l stride p opening there) (length canvas) ≡ sequenceFinish setting p (stream ts)
-      unfolding calls.finishDcsSession ranBy
+      unfolding ranBy
       answers-whole =
-          let m : calls.Session Phase = sessionAt l stride p opening there in
-          ap (calls.finishDcsSession m) (stands-long l stride p opening (stood .session))
-          ∙ finish-answers (λ (t : Phase). calls.visibleArea (calls.drawingOf t)) finishDcs m (length opening) (fine-there fine) (stands-fit l stride p opening (stood .session))
+          finish-there l stride p opening stood (fine-there fine)
           ∙ ap (λ (q : Run Phase). finishDcs setting (q .state)) (sym (whole-state going))
           ∙ sequence-finished setting p (stream ts) unrefused
 
       -- A finish is the whole stream's: 8 before its end, and then what reading it all at once answers, with its picture.
       pub whole-concludes : (owner : Palette)
-          → Finishes (calls.shown stride (calls.drawingFound setting p (sequencePayload (stream ts))) opening) owner canvas (finishedBy session owner canvas)
-          (sequenceFinish setting p (stream ts))
+          → FinishesWith (shownOf (calls.drawingFound setting p (sequencePayload (stream ts)))) owner (sequenceFinish setting p (stream ts))
       unfolding calls.dcsShownAtFinish settingMeant calls.settingFor sequenceFinish
       whole-concludes owner = go (sequenceEnd (stream ts)) refl
         where
-          finishes : Finishes (calls.shown stride (calls.drawingAtFinish setting (there .state)) opening) owner canvas (finishedBy session owner canvas)
-              (sequenceFinish setting p (stream ts))
+          finishes : FinishesWith (shownOf (calls.drawingAtFinish setting (there .state))) owner (sequenceFinish setting p (stream ts))
           finishes =
-              subst (Finishes (calls.shown stride (calls.drawingAtFinish setting (there .state)) opening) owner canvas (finishedBy session owner canvas)) answers-whole
+              subst (FinishesWith (shownOf (calls.drawingAtFinish setting (there .state))) owner) answers-whole
               (finish-stands l stride p opening owner (stood .session))
 
+          -- the answer, by the end that the stream has come to
+          answer : Option End → meant.Finished
+          answer o = elim o [ none ↦ meant.turnedDown 8 | some d ↦ answerOf setting p (sequencePayload (stream ts)) ]
+
           go : (o : Option End) → sequenceEnd (stream ts) ≡ o
-              → Finishes (calls.shown stride (calls.drawingFound setting p (sequencePayload (stream ts))) opening) owner canvas (finishedBy session owner canvas)
+              → FinishesWith (shownOf (calls.drawingFound setting p (sequencePayload (stream ts)))) owner
               (sequenceFinish setting p (stream ts))
-          go none e = declined-alike finishes (ap (λ (o : Option End). elim o as (λ _. meant.Finished) [ none ↦ meant.turnedDown 8 | some d ↦ answerOf setting p (sequencePayload (stream ts)) ]) e)
+          go none e = declined-alike finishes (ap answer e)
           go (some d) e =
-              subst (λ (x : Option Drawing). Finishes (calls.shown stride x opening) owner canvas (finishedBy session owner canvas) (sequenceFinish setting p (stream ts)))
-              (dcs-finish-drawing setting p A ts roomy proper-there (going-there going) (ended ∙ e) ∙ ap (calls.drawingFound setting p) (ended-found (stream ts) e))
+              subst (λ (x : Option Drawing). FinishesWith (shownOf x) owner (sequenceFinish setting p (stream ts)))
+              (dcs-finish-drawing setting p A ts roomy proper-there (going-there going) (ended ∙ e)
+              ∙ ap (calls.drawingFound setting p) (ended-found (stream ts) e))
               finishes

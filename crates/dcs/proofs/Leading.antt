@@ -28,7 +28,8 @@ pub data LeadAgrees (p : Palette) : Step → reader.Step sessions.Phase → Type
   goesOn : {s : Step} {x : sessions.Phase} → s .led ≡ leds.On → SamePlace (s .place) (s .header) x → LeadAgrees p s (reader.next x 0)
   begins : {s : Step} {o : meant.Parameters} → s .led ≡ leds.Begins → o ≡ payloadMeant.parametersMeant (settingsFrom (s .header))
       → LeadAgrees p s (reader.next (sessions.within (sessions.opened o p)) 0)
-  turnsDown : {s : Step} {x : sessions.Phase} {n : ℕ} (why : Refusal) → s .led ≡ leds.Refused why → numberOf why ≡ n → SamePlace (s .place) (s .header) x
+  turnsDown : {s : Step} {x : sessions.Phase} {n : ℕ} (why : Refusal)
+      → s .led ≡ leds.Refused why → numberOf why ≡ n → SamePlace (s .place) (s .header) x
       → LeadAgrees p s (reader.refuse x n)
 
 module _ (s : Setting) (p : Palette) (b : ℕ) where
@@ -47,11 +48,18 @@ module _ (s : Setting) (p : Palette) (b : ℕ) where
   header-leads (header.settles e) = begins refl e
   header-leads (header.turnsDown why e low r) = turnsDown why refl e (inHeader r)
 
-  pub byte-leads : {t : Place} {h : Parameters} {x : sessions.Phase} → SamePlace t h x → LeadAgrees p (leadByte t h b) (sessions.dcsStep s p x b)
-  unfolding leadByte startByte introducedByte ledTo sessions.dcsStep sessions.startStep sessions.introducedStep sessions.headerStep headerDoes numberOf
+  pub byte-leads : {t : Place} {h : Parameters} {x : sessions.Phase} → SamePlace t h x
+      → LeadAgrees p (leadByte t h b) (sessions.dcsStep s p x b)
+  unfolding leadByte startByte introducedByte ledTo headerDoes numberOf
+      sessions.dcsStep sessions.startStep sessions.introducedStep sessions.headerStep
   byte-leads (atStart r) =
-      both (LeadAgrees p) (eqb b 0x1B) _ _ _ _ (λ _. goesOn refl (atIntroduced r))
-      (λ _. both (LeadAgrees p) (eqb b 0x90) _ _ _ _ (λ _. goesOn refl (inHeader r)) (λ _. turnsDown refusals.Introducer refl refl (atStart r)))
+      both (LeadAgrees p) (eqb b 0x1B) _ _ _ _
+      (λ _. goesOn refl (atIntroduced r))
+      (λ _. both (LeadAgrees p) (eqb b 0x90) _ _ _ _
+      (λ _. goesOn refl (inHeader r))
+      (λ _. turnsDown refusals.Introducer refl refl (atStart r)))
   byte-leads (atIntroduced r) =
-      both (LeadAgrees p) (eqb b 0x50) _ _ _ _ (λ _. goesOn refl (inHeader r)) (λ _. turnsDown refusals.Introducer refl refl (atIntroduced r))
+      both (LeadAgrees p) (eqb b 0x50) _ _ _ _
+      (λ _. goesOn refl (inHeader r))
+      (λ _. turnsDown refusals.Introducer refl refl (atIntroduced r))
   byte-leads (inHeader r) = header-leads (header-agrees b r)

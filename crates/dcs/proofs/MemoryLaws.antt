@@ -1,9 +1,11 @@
 -- A session in numbers and registers: what the functions come to, and the round trip: a session read back is the same.
-use Prim.Native.Nat.{ℕ, _+_, _%_, _<_}
+use Prim.Native.Nat.{ℕ, _+_, _%_, _≤_, _<_}
+use mathlib.Core.Bool.{cond}
 use native.Mathlib.Omega.{arith}
 use mathlib.Core.List.{List}
 use mathlib.Core.Path.{_≡_, refl, sym, ap, _∙_}
 use borrow.Author.Tests.{lt-ltb, le-ltb, ne-eqb}
+use lib.Dec.{ltb}
 use lib.ListN.{getD, set}
 use Rattle.numbers.specs.declared.Parameters.{Parameters}
 use Rattle.numbers.specs.Memory as parameters
@@ -34,9 +36,11 @@ phase-as e k = k ∙ ap phaseNumber (sym e)
 
 pub ruleset codes-as = (place-as, ending-as, phase-as)
 
-pub numbers-told : (s : Session) {a vs : List ℕ} {k : ℕ} → vs ≡ parameters.numbersOf (s .header) → a ≡ payload.numbersOf (s .payload) → k ≡ phaseNumber (s .phase)
+pub numbers-told : (s : Session) {a vs : List ℕ} {k : ℕ}
+    → vs ≡ parameters.numbersOf (s .header) → a ≡ payload.numbersOf (s .payload) → k ≡ phaseNumber (s .phase)
     → nineWritten (set a 34 k) 35 vs ≡ numbersOf s
-unfolding numbersOf nineWritten payload.numbersOf payload.ownNumbers payload.groundNumbers payload.frameNumbers payload.penNumbers payload.sheetNumbers payload.rasterNumbers payload.commandNumbers parameters.numbersOf
+unfolding numbersOf nineWritten payload.numbersOf payload.ownNumbers payload.groundNumbers payload.frameNumbers
+    payload.penNumbers payload.areaNumbers payload.extentNumbers payload.rasterNumbers payload.commandNumbers parameters.numbersOf
 numbers-told s ev ea ek = rw (ev, ea, ek) refl
 
 pub session-of : (ns table : List ℕ) {s : payloadSession.Session} {h : Parameters} {t : Phase}
@@ -47,29 +51,29 @@ session-of ns table eh et es = rw (eh, et, es) refl
 
 -- ---- the round trip
 
-cancelled-back : (b : ℕ) → b < 256 → phaseFrom (b + 256) ≡ phases.Over (endings.Cancelled b)
+-- from 256 on a number is an ending with its byte
+late : (n : ℕ) → 256 ≤ n
+    → phaseFrom n ≡ cond (ltb n 512) (phases.Over (endings.Cancelled (n % 256))) (phases.Over (endings.Interrupted (n % 256)))
 unfolding phaseFrom
+late n h =
+    cond-no _ _ (ne-eqb n 0 (λ e. omega arith))
+    ∙ cond-no _ _ (ne-eqb n 1 (λ e. omega arith))
+    ∙ cond-no _ _ (ne-eqb n 2 (λ e. omega arith))
+    ∙ cond-no _ _ (ne-eqb n 3 (λ e. omega arith))
+    ∙ cond-no _ _ (ne-eqb n 4 (λ e. omega arith))
+    ∙ cond-no _ _ (le-ltb n 256 h)
+
+cancelled-back : (b : ℕ) → b < 256 → phaseFrom (b + 256) ≡ phases.Over (endings.Cancelled b)
 cancelled-back b h =
     let back : (b + 256) % 256 ≡ b = omega arith in
-    cond-no _ _ (ne-eqb (b + 256) 0 (λ e. omega arith))
-    ∙ cond-no _ _ (ne-eqb (b + 256) 1 (λ e. omega arith))
-    ∙ cond-no _ _ (ne-eqb (b + 256) 2 (λ e. omega arith))
-    ∙ cond-no _ _ (ne-eqb (b + 256) 3 (λ e. omega arith))
-    ∙ cond-no _ _ (ne-eqb (b + 256) 4 (λ e. omega arith))
-    ∙ cond-no _ _ (le-ltb (b + 256) 256 (omega arith))
+    late (b + 256) (omega arith)
     ∙ cond-yes _ _ (lt-ltb (b + 256) 512 (omega arith))
     ∙ ap (λ (n : ℕ). phases.Over (endings.Cancelled n)) back
 
 interrupted-back : (b : ℕ) → b < 256 → phaseFrom (b + 512) ≡ phases.Over (endings.Interrupted b)
-unfolding phaseFrom
 interrupted-back b h =
     let back : (b + 512) % 256 ≡ b = omega arith in
-    cond-no _ _ (ne-eqb (b + 512) 0 (λ e. omega arith))
-    ∙ cond-no _ _ (ne-eqb (b + 512) 1 (λ e. omega arith))
-    ∙ cond-no _ _ (ne-eqb (b + 512) 2 (λ e. omega arith))
-    ∙ cond-no _ _ (ne-eqb (b + 512) 3 (λ e. omega arith))
-    ∙ cond-no _ _ (ne-eqb (b + 512) 4 (λ e. omega arith))
-    ∙ cond-no _ _ (le-ltb (b + 512) 256 (omega arith))
+    late (b + 512) (omega arith)
     ∙ cond-no _ _ (le-ltb (b + 512) 512 (omega arith))
     ∙ ap (λ (n : ℕ). phases.Over (endings.Interrupted n)) back
 
@@ -98,5 +102,6 @@ phase-back (phases.Over e) h = over-back e h
 
 -- the law: a session in memory is the session
 pub from-memory : (s : Session) → Ranged s → sessionFrom (numbersOf s) (tableOf s) ≡ s
-unfolding sessionFrom numbersOf payload.nineFrom payload.ownNumbers payload.groundNumbers payload.frameNumbers payload.penNumbers payload.sheetNumbers payload.rasterNumbers payload.commandNumbers parameters.numbersOf
+unfolding sessionFrom numbersOf payload.nineFrom payload.ownNumbers payload.groundNumbers payload.frameNumbers
+    payload.penNumbers payload.areaNumbers payload.extentNumbers payload.rasterNumbers payload.commandNumbers parameters.numbersOf
 from-memory s h = rw (session-back (s .payload) _ (h .payload), from-numbers (s .header) (h .header), phase-back (s .phase) (h .phase)) refl

@@ -13,8 +13,8 @@ use Rattle.meaning.specs.Sessions.{start}
 use Rattle.meaning.proofs.Cases.{cond-map}
 use Rattle.payload.specs.declared.Opened as payloadOpened
 use Rattle.payload.specs.declared.Opening.the-variants as openings
-use Rattle.payload.specs.Begin.{reservedBy}
-use Rattle.payload.specs.Judge.{openable}
+use Rattle.payload.specs.Deferred.{reservedBy}
+use Rattle.payload.specs.Refusals.{openable}
 use Rattle.payload.proofs.Openings.{openingBy, ready-exactly, refused-exactly}
 use Rattle.dcs.specs.Session.{openedBy}
 use Rattle.dcs.specs.History.{atStart, heldAt, Stands, before}

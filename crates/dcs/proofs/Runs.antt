@@ -44,7 +44,8 @@ pub after-one : {S : Type 0} (n i : ℕ) (r : Run S) → after n i (after 1 0 r)
 after-one n i r = sym (after-after n i 1 0 r) ∙ ap (λ (j : ℕ). after (n + 1) j r) (add-zero i)
 
 -- where a call came to an end there is a byte at which it did
-pub halted-at : {S : Type 0} {step : S → ℕ → Step S} {rest : S → S} {a : ℕ} {s : S} {xs : List ℕ} {r : Run S} → Called step rest a s xs r → r .how ≡ halted
+pub halted-at : {S : Type 0} {step : S → ℕ → Step S} {rest : S → S} {a : ℕ} {s : S} {xs : List ℕ} {r : Run S}
+    → Called step rest a s xs r → r .how ≡ halted
     → (b : ℕ) × (later : List ℕ) × (drop (r .consumed) xs ≡ b ∷ later)
 unfolding still after
 halted-at nothing h = let never : _≡_ {A = ℕ} 0 1 = cc in absurd (omega arith)
@@ -64,7 +65,7 @@ module _ (s : Setting) (p : Palette) where
   -- the byte that ended the payload is read as an end, and what comes after it
   unfoldable pub endCall : ℕ → Reading → List ℕ → Run Phase
   endCall a t [] = still (within t) readAll
-  endCall a t (b ∷ bs) = follow (endStep t b) (λ u i. after 1 i (call (dcsStep s p) (dcsRested s) a u bs))
+  endCall a t (b ∷ bs) = follow (endStep t b) (λ u i. after 1 i (dcsCall a u bs))
 
   -- what a sequence makes of its payload's call: where the payload has ended its end is read, and else it is that call
   unfoldable pub framedCall : ℕ → Run Reading → List ℕ → Run Phase
@@ -87,19 +88,22 @@ module _ (s : Setting) (p : Palette) where
   unfolding endStep
   end-dry t b = go (eqb b 0x1B) (eqb b 0x9C) (eqb b 0x18 || eqb b 0x1A)
     where
-      go : (x y z : Bool) → Dry (cond x (next (afterEscape t) 0) (cond y (next (over complete t) 0) (cond z (next (over (cancelled b) t) 0) (halt (over (interrupted b) t)))))
+      go : (x y z : Bool) → Dry
+          (cond x (next (afterEscape t) 0)
+          (cond y (next (over complete t) 0)
+          (cond z (next (over (cancelled b) t) 0) (halt (over (interrupted b) t)))))
       go true y z = refl
       go false true z = refl
       go false false true = refl
       go false false false = tt
 
   dry-follow : (a : ℕ) (z : Run Phase) (bs : List ℕ) (x : Step Phase) → Dry x
-      → follow x (λ u i. cond (leb i a) (after 1 i (call (dcsStep s p) (dcsRested s) (a - i) u bs)) z)
-      ≡ follow x (λ u i. after 1 i (call (dcsStep s p) (dcsRested s) a u bs))
+      → follow x (λ u i. cond (leb i a) (after 1 i (dcsCall (a - i) u bs)) z)
+      ≡ follow x (λ u i. after 1 i (dcsCall a u bs))
   unfolding follow
   dry-follow a z bs (next u i) e =
       rw e
-      (cond-yes _ _ (le-leb 0 a (omega arith)) ∙ ap (λ (n : ℕ). after 1 0 (call (dcsStep s p) (dcsRested s) n u bs)) (sub-zero a))
+      (cond-yes _ _ (le-leb 0 a (omega arith)) ∙ ap (λ (n : ℕ). after 1 0 (dcsCall n u bs)) (sub-zero a))
   dry-follow a z bs (halt u) e = refl
   dry-follow a z bs (refuse u n) e = refl
 
@@ -126,11 +130,12 @@ module _ (s : Setting) (p : Palette) where
           let left : a - i - q .ink ≡ a - (i + q .ink) = omega arith in
           sym (after-after 1 i (q .consumed) (q .ink) (endCall (a - i - q .ink) (q .state) (drop (q .consumed) bs)))
           ∙ ap (λ (n : ℕ). after (1 + q .consumed) (i + q .ink) (endCall n (q .state) (drop (q .consumed) bs))) left
-          ∙ ap (λ (us : List ℕ). after (1 + q .consumed) (i + q .ink) (endCall (a - (i + q .ink)) (q .state) us)) (sym (drop-one-more (q .consumed) b bs))
+          ∙ ap (λ (us : List ℕ). after (1 + q .consumed) (i + q .ink) (endCall (a - (i + q .ink)) (q .state) us))
+          (sym (drop-one-more (q .consumed) b bs))
       go (refusedBy n) = refl
 
   within-called : {a : ℕ} {r : Reading} {bs : List ℕ} {q : Run Reading} → Called (payloadStep s) (rested s) a r bs q
-      → call (dcsStep s p) (dcsRested s) a (within r) bs ≡ framedCall a q bs
+      → dcsCall a (within r) bs ≡ framedCall a q bs
   unfolding call framedCall endCall inPayload still stepped follow dcsRested
   within-called nothing = refl
   within-called (goes {a} {i} {b} {s = r} {t} {bs} {r = q} e fits c) =
@@ -143,19 +148,19 @@ module _ (s : Setting) (p : Palette) where
   within-called (halts {a} {b} {s = r} {t} {bs} e) =
       call-as (dcsStep s p) (dcsRested s) a (within r) b bs (within-as r b e)
       ∙ dry-follow a (still (dcsRested s (within r)) stopped) bs (endStep t b) (end-dry t b)
-      ∙ ap (λ (n : ℕ). follow (endStep t b) (λ u i. after 1 i (call (dcsStep s p) (dcsRested s) n u bs))) (sym (sub-zero a))
+      ∙ ap (λ (n : ℕ). follow (endStep t b) (λ u i. after 1 i (dcsCall n u bs))) (sym (sub-zero a))
       ∙ sym (after-zero _)
   within-called (refuses {a} {b} {n} {s = r} {t} {bs} e) =
       call-as (dcsStep s p) (dcsRested s) a (within r) b bs (within-as r b e)
 
   -- within its payload a sequence's call is the payload's, and where that has come to its end the end is read
   pub within-call : (a : ℕ) (r : Reading) (bs : List ℕ)
-      → call (dcsStep s p) (dcsRested s) a (within r) bs ≡ framedCall a (call (payloadStep s) (rested s) a r bs) bs
+      → dcsCall a (within r) bs ≡ framedCall a (call (payloadStep s) (rested s) a r bs) bs
   within-call a r bs = within-called (called (payloadStep s) (rested s) a r bs)
 
   -- after the 1B that ended a payload
   pub escape-call : (a : ℕ) (r : Reading) (b : ℕ) (bs : List ℕ)
-      → call (dcsStep s p) (dcsRested s) a (afterEscape r) (b ∷ bs) ≡ follow (escapeStep r b) (λ u i. after 1 i (call (dcsStep s p) (dcsRested s) a u bs))
+      → dcsCall a (afterEscape r) (b ∷ bs) ≡ follow (escapeStep r b) (λ u i. after 1 i (dcsCall a u bs))
   unfolding dcsStep escapeStep
   escape-call a r b bs =
       call-as (dcsStep s p) (dcsRested s) a (afterEscape r) b bs {x = escapeStep r b} refl

@@ -1,4 +1,5 @@
--- Every session that a call hands back has its fields in their ranges, where the session that it is given has, and where the bytes are bytes.
+-- Every session that a call hands back has its fields in their ranges, where the session that it is given has, and where the bytes
+-- are bytes.
 use Prim.Native.Nat.{ℕ, zero, suc, _+_, _<_}
 use native.Mathlib.Omega.{arith}
 use mathlib.Core.Bool.{_||_}
@@ -18,10 +19,10 @@ use Rattle.payload.specs.declared.Answer as payloadAnswer
 use Rattle.payload.specs.declared.Answer.the-variants as payloadAnswers
 use Rattle.payload.specs.declared.Fed as payloadFed
 use Rattle.payload.specs.declared.Session as payloadSession
-use Rattle.payload.specs.declared.judge.Judged.{Judged}
-use Rattle.payload.specs.declared.judge.Judged.the-variants as judged
-use Rattle.payload.specs.Begin.{begunBy}
-use Rattle.payload.specs.Judge.{feedJudged}
+use Rattle.payload.specs.declared.refusals.Verdict.{Verdict}
+use Rattle.payload.specs.declared.refusals.Verdict.the-variants as judged
+use Rattle.payload.specs.Deferred.{begunBy}
+use Rattle.payload.specs.Refusals.{feedJudged}
 use Rattle.payload.specs.Session as payload
 use Rattle.payload.specs.Ranges.{GivenRanged, SettingsRanged}
 use Rattle.payload.proofs.SessionRanges.{fed-ranged, reserved-ranged, begun-ranged, failed-ranged}
@@ -124,7 +125,8 @@ escaped-ranged : (s : Session) (bs : List ℕ) (n i : ℕ) → Ranged s → FedR
 unfolding said.escapedBy
 escaped-ranged s [] n i h = moved-ranged s phases.Escaped h tt
 escaped-ranged s (b ∷ bs) n i h =
-    cond-case FedRanged (eqb b 0x5C) (λ _. over-ranged s (n + 1) i endings.Complete h tt) (λ _. over-ranged s n i (endings.Interrupted 0x1B) h (omega arith))
+    cond-case FedRanged (eqb b 0x5C)
+    (λ _. over-ranged s (n + 1) i endings.Complete h tt) (λ _. over-ranged s n i (endings.Interrupted 0x1B) h (omega arith))
 
 closed-ranged : (s : Session) (bs : List ℕ) (n i : ℕ) → Ranged s → Bytes bs → FedRanged (said.closedBy s bs n i)
 unfolding said.closedBy
@@ -144,21 +146,29 @@ passed-ranged (payloadAnswers.Stopped c i) s bs n h k = h
 passed-ranged (payloadAnswers.Ended c i b) s bs n h k = closed-ranged s (drop c bs) (n + c) i h (bytes-drop c bs k)
 passed-ranged (payloadAnswers.Refused r) s bs n h k = h
 
-payload-ranged : (s : Session) (canvas bs : List ℕ) (n allowance : ℕ) → Ranged s → Bytes bs → FedRanged (said.fedPayload s canvas bs n allowance .0)
+payload-ranged : (s : Session) (canvas bs : List ℕ) (n allowance : ℕ) → Ranged s → Bytes bs
+    → FedRanged (said.fedPayload s canvas bs n allowance .0)
 unfolding said.fedPayload
 payload-ranged s canvas bs n allowance h k =
     let r : payloadFed.Fed × List ℕ = payload.fedBy (s .payload) canvas bs allowance in
     passed-ranged (r .0 .answer) (said.sessionOf (r .0 .session) (s .header) phases.Within) bs n
     (record { payload = fed-ranged (s .payload) (h .payload) canvas bs allowance; header = h .header; phase = tt }) k
 
-led-ranged : (led : Led) (l : Lead) (s : Session) (canvas bs : List ℕ) (allowance : ℕ) → LeadRanged l → Ranged s → Bytes bs → FedRanged (said.ledTo led l s canvas bs allowance .0)
+led-ranged : (led : Led) (l : Lead) (s : Session) (canvas bs : List ℕ) (allowance : ℕ) → LeadRanged l → Ranged s → Bytes bs
+    → FedRanged (said.ledTo led l s canvas bs allowance .0)
 unfolding said.ledTo
 led-ranged leds.On l s canvas bs allowance j h k = record { payload = h .payload; header = j; phase = tt }
 led-ranged leds.Begins l s canvas bs allowance j h k =
     let b : payloadSession.Session × List ℕ = begunBy (s .payload) (settingsFrom (l .header)) canvas in
     payload-ranged (said.sessionOf (b .0) (l .header) phases.Within) (b .1) (drop (l .consumed) bs) (l .consumed) allowance
-    (record { payload = begun-ranged (s .payload) (settingsFrom (l .header)) canvas (h .payload) (settings-ranged (l .header)); header = j; phase = tt }) (bytes-drop (l .consumed) bs k)
-led-ranged (leds.Refused r) l s canvas bs allowance j h k = record { payload = failed-ranged (s .payload) (h .payload); header = j; phase = tt }
+    (record {
+      payload = begun-ranged (s .payload) (settingsFrom (l .header)) canvas (h .payload) (settings-ranged (l .header));
+      header = j;
+      phase = tt;
+    })
+    (bytes-drop (l .consumed) bs k)
+led-ranged (leds.Refused r) l s canvas bs allowance j h k =
+    record { payload = failed-ranged (s .payload) (h .payload); header = j; phase = tt }
 
 module _ (s : Session) (h : Ranged s) (canvas bs : List ℕ) (allowance : ℕ) (k : Bytes bs) where
   in-ranged : (t : Phase) → PhaseRanged t → FedRanged (said.fedIn t s canvas bs allowance .0)
@@ -170,7 +180,7 @@ module _ (s : Session) (h : Ranged s) (canvas bs : List ℕ) (allowance : ℕ) (
   in-ranged phases.Escaped j = escaped-ranged s bs 0 0 h
   in-ranged (phases.Over e) j = over-ranged s 0 0 e h j
 
-  as-ranged : (j : Judged) → FedRanged (said.fedAs j s canvas bs allowance .0)
+  as-ranged : (j : Verdict) → FedRanged (said.fedAs j s canvas bs allowance .0)
   unfolding said.fedAs
   as-ranged judged.Fine = in-ranged (s .phase) (h .phase)
   as-ranged (judged.Refused n) = h

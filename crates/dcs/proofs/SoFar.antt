@@ -16,7 +16,7 @@ use Rattle.meaning.specs.Sessions.{End, Phase}
 use Rattle.meaning.proofs.DcsSoFar.{dcs-settled-so-far, dcs-stopped-drawn, dcs-ended-drawn}
 use Rattle.meaning.proofs.ToldLaws.{endTold}
 use Rattle.payload.specs.Meant.{settingMeant}
-use Rattle.payload.specs.Judge.{openable}
+use Rattle.payload.specs.Refusals.{openable}
 use Rattle.dcs.specs.History.{Held, properCalls}
 use Rattle.dcs.proofs.Callers.{CallerStands}
 use Rattle.dcs.proofs.History as history
@@ -68,17 +68,19 @@ module _ (l : Limits) (stride : ℕ) (p : Palette) (opening : List ℕ) (opens :
       dcs-settled-so-far setting p A ts roomy proper-there (fine-there fine) .0
       ∙ ap (λ (n : ℕ). calls.drawingFound setting p (sequencePayload (take n (stream ts)))) (same-consumed fine)
 
-  -- After each call that is not refused: the canvas shows a drawing that, with the pending command carried out, is what the bytes consumed so
-  -- far mean; before `q` it is the opening's.
+  -- After each call that is not refused: the canvas shows a drawing that, with the pending command carried out, is what the bytes
+  -- consumed so far mean; before `q` it is the opening's.
   pub so-far-pending : isRefused (now .how) ≡ false
       → (canvas ≡ shownOf (calls.drawingOf (there .state))) × (calls.drawingSettled setting (there .state) ≡ soFar)
   so-far-pending fine = (history.canvas-shows l stride p opening opens A ts enough ok, so-far-settled fine)
 
   -- no command is pending after a stop and after an end
-  nothing-pending : isAll (now .how) ≡ false → isRefused (now .how) ≡ false → calls.drawingOf (there .state) ≡ calls.drawingSettled setting (there .state)
+  nothing-pending : isAll (now .how) ≡ false → isRefused (now .how) ≡ false
+      → calls.drawingOf (there .state) ≡ calls.drawingSettled setting (there .state)
   unfolding isAll isRefused endTold
   nothing-pending left fine =
-      go (there .how) (calls.dcsEnd (there .state)) refl refl (sym (ap isAll (stood .learned .how)) ∙ left) (sym (ap isRefused (stood .learned .how)) ∙ fine)
+      go (there .how) (calls.dcsEnd (there .state)) refl refl
+      (sym (ap isAll (stood .learned .how)) ∙ left) (sym (ap isRefused (stood .learned .how)) ∙ fine)
     where
       ended : (there .how ≡ stopped → ⊥) → {e : End} → calls.dcsEnd (there .state) ≡ some e
           → calls.drawingOf (there .state) ≡ calls.drawingSettled setting (there .state)

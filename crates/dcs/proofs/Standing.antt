@@ -3,7 +3,7 @@
 use Prim.Native.Nat.{ℕ, _*_}
 use native.Mathlib.Omega.{arith}
 use mathlib.Core.Bool.{Bool, true, false}
-use mathlib.Core.Option.{none, some}
+use mathlib.Core.Option.{Option, none, some}
 use mathlib.Core.List.{List, [], _∷_}
 use mathlib.Core.Path.{_≡_, refl, sym, ap, subst, _∙_}
 use borrow.Author.Tests.{eq-eqb, le-leb}
@@ -20,17 +20,17 @@ use Rattle.frame.specs.declared.Refusal.the-variants as refusals
 use Rattle.frame.specs.Numbers.{numberOf}
 use Rattle.meaning.specs.Calls as calls
 use Rattle.meaning.specs.Drawing.{Setting}
-use Rattle.meaning.specs.Reader.{Run, call}
+use Rattle.meaning.specs.Reader.{after, call}
 use Rattle.meaning.specs.Sessions as sessions
 use Rattle.meaning.proofs.FeedingLaws.{fed-as, finished-as}
 use Rattle.meaning.proofs.RunLaws.{after-zero}
 use Rattle.payload.specs.declared.Finishing.the-variants as finishes
 use Rattle.payload.specs.declared.Session as payloadSession
-use Rattle.payload.specs.declared.judge.Judged.{Judged}
-use Rattle.payload.specs.declared.judge.Judged.the-variants as judged
-use Rattle.payload.specs.Begin.{noSettings, reservedBy}
+use Rattle.payload.specs.declared.refusals.Verdict.{Verdict}
+use Rattle.payload.specs.declared.refusals.Verdict.the-variants as judged
+use Rattle.payload.specs.Deferred.{noSettings, reservedBy}
 use Rattle.payload.specs.declared.Opened as payloadOpened
-use Rattle.payload.specs.Judge.{inRange, limitsFit, openable, isFailed, feedJudged, finishJudged}
+use Rattle.payload.specs.Refusals.{inRange, limitsFit, openable, isFailed, feedJudged, finishJudged}
 use Rattle.payload.specs.Session as coded
 use Rattle.payload.specs.History as payload
 use Rattle.payload.specs.Meant as payloadMeant
@@ -39,57 +39,90 @@ use Rattle.payload.proofs.Judgements as judgements
 use Rattle.payload.proofs.Finishings as finishings
 use Rattle.header.proofs.Cases.{both}
 use Rattle.dcs.specs.declared.Answer.the-variants as answers
-use Rattle.dcs.specs.declared.Phase.{Phase}
+use Rattle.dcs.specs.declared.Fed.{Fed}
 use Rattle.dcs.specs.declared.Phase.the-variants as phases
 use Rattle.dcs.specs.declared.Session.{Session}
 use Rattle.header.specs.declared.Place.{Place}
 use Rattle.header.specs.declared.Place.the-variants as places
-use Rattle.dcs.specs.Session.{sessionOf, openedBy, overAs, escapedBy, fedPayload, fedLead, fedIn, fedAs, fedBy, finishedIn, finishedAs, finishedBy}
+use Rattle.dcs.specs.Session.{sessionOf, openedBy, fedLead, fedIn, fedAs, fedBy, finishedIn, finishedAs, finishedBy}
 use Rattle.dcs.specs.History.{SamePlace, atStart, atIntroduced, inHeader, heldAt, Stands, before, refused, inside, escaped, ended, Opens, isReady, isRefused, Feeds}
 use Rattle.dcs.specs.Meant.{endMeant, answerMeant}
-use Rattle.dcs.proofs.Within.{here, dcsCall, answered, over-feeds, escaped-feeds, payload-feeds}
+use Rattle.dcs.proofs.Within.{areaOf, here, dcsCall, FeedsTo, over-feeds, escaped-feeds, payload-feeds}
 use Rattle.dcs.proofs.Before.{waiting, place-area, place-unfinished, lead-feeds}
 
 module _ (l : Limits) (stride : ℕ) (p : Palette) (opening : List ℕ) where
   abbrev setting : Setting
   setting = payloadMeant.settingMeant l stride (length opening)
 
+  -- session and canvas of the code stand for a session of the definition
+  abbrev StandsFor : Session → List ℕ → calls.Session sessions.Phase → Type 0
+  StandsFor = Stands l stride p opening
+
+  -- what a feed gives is what the definition's gives
+  abbrev FedAlike : Fed × List ℕ → calls.Fed sessions.Phase sessions.End → Type 0
+  FedAlike = Feeds l stride p opening
+
+  -- the refusal of a finish: 9 of a session that was refused, 12 where the canvas does not fit
+  abbrev refusalAtFinish : Bool → Bool → Option ℕ
+  refusalAtFinish failed misfit = calls.firstOf (record { holds = failed; number = 9 } ∷ record { holds = misfit; number = 12 } ∷ [])
+
   -- ---- feeding
 
+  -- a call with no byte read before it
+  from-start : (x : sessions.Phase) (y : Fed × List ℕ) (a : ℕ) (bs : List ℕ)
+      → FeedsTo l stride p opening x y (after 0 0 (dcsCall l stride p opening a x bs))
+      → FeedsTo l stride p opening x y (dcsCall l stride p opening a x bs)
+  from-start x y a bs f = subst (FeedsTo l stride p opening x y) (after-zero (dcsCall l stride p opening a x bs)) f
+
   -- 9, 12 and 13 are the definition's, and leave all as it is; else the bytes are read
-  by-judged : {s : Session} {c : List ℕ} {m : calls.Session sessions.Phase} → Stands l stride p opening s c m → (bs : List ℕ) (a : ℕ)
-      → judgements.judgedMeant (feedJudged (s .payload) (length c) a) ≡ calls.feedRefusal (λ (t : sessions.Phase). calls.visibleArea (calls.drawingOf t)) m (length c) a
-      → (feedJudged (s .payload) (length c) a ≡ judged.Fine
-      → Feeds l stride p opening (fedIn (s .phase) s c bs a) (calls.answered calls.dcsEnd m (call (sessions.dcsStep (m .setting) p) (sessions.dcsRested (m .setting)) a (m .state) bs)))
-      → Feeds l stride p opening (fedBy s c bs a) (calls.feedDcs p m (length c) a bs)
+  by-judged : {s : Session} {c : List ℕ} {m : calls.Session sessions.Phase} → StandsFor s c m → (bs : List ℕ) (a : ℕ)
+      → judgements.judgedMeant (feedJudged (s .payload) (length c) a) ≡ calls.feedRefusal areaOf m (length c) a
+      → (feedJudged (s .payload) (length c) a ≡ judged.Fine → FedAlike (fedIn (s .phase) s c bs a)
+      (calls.answered calls.dcsEnd m (call (sessions.dcsStep (m .setting) p) (sessions.dcsRested (m .setting)) a (m .state) bs)))
+      → FedAlike (fedBy s c bs a) (calls.feedDcs p m (length c) a bs)
   unfolding fedBy fedAs judgements.judgedMeant answerMeant calls.feedDcs
   by-judged {s} {c} {m} k bs a same read = go (feedJudged (s .payload) (length c) a) refl
     where
-      go : (j : Judged) → feedJudged (s .payload) (length c) a ≡ j → Feeds l stride p opening (fedAs j s c bs a) (calls.feedDcs p m (length c) a bs)
+      go : (j : Verdict) → feedJudged (s .payload) (length c) a ≡ j → FedAlike (fedAs j s c bs a) (calls.feedDcs p m (length c) a bs)
       go judged.Fine e =
-          subst (Feeds l stride p opening (fedIn (s .phase) s c bs a))
-          (sym (fed-as (λ (t : sessions.Phase). calls.visibleArea (calls.drawingOf t)) (λ t. sessions.dcsStep t p) sessions.dcsRested calls.dcsEnd m (length c) a bs
+          subst (FedAlike (fedIn (s .phase) s c bs a))
+          (sym (fed-as areaOf (λ t. sessions.dcsStep t p) sessions.dcsRested calls.dcsEnd m (length c) a bs
           (sym same ∙ ap judgements.judgedMeant e))) (read e)
       go (judged.Refused n) e =
-          subst (Feeds l stride p opening (record { answer = answers.Refused n; session = s }, c))
-          (sym (fed-as (λ (t : sessions.Phase). calls.visibleArea (calls.drawingOf t)) (λ t. sessions.dcsStep t p) sessions.dcsRested calls.dcsEnd m (length c) a bs
+          subst (FedAlike (record { answer = answers.Refused n; session = s }, c))
+          (sym (fed-as areaOf (λ t. sessions.dcsStep t p) sessions.dcsRested calls.dcsEnd m (length c) a bs
           (sym same ∙ ap judgements.judgedMeant e))) (record { answer = refl; session = k })
 
   -- before the payload the canvas of the opening fits
   place-fits : {t : Place} {h : Parameters} {x : sessions.Phase} → SamePlace t h x
-      → calls.misfits (λ (t : sessions.Phase). calls.visibleArea (calls.drawingOf t)) (here l stride p opening x) (length opening) ≡ false
+      → calls.misfits areaOf (here l stride p opening x) (length opening) ≡ false
   unfolding calls.misfits fits
   place-fits same =
-      rw (place-area l stride p opening same, eq-eqb (length opening) (length opening) refl, le-leb 0 (setting .stride) (omega arith), le-leb 0 (rowsOf (length opening) (setting .stride)) (omega arith))
+      rw (
+        place-area l stride p opening same,
+        eq-eqb (length opening) (length opening) refl,
+        le-leb 0 (setting .stride) (omega arith),
+        le-leb 0 (rowsOf (length opening) (setting .stride)) (omega arith),
+      )
       refl
 
-  module _ (opens : openable l stride (length opening) ≡ true) {t : Place} {h : Parameters} {x : sessions.Phase} (same : SamePlace t h x) where
+  module _ (opens : openable l stride (length opening) ≡ true) {t : Place} {h : Parameters} {x : sessions.Phase}
+      (same : SamePlace t h x) where
+    -- the payload session before `q`, and the definition's session
+    abbrev early : payloadSession.Session
+    early = waiting l stride p opening
+
+    abbrev there : calls.Session sessions.Phase
+    there = here l stride p opening x
+
     -- the waiting session, as one that has begun
-    waits : payload.Stands opening (waiting l stride p opening) (painted (span 0 1) (coded.backgroundFor p (noSettings .p2)) opening) (heldAt l stride (length opening) (sessions.opened (payloadMeant.parametersMeant noSettings) p) false)
+    waits : payload.Stands opening early (painted (span 0 1) (coded.backgroundFor p (noSettings .p2)) opening)
+        (heldAt l stride (length opening) (sessions.opened (payloadMeant.parametersMeant noSettings) p) false)
     waits = openings.ready-stands l stride noSettings p opening opens
 
-    before-judged : (a : ℕ) → judgements.judgedMeant (feedJudged (waiting l stride p opening) (length opening) a)
-        ≡ calls.feedRefusal (λ (t : sessions.Phase). calls.visibleArea (calls.drawingOf t)) (here l stride p opening x) (length opening) a
+    -- so a feed and a finish are judged as the definition judges them
+    before-judged : (a : ℕ)
+        → judgements.judgedMeant (feedJudged early (length opening) a) ≡ calls.feedRefusal areaOf there (length opening) a
     unfolding calls.feedRefusal
     before-judged a =
         judgements.feed-judged waits (length opening) a
@@ -102,30 +135,28 @@ module _ (l : Limits) (stride : ℕ) (p : Palette) (opening : List ℕ) where
         ∷ []))
         (judgements.stands-fit waits ∙ sym (place-fits same))
 
-    before-ends : judgements.judgedMeant (finishJudged (waiting l stride p opening) (length opening))
-        ≡ calls.firstOf
-        (record { holds = false; number = 9 }
-        ∷ record { holds = calls.misfits (λ (t : sessions.Phase). calls.visibleArea (calls.drawingOf t)) (here l stride p opening x) (length opening); number = 12 }
-        ∷ [])
+    before-ends : judgements.judgedMeant (finishJudged early (length opening))
+        ≡ refusalAtFinish false (calls.misfits areaOf there (length opening))
     unfolding judgements.misfit
     before-ends =
         judgements.finish-judged waits (length opening)
-        ∙ ap (λ (u : Bool). calls.firstOf (record { holds = false; number = 9 } ∷ record { holds = u; number = 12 } ∷ []))
-        (judgements.stands-fit waits ∙ sym (place-fits same))
+        ∙ ap (refusalAtFinish false) (judgements.stands-fit waits ∙ sym (place-fits same))
 
-    before-feeds : (bs : List ℕ) (a : ℕ) → Feeds l stride p opening (fedBy (sessionOf (waiting l stride p opening) h (phases.Before t)) opening bs a)
-        (calls.feedDcs p (here l stride p opening x) (length opening) a bs)
+    before-feeds : (bs : List ℕ) (a : ℕ)
+        → FedAlike (fedBy (sessionOf early h (phases.Before t)) opening bs a) (calls.feedDcs p there (length opening) a bs)
     unfolding fedIn fedLead
     before-feeds bs a =
         by-judged (before opens same) bs a (before-judged a)
         (λ fine.
-        subst (λ (q : Run sessions.Phase). Feeds l stride p opening (fedLead (sessionOf (waiting l stride p opening) h (phases.Before t)) t opening bs a) (answered l stride p opening x q))
-        (after-zero (dcsCall l stride p opening a x bs))
+        from-start x _ a bs
         (lead-feeds l stride p opening opens h (phases.Before t) x bs a fine bs t h x same 0 refl))
 
-  inside-feeds : {s : payloadSession.Session} {c : List ℕ} {r : sessions.Reading} (h : Parameters) (failed : Bool) (k : payload.Stands opening s c (heldAt l stride (length opening) r failed))
+  -- in the payload: a session that was refused is refused again (9), and else the payload session is fed
+  inside-feeds : {s : payloadSession.Session} {c : List ℕ} {r : sessions.Reading} (h : Parameters) (failed : Bool)
+      (k : payload.Stands opening s c (heldAt l stride (length opening) r failed))
       → (failed ≡ false → r .over ≡ none) → (bs : List ℕ) (a : ℕ)
-      → Feeds l stride p opening (fedBy (sessionOf s h phases.Within) c bs a) (calls.feedDcs p (heldAt l stride (length opening) (sessions.within r) failed) (length c) a bs)
+      → FedAlike (fedBy (sessionOf s h phases.Within) c bs a)
+      (calls.feedDcs p (heldAt l stride (length opening) (sessions.within r) failed) (length c) a bs)
   unfolding fedIn judgements.judgedMeant calls.feedRefusal calls.firstOf calls.misfits calls.visibleArea calls.drawingOf
   inside-feeds {s} {c} h true k over bs a =
       by-judged (inside k over) bs a (judgements.feed-judged k (length c) a)
@@ -135,14 +166,14 @@ module _ (l : Limits) (stride : ℕ) (p : Palette) (opening : List ℕ) where
   inside-feeds {s} {c} {r} h false k over bs a =
       by-judged (inside k over) bs a (judgements.feed-judged k (length c) a)
       (λ fine.
-      subst (λ (q : Run sessions.Phase). Feeds l stride p opening (fedPayload (sessionOf s h phases.Within) c bs 0 a) (answered l stride p opening (sessions.within r) q))
-      (after-zero (dcsCall l stride p opening a (sessions.within r) bs))
+      from-start (sessions.within r) _ a bs
       (payload-feeds l stride p opening k (over refl) h (sessions.within r) 0 a bs fine))
 
   -- a feed of the code is the definition's
   pub feed-stands : {s : Session} {c : List ℕ} {m : calls.Session sessions.Phase} → Stands l stride p opening s c m → (bs : List ℕ) (a : ℕ)
       → Feeds l stride p opening (fedBy s c bs a) (calls.feedDcs p m (length c) a bs)
-  unfolding fedIn judgements.judgedMeant feedJudged isFailed coded.sessionFor numberOf calls.feedRefusal calls.firstOf calls.misfits calls.visibleArea calls.drawingOf
+  unfolding fedIn judgements.judgedMeant feedJudged isFailed coded.sessionFor numberOf
+      calls.feedRefusal calls.firstOf calls.misfits calls.visibleArea calls.drawingOf
   feed-stands (before opens same) bs a = before-feeds opens same bs a
   feed-stands (refused same) bs a =
       by-judged (refused same) bs a refl (λ fine. let never : _≡_ {A = ℕ} 0 1 = cc in absurd (omega arith))
@@ -150,70 +181,82 @@ module _ (l : Limits) (stride : ℕ) (p : Palette) (opening : List ℕ) where
   feed-stands (escaped {s} {h} {c} {r} k) bs a =
       by-judged (escaped k) bs a (judgements.feed-judged k (length c) a)
       (λ fine.
-      subst (λ (q : Run sessions.Phase). Feeds l stride p opening (escapedBy (sessionOf s h phases.Escaped) bs 0 0, c) (answered l stride p opening (sessions.afterEscape r) q))
-      (after-zero (dcsCall l stride p opening a (sessions.afterEscape r) bs))
+      from-start (sessions.afterEscape r) _ a bs
       (escaped-feeds l stride p opening k h phases.Escaped (sessions.afterEscape r) 0 0 a bs))
   feed-stands (ended {s} {h} {c} {r} {e} k) bs a =
       by-judged (ended k) bs a (judgements.feed-judged k (length c) a)
       (λ fine.
-      subst (λ (q : Run sessions.Phase). Feeds l stride p opening (overAs (sessionOf s h (phases.Over e)) 0 0 e, c) (answered l stride p opening (sessions.over (endMeant e) r) q))
-      (after-zero (dcsCall l stride p opening a (sessions.over (endMeant e) r) bs))
+      from-start (sessions.over (endMeant e) r) _ a bs
       (over-feeds l stride p opening k h (phases.Over e) (sessions.over (endMeant e) r) 0 0 a bs e))
 
   -- ---- opening
 
   -- an opening of the code is the definition's
-  pub open-stands : Opens l stride p opening (openedBy l stride p (length opening)) (calls.openDcs (payloadMeant.limitsMeant l) stride (length opening))
-  unfolding openedBy reservedBy calls.openDcs calls.openWith numberOf payloadMeant.settingMeant calls.settingFor openable limitsFit inRange calls.opens calls.limitsHold calls.ranges payloadMeant.limitsMeant
+  pub open-stands : Opens l stride p opening (openedBy l stride p (length opening))
+      (calls.openDcs (payloadMeant.limitsMeant l) stride (length opening))
+  unfolding openedBy reservedBy openable limitsFit inRange numberOf payloadMeant.settingMeant payloadMeant.limitsMeant
+      calls.openDcs calls.openWith calls.settingFor calls.opens calls.limitsHold calls.ranges
   open-stands =
-      both goal (openable l stride (length opening)) _ _ _ _ (λ e. isReady (before e (atStart (read-none 3)))) (λ _. isRefused refusals.Opening)
+      both goal (openable l stride (length opening)) _ _ _ _
+      (λ e. isReady (before e (atStart (read-none 3)))) (λ _. isRefused refusals.Opening)
     where
       goal : payloadOpened.Opened → calls.Opened sessions.Phase → Type 0
-      goal o y = Opens l stride p opening (record { answer = o .answer; session = sessionOf (o .session) (numbers.opened 3) (phases.Before places.Start) }) y
+      goal o y =
+          Opens l stride p opening
+          (record { answer = o .answer; session = sessionOf (o .session) (numbers.opened 3) (phases.Before places.Start) }) y
 
   -- ---- finishing
 
   module _ (owner : Palette) where
     -- 9 and 12 are the definition's
-    by-finish : {s : Session} {c : List ℕ} {m : calls.Session sessions.Phase} → Stands l stride p opening s c m → (picture : List ℕ)
-        → judgements.judgedMeant (finishJudged (s .payload) (length c))
-        ≡ calls.firstOf (record { holds = m .failed; number = 9 } ∷ record { holds = calls.misfits (λ (t : sessions.Phase). calls.visibleArea (calls.drawingOf t)) m (length c); number = 12 } ∷ [])
+    by-finish : {s : Session} {c : List ℕ} {m : calls.Session sessions.Phase} → StandsFor s c m → (picture : List ℕ)
+        → judgements.judgedMeant (finishJudged (s .payload) (length c)) ≡ refusalAtFinish (m .failed) (calls.misfits areaOf m (length c))
         → (finishJudged (s .payload) (length c) ≡ judged.Fine
         → payload.Finishes picture owner c (finishedIn (s .phase) s owner c) (sessions.finishDcs (m .setting) (m .state)))
         → payload.Finishes picture owner c (finishedBy s owner c) (calls.finishDcsSession m (length c))
     unfolding finishedBy finishedAs judgements.judgedMeant coded.turnedAway calls.finishDcsSession
     by-finish {s} {c} {m} k picture same read = go (finishJudged (s .payload) (length c)) refl
       where
-        go : (j : Judged) → finishJudged (s .payload) (length c) ≡ j → payload.Finishes picture owner c (finishedAs j s owner c) (calls.finishDcsSession m (length c))
+        go : (j : Verdict) → finishJudged (s .payload) (length c) ≡ j
+            → payload.Finishes picture owner c (finishedAs j s owner c) (calls.finishDcsSession m (length c))
         go judged.Fine e =
             subst (payload.Finishes picture owner c (finishedIn (s .phase) s owner c))
-            (sym (finished-as (λ (t : sessions.Phase). calls.visibleArea (calls.drawingOf t)) sessions.finishDcs m (length c) (sym same ∙ ap judgements.judgedMeant e))) (read e)
+            (sym (finished-as areaOf sessions.finishDcs m (length c) (sym same ∙ ap judgements.judgedMeant e))) (read e)
         go (judged.Refused n) e =
             subst (payload.Finishes picture owner c (record { answer = finishes.Refused n; palette = owner }, c))
-            (sym (finished-as (λ (t : sessions.Phase). calls.visibleArea (calls.drawingOf t)) sessions.finishDcs m (length c) (sym same ∙ ap judgements.judgedMeant e))) (payload.declines n)
+            (sym (finished-as areaOf sessions.finishDcs m (length c) (sym same ∙ ap judgements.judgedMeant e))) (payload.declines n)
 
     -- a finish of the code is the definition's
     pub finish-stands : {s : Session} {c : List ℕ} {m : calls.Session sessions.Phase} → Stands l stride p opening s c m
         → payload.Finishes (calls.dcsShownAtFinish m opening) owner c (finishedBy s owner c) (calls.finishDcsSession m (length c))
-    unfolding finishedIn coded.turnedAway judgements.judgedMeant judgements.misfit finishJudged isFailed coded.sessionFor numberOf sessions.finishDcs calls.firstOf calls.misfits calls.visibleArea calls.drawingOf calls.dcsShownAtFinish calls.drawingAtFinish calls.payloadShownAtFinish calls.finishPayload
+    unfolding finishedIn coded.turnedAway judgements.judgedMeant judgements.misfit finishJudged isFailed coded.sessionFor numberOf
+        sessions.finishDcs calls.firstOf calls.misfits calls.visibleArea calls.drawingOf
+        calls.dcsShownAtFinish calls.drawingAtFinish calls.payloadShownAtFinish calls.finishPayload
     finish-stands (before opens same) =
         by-finish (before opens same) _ (before-ends opens same)
-        (λ _. subst (payload.Finishes _ owner opening (record { answer = finishes.Refused refusals.Unfinished; palette = owner }, opening)) (sym (place-unfinished l stride p opening same)) (payload.declines refusals.Unfinished))
-    finish-stands (refused same) = by-finish (refused same) _ refl (λ fine. let never : _≡_ {A = ℕ} 0 1 = cc in absurd (omega arith))
-    finish-stands (inside {c = c} k over) = by-finish (inside k over) _ (judgements.finish-judged k (length c)) (λ _. payload.declines refusals.Unfinished)
-    finish-stands (escaped {c = c} k) = by-finish (escaped k) _ (judgements.finish-judged k (length c)) (λ _. payload.declines refusals.Unfinished)
+        (λ _.
+        subst (payload.Finishes _ owner opening (record { answer = finishes.Refused refusals.Unfinished; palette = owner }, opening))
+        (sym (place-unfinished l stride p opening same)) (payload.declines refusals.Unfinished))
+    finish-stands (refused same) =
+        by-finish (refused same) _ refl (λ fine. let never : _≡_ {A = ℕ} 0 1 = cc in absurd (omega arith))
+    finish-stands (inside {c = c} k over) =
+        by-finish (inside k over) _ (judgements.finish-judged k (length c)) (λ _. payload.declines refusals.Unfinished)
+    finish-stands (escaped {c = c} k) =
+        by-finish (escaped k) _ (judgements.finish-judged k (length c)) (λ _. payload.declines refusals.Unfinished)
     finish-stands (ended {s} {h} {c} {r} {e} k) =
         by-finish (ended k) _ (judgements.finish-judged k (length c))
         (λ fine.
-        subst (payload.Finishes (calls.payloadShownAtFinish (heldAt l stride (length opening) r false) opening) owner c (coded.finishedBy s owner c))
-        (finished-as (λ (r : sessions.Reading). r .drawing .area) sessions.finishReading (heldAt l stride (length opening) r false) (length c)
+        let m : calls.Session sessions.Reading = heldAt l stride (length opening) r false in
+        subst (payload.Finishes (calls.payloadShownAtFinish m opening) owner c (coded.finishedBy s owner c))
+        (finished-as (λ (r : sessions.Reading). r .drawing .area) sessions.finishReading m (length c)
         (sym (judgements.finish-judged k (length c)) ∙ ap judgements.judgedMeant fine))
         (finishings.finish-stands k owner))
 
   -- ---- the canvas
 
   -- before `q` it is the opening's, and from then on it shows the drawing of the session's state
-  pub stands-shows : {s : Session} {c : List ℕ} {m : calls.Session sessions.Phase} → Stands l stride p opening s c m → c ≡ calls.dcsShown m opening
+  pub stands-shows : {s : Session} {c : List ℕ} {m : calls.Session sessions.Phase} → Stands l stride p opening s c m
+      → c ≡ calls.dcsShown m opening
   unfolding calls.dcsShown calls.drawingOf calls.shown calls.payloadShown
   stands-shows (before opens (atStart r)) = refl
   stands-shows (before opens (atIntroduced r)) = refl
@@ -226,7 +269,8 @@ module _ (l : Limits) (stride : ℕ) (p : Palette) (opening : List ℕ) where
   stands-shows (ended k) = judgements.stands-shows k
 
   -- it is as long as at the opening
-  pub stands-long : {s : Session} {c : List ℕ} {m : calls.Session sessions.Phase} → Stands l stride p opening s c m → length c ≡ length opening
+  pub stands-long : {s : Session} {c : List ℕ} {m : calls.Session sessions.Phase} → Stands l stride p opening s c m
+      → length c ≡ length opening
   stands-long (before opens same) = refl
   stands-long (refused same) = refl
   stands-long (inside k over) = judgements.stands-long k
@@ -235,7 +279,7 @@ module _ (l : Limits) (stride : ℕ) (p : Palette) (opening : List ℕ) where
 
   -- and the picture fits it
   pub stands-fit : {s : Session} {c : List ℕ} {m : calls.Session sessions.Phase} → Stands l stride p opening s c m
-      → calls.misfits (λ (t : sessions.Phase). calls.visibleArea (calls.drawingOf t)) m (length opening) ≡ false
+      → calls.misfits areaOf m (length opening) ≡ false
   unfolding calls.misfits calls.visibleArea calls.drawingOf
   stands-fit (before opens same) = place-fits same
   stands-fit (refused same) = place-fits same

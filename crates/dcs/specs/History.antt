@@ -19,8 +19,8 @@ use Rattle.meaning.specs.Sessions as sessions
 use Rattle.payload.specs.declared.Life.the-variants as lives
 use Rattle.payload.specs.declared.Opening.the-variants as openings
 use Rattle.payload.specs.declared.Session as payloadSession
-use Rattle.payload.specs.Begin.{noSettings}
-use Rattle.payload.specs.Judge.{openable}
+use Rattle.payload.specs.Deferred.{noSettings}
+use Rattle.payload.specs.Refusals.{openable}
 use Rattle.payload.specs.Session.{sessionFor}
 use Rattle.payload.specs.History as payload
 use Rattle.payload.specs.Meant as payloadMeant
@@ -70,10 +70,12 @@ pub data Stands (l : Limits) (stride : ℕ) (p : Palette) (opening : List ℕ) :
 pub data Opens (l : Limits) (stride : ℕ) (p : Palette) (opening : List ℕ) : Opened → calls.Opened sessions.Phase → Type 0 where
   isReady : {s : Session} {m : calls.Session sessions.Phase} → Stands l stride p opening s opening m
       → Opens l stride p opening (record { answer = openings.Ready; session = s }) (calls.isOpen m)
-  isRefused : (n : Refusal) {s : Session} → Opens l stride p opening (record { answer = openings.Refused n; session = s }) (calls.notOpened (numberOf n))
+  isRefused : (n : Refusal) {s : Session}
+      → Opens l stride p opening (record { answer = openings.Refused n; session = s }) (calls.notOpened (numberOf n))
 
 -- a feed: the definition's answer, and a session and a canvas that stand for its session
-pub record Feeds (l : Limits) (stride : ℕ) (p : Palette) (opening : List ℕ) (x : Fed × List ℕ) (y : calls.Fed sessions.Phase sessions.End) : Type 0 where
+pub record Feeds (l : Limits) (stride : ℕ) (p : Palette) (opening : List ℕ)
+    (x : Fed × List ℕ) (y : calls.Fed sessions.Phase sessions.End) : Type 0 where
   pub answer : answerMeant (x .0 .answer) ≡ y .answer
   pub session : Stands l stride p opening (x .0 .session) (x .1) (y .session)
 

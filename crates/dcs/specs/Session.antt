@@ -15,10 +15,10 @@ use Rattle.payload.specs.declared.Fed as payloadFed
 use Rattle.payload.specs.declared.Finished.{Finished}
 use Rattle.payload.specs.declared.Opened as payloadOpened
 use Rattle.payload.specs.declared.Session as payloadSession
-use Rattle.payload.specs.declared.judge.Judged.{Judged}
-use Rattle.payload.specs.declared.judge.Judged.the-variants as judged
-use Rattle.payload.specs.Begin.{reservedBy, begunBy, failedOf}
-use Rattle.payload.specs.Judge.{feedJudged, finishJudged}
+use Rattle.payload.specs.declared.refusals.Verdict.{Verdict}
+use Rattle.payload.specs.declared.refusals.Verdict.the-variants as judged
+use Rattle.payload.specs.Deferred.{reservedBy, begunBy, failedOf}
+use Rattle.payload.specs.Refusals.{feedJudged, finishJudged}
 use Rattle.payload.specs.Session as payload
 use Rattle.dcs.specs.declared.Answer.the-variants as answers
 use Rattle.dcs.specs.declared.Ending.{Ending}
@@ -158,7 +158,7 @@ fedIn phases.Escaped s canvas bs allowance = (escapedBy s bs 0 0, canvas)
 fedIn (phases.Over e) s canvas bs allowance = (overAs s 0 0 e, canvas)
 
 -- 9, 12, 13 leave all as it is
-unfoldable pub fedAs : Judged → Session → List ℕ → List ℕ → ℕ → Fed × List ℕ
+unfoldable pub fedAs : Verdict → Session → List ℕ → List ℕ → ℕ → Fed × List ℕ
 unfolding fedIn
 fedAs judged.Fine s canvas bs allowance = fedIn (s .phase) s canvas bs allowance
 fedAs (judged.Refused n) s canvas bs allowance = (record { answer = answers.Refused n; session = s }, canvas)
@@ -170,7 +170,7 @@ fedBy s canvas bs allowance = fedAs (feedJudged (s .payload) (length canvas) all
 -- ---- finishing
 
 -- 8 before the end, where there is no refusal yet
-unfoldable pub endJudged : Judged → Phase → Judged
+unfoldable pub endJudged : Verdict → Phase → Verdict
 endJudged judged.Fine (phases.Before t) = judged.Refused refusals.Unfinished
 endJudged judged.Fine phases.Within = judged.Refused refusals.Unfinished
 endJudged judged.Fine phases.Escaped = judged.Refused refusals.Unfinished
@@ -184,7 +184,7 @@ finishedIn phases.Within s owner canvas = payload.turnedAway owner refusals.Unfi
 finishedIn phases.Escaped s owner canvas = payload.turnedAway owner refusals.Unfinished canvas
 finishedIn (phases.Over e) s owner canvas = payload.finishedBy (s .payload) owner canvas
 
-unfoldable pub finishedAs : Judged → Session → Palette → List ℕ → Finished × List ℕ
+unfoldable pub finishedAs : Verdict → Session → Palette → List ℕ → Finished × List ℕ
 unfolding finishedIn
 finishedAs judged.Fine s owner canvas = finishedIn (s .phase) s owner canvas
 finishedAs (judged.Refused n) s owner canvas = payload.turnedAway owner n canvas

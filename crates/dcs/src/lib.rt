@@ -16,9 +16,9 @@ use header::settings_from;
 use numbers::Parameters;
 use payload::Finished;
 use payload::Finishing;
-use payload::begin;
-use payload::judge;
-use payload::judge::Judged;
+use payload::deferred;
+use payload::refusals;
+use payload::refusals::Verdict;
 
 // How a sequence came to its end, with the byte that cancelled or interrupted it.
 pub enum Ending {
@@ -82,7 +82,7 @@ struct Told {
 pub fn open(limits: Limits, stride: usize, palette: Palette, length: usize) -> Opened
     ensures { λ r. ⌜ r ≡ openedBy limits stride palette length ⌝ }
 {
-    let opened = begin::reserve(limits, stride, palette, length);
+    let opened = deferred::reserve(limits, stride, palette, length);
     let answer = opened.answer;
     let header = Parameters::new(3);
     Opened {
@@ -212,7 +212,8 @@ fn feed_payload(
     allowance: usize,
 ) -> Fed
     requires { ⌜ from ≤ length (now bytes) ⌝ }
-    ensures { λ r. ⌜ (r, now (canvas .exit)) ≡ fedPayload (within inner header) (now (canvas .entry)) (drop from (now (bytes .entry))) from allowance ⌝ }
+    ensures { λ r. ⌜ (r, now (canvas .exit)) ≡ fedPayload
+        (within inner header) (now (canvas .entry)) (drop from (now (bytes .entry))) from allowance ⌝ }
 {
     let call = payload::feed(inner, canvas, &bytes[from..], allowance);
     let answer = call.answer;
@@ -228,7 +229,8 @@ fn feed_lead(
     bytes: &[u8],
     allowance: usize,
 ) -> Fed
-    ensures { λ r. ⌜ (r, now (canvas .exit)) ≡ fedLead (before inner header place) place (now (canvas .entry)) (now (bytes .entry)) allowance ⌝ }
+    ensures { λ r. ⌜ (r, now (canvas .exit)) ≡ fedLead
+        (before inner header place) place (now (canvas .entry)) (now (bytes .entry)) allowance ⌝ }
 {
     let lead = read_lead(place, header, bytes, 0);
     let values = lead.header;
@@ -244,7 +246,7 @@ fn feed_lead(
             tell(inner, values, told)
         }
         Led::Begins => {
-            let begun = begin::begin(inner, settings_from(values), canvas);
+            let begun = deferred::start(inner, settings_from(values), canvas);
             feed_payload(begun, values, canvas, bytes, consumed, allowance)
         }
         Led::Refused(refusal) => {
@@ -252,7 +254,7 @@ fn feed_lead(
                 answer: Answer::Refused(refusal),
                 phase: Phase::Before(here),
             };
-            tell(begin::fail(inner), values, told)
+            tell(deferred::fail(inner), values, told)
         }
     }
 }
@@ -266,7 +268,8 @@ fn feed_in(
     bytes: &[u8],
     allowance: usize,
 ) -> Fed
-    ensures { λ r. ⌜ (r, now (canvas .exit)) ≡ fedIn phase (sessionOf inner header phase) (now (canvas .entry)) (now (bytes .entry)) allowance ⌝ }
+    ensures { λ r. ⌜ (r, now (canvas .exit)) ≡ fedIn
+        phase (sessionOf inner header phase) (now (canvas .entry)) (now (bytes .entry)) allowance ⌝ }
 {
     match phase {
         Phase::Before(place) => feed_lead(inner, header, place, canvas, bytes, allowance),
@@ -281,7 +284,7 @@ pub fn feed(session: Session, canvas: &mut [u8], bytes: &[u8], allowance: usize)
     ensures { λ r. ⌜ (r, now (canvas .exit)) ≡ fedBy session (now (canvas .entry)) (now (bytes .entry)) allowance ⌝ }
 {
     let inner = session.payload;
-    if let Judged::Refused(refusal) = judge::feed_refusal(inner, canvas.len(), allowance) {
+    if let Verdict::Refused(refusal) = refusals::feed_refusal(inner, canvas.len(), allowance) {
         return Fed {
             answer: Answer::Refused(refusal),
             session,
@@ -292,16 +295,16 @@ pub fn feed(session: Session, canvas: &mut [u8], bytes: &[u8], allowance: usize)
 }
 
 // 8 where the sequence is not over, after what the payload session says.
-fn judge_end(judged: Judged, phase: Phase) -> Judged
-    ensures { λ r. ⌜ r ≡ endJudged judged phase ⌝ }
+fn end_refusal(verdict: Verdict, phase: Phase) -> Verdict
+    ensures { λ r. ⌜ r ≡ endJudged verdict phase ⌝ }
 {
-    if let Judged::Refused(_) = judged {
-        return judged;
+    if let Verdict::Refused(_) = verdict {
+        return verdict;
     }
     if let Phase::Over(_) = phase {
-        return Judged::Fine;
+        return Verdict::Fine;
     }
-    Judged::Refused(Refusal::Unfinished)
+    Verdict::Refused(Refusal::Unfinished)
 }
 
 // Finishes a sequence that has come to its end, as a payload session is finished.
@@ -310,8 +313,8 @@ pub fn finish(session: Session, owner: Palette, canvas: &mut [u8]) -> Finished
 {
     let inner = session.payload;
     let phase = session.phase;
-    let judged = judge_end(judge::finish_refusal(inner, canvas.len()), phase);
-    if let Judged::Refused(refusal) = judged {
+    let verdict = end_refusal(refusals::finish_refusal(inner, canvas.len()), phase);
+    if let Verdict::Refused(refusal) = verdict {
         return Finished {
             answer: Finishing::Refused(refusal),
             palette: owner,

@@ -11,6 +11,7 @@ use numbers::memory::parameters_from;
 use payload::memory::numbers_of as payload_numbers;
 use payload::memory::session_from as payload_from;
 use payload::memory::table_of as payload_table;
+use payload::places;
 
 fn place_number(place: Place) -> u64
     ensures { λ r. ⌜ r ≡ placeNumber place ⌝ }
@@ -76,16 +77,16 @@ pub fn numbers_of(session: Session) -> [u64; 48]
     let phase = session.phase;
     let values = header_numbers(session.header);
     let mut numbers = payload_numbers(session.payload);
-    numbers[34] = phase_number(phase);
-    numbers[35] = values[0];
-    numbers[36] = values[1];
-    numbers[37] = values[2];
-    numbers[38] = values[3];
-    numbers[39] = values[4];
-    numbers[40] = values[5];
-    numbers[41] = values[6];
-    numbers[42] = values[7];
-    numbers[43] = values[8];
+    numbers[places::PHASE] = phase_number(phase);
+    numbers[places::HEADER_0] = values[0];
+    numbers[places::HEADER_1] = values[1];
+    numbers[places::HEADER_2] = values[2];
+    numbers[places::HEADER_3] = values[3];
+    numbers[places::HEADER_4] = values[4];
+    numbers[places::HEADER_5] = values[5];
+    numbers[places::HEADER_6] = values[6];
+    numbers[places::HEADER_7] = values[7];
+    numbers[places::HEADER_8] = values[8];
     numbers
 }
 
@@ -93,18 +94,18 @@ pub fn session_from(numbers: &[u64; 48], registers: &[u32; 256]) -> Session
     ensures { λ r. ⌜ r ≡ sessionFrom (now (numbers .entry)) (now (registers .entry)) ⌝ }
 {
     let values = [
-        numbers[35],
-        numbers[36],
-        numbers[37],
-        numbers[38],
-        numbers[39],
-        numbers[40],
-        numbers[41],
-        numbers[42],
-        numbers[43],
+        numbers[places::HEADER_0],
+        numbers[places::HEADER_1],
+        numbers[places::HEADER_2],
+        numbers[places::HEADER_3],
+        numbers[places::HEADER_4],
+        numbers[places::HEADER_5],
+        numbers[places::HEADER_6],
+        numbers[places::HEADER_7],
+        numbers[places::HEADER_8],
     ];
     let header = parameters_from(values);
-    let phase = phase_from(numbers[34]);
+    let phase = phase_from(numbers[places::PHASE]);
     let inner = payload_from(numbers, registers);
     Session {
         payload: inner,

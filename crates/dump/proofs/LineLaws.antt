@@ -31,17 +31,25 @@ pub count-put : (name : List ℕ) (n : ℕ) (s₀ s₁ s₂ s₃ : ℕ × List �
 unfolding countLine
 count-put name n s₀ s₁ s₂ s₃ a b c = ended (name ++ decimal n) s₀ s₂ s₃ (put-then name (decimal n) s₀ a b) c
 
-pub pair-put : (name : List ℕ) (m n : ℕ) (s₀ s₁ s₂ s₃ s₄ s₅ : ℕ × List ℕ) → s₁ ≡ put name s₀ → s₂ ≡ put (decimal m) s₁ → s₃ ≡ putByte 32 s₂
+-- a name, a number, a space, some text and the line's end: both lines of two
+named : (name : List ℕ) (n : ℕ) (text : List ℕ) (s₀ s₁ s₂ s₃ s₄ s₅ : ℕ × List ℕ)
+    → s₁ ≡ put name s₀ → s₂ ≡ put (decimal n) s₁ → s₃ ≡ putByte 32 s₂ → s₄ ≡ put text s₃ → s₅ ≡ putByte 10 s₄
+    → s₅ ≡ put ((name ++ decimal n ++ words " " ++ text) ++ words "\n") s₀
+named name n text s₀ s₁ s₂ s₃ s₄ s₅ a b c d e =
+    let before = spaced name n s₀ s₁ s₂ s₃ a b c in
+    ended (name ++ decimal n ++ words " " ++ text) s₀ s₄ s₅ (put-then (name ++ decimal n ++ words " ") text s₀ before d) e
+
+pub pair-put : (name : List ℕ) (m n : ℕ) (s₀ s₁ s₂ s₃ s₄ s₅ : ℕ × List ℕ)
+    → s₁ ≡ put name s₀ → s₂ ≡ put (decimal m) s₁ → s₃ ≡ putByte 32 s₂
     → s₄ ≡ put (decimal n) s₃ → s₅ ≡ putByte 10 s₄ → s₅ ≡ put (pairLine name m n) s₀
 unfolding pairLine
-pair-put name m n s₀ s₁ s₂ s₃ s₄ s₅ a b c d e =
-    ended (name ++ decimal m ++ words " " ++ decimal n) s₀ s₄ s₅ (put-then (name ++ decimal m ++ words " ") (decimal n) s₀ (spaced name m s₀ s₁ s₂ s₃ a b c) d) e
+pair-put name m n = named name m (decimal n)
 
-pub stop-put : (name : List ℕ) (n byte : ℕ) (s₀ s₁ s₂ s₃ s₄ s₅ : ℕ × List ℕ) → s₁ ≡ put name s₀ → s₂ ≡ put (decimal n) s₁ → s₃ ≡ putByte 32 s₂
+pub stop-put : (name : List ℕ) (n byte : ℕ) (s₀ s₁ s₂ s₃ s₄ s₅ : ℕ × List ℕ)
+    → s₁ ≡ put name s₀ → s₂ ≡ put (decimal n) s₁ → s₃ ≡ putByte 32 s₂
     → s₄ ≡ put (hex byte) s₃ → s₅ ≡ putByte 10 s₄ → s₅ ≡ put (stopLine name n byte) s₀
 unfolding stopLine
-stop-put name n byte s₀ s₁ s₂ s₃ s₄ s₅ a b c d e =
-    ended (name ++ decimal n ++ words " " ++ hex byte) s₀ s₄ s₅ (put-then (name ++ decimal n ++ words " ") (hex byte) s₀ (spaced name n s₀ s₁ s₂ s₃ a b c) d) e
+stop-put name n byte = named name n (hex byte)
 
 pub raster-put : (n : ℕ) (s₀ s₁ s₂ s₃ : ℕ × List ℕ) → s₁ ≡ put (words "ratio ") s₀ → s₂ ≡ put (decimal n) s₁ → s₃ ≡ put (words ":1\n") s₂
     → s₃ ≡ put (ratioLine (ratios.Raster n)) s₀
@@ -51,7 +59,8 @@ raster-put n s₀ s₁ s₂ s₃ a b c =
 
 -- ---- cases
 
-pub status-as : (ending case : Ending) (n : ℕ) (before : ℕ × List ℕ) {after : ℕ × List ℕ} → ending ≡ case → after ≡ put (statusLine case n) before
+pub status-as : (ending case : Ending) (n : ℕ) (before : ℕ × List ℕ) {after : ℕ × List ℕ}
+    → ending ≡ case → after ≡ put (statusLine case n) before
     → after ≡ put (statusLine ending n) before
 status-as ending case n before e h = rw e h
 
@@ -74,7 +83,8 @@ refusal-as refusal n before e h = rw e at h
 
 -- ---- the whole text
 
-pub picture-put : (ending : Ending) (consumed ink : ℕ) (report : Report) (stride : ℕ) (canvas : List ℕ) (s₀ s₁ s₂ s₃ s₄ s₅ s₆ s₇ : ℕ × List ℕ)
+pub picture-put : (ending : Ending) (consumed ink : ℕ) (report : Report) (stride : ℕ) (canvas : List ℕ)
+    (s₀ s₁ s₂ s₃ s₄ s₅ s₆ s₇ : ℕ × List ℕ)
     → s₁ ≡ put (statusLine ending consumed) s₀ → s₂ ≡ put (sizeLine (report .width) (report .height)) s₁
     → s₃ ≡ put (extentLine (report .right) (report .bottom)) s₂ → s₄ ≡ put (ratioLine (report .ratio)) s₃
     → s₅ ≡ put (backgroundLine (report .transparent)) s₄ → s₆ ≡ put (inkLine ink) s₅

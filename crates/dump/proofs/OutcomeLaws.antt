@@ -25,8 +25,10 @@ finish-as finishing case ending counts stride canvas before e h = rw e h
 pub outcome-put : (reader : Reader) (owner : Palette) (stride : ℕ) (canvas later out : List ℕ) (standing : Standing) (ending : Ending)
     (counts : Counts) (finished : Finished) (after : ℕ × List ℕ) → standing ≡ reader .standing → ending ≡ endingOf standing
     → counts ≡ reader .counts → (finished, later) ≡ finishedBy reader owner canvas
-    → after ≡ put (finishText (finished .answer) ending counts stride later) (0, out) → (after, later) ≡ dumpedBy reader owner stride canvas out
+    → after ≡ put (finishText (finished .answer) ending counts stride later) (0, out)
+    → (after, later) ≡ dumpedBy reader owner stride canvas out
 unfolding dumpedBy
 outcome-put reader owner stride canvas later out standing ending counts finished after s e c f h =
-    let whole : after ≡ put (finishText (finished .answer) (endingOf (reader .standing)) (reader .counts) stride later) (0, out) = rw (e, s, c) at h in
+    let text : List ℕ = finishText (finished .answer) (endingOf (reader .standing)) (reader .counts) stride later in
+    let whole : after ≡ put text (0, out) = rw (e, s, c) at h in
     rw (sym f) (ap {B = (ℕ × List ℕ) × List ℕ} (λ (x : ℕ × List ℕ). (x, later)) whole)

@@ -32,7 +32,8 @@ pixel-more canvas p width x s₀ s₁ s₂ whole h a b e =
     (sym (put-append (32 ∷ pixelText canvas (p + x)) (furtherText canvas (p + x + 1) (width - (x + 1))) s₀) ∙ (rw left at e))
 
 -- no pixel left
-pixels-done : (canvas : List ℕ) (p left : ℕ) (there whole : ℕ × List ℕ) → left ≡ 0 → put (furtherText canvas p left) there ≡ whole → there ≡ whole
+pixels-done : (canvas : List ℕ) (p left : ℕ) (there whole : ℕ × List ℕ) → left ≡ 0
+    → put (furtherText canvas p left) there ≡ whole → there ≡ whole
 unfolding furtherText put
 pixels-done canvas p left there whole e h = rw e at h
 
@@ -51,7 +52,9 @@ pub row-more : (canvas : List ℕ) (stride width height y : ℕ) (s₀ s₁ whol
 unfolding rowsText
 row-more canvas stride width height y s₀ s₁ whole h a e =
     let left : height - y ≡ suc (height - (y + 1)) = omega arith in
-    rw a (sym (put-append (rowText canvas (y * stride) width) (rowsText canvas stride width (y + 1) (height - (y + 1))) s₀) ∙ (rw left at e))
+    rw a
+    (sym (put-append (rowText canvas (y * stride) width) (rowsText canvas stride width (y + 1) (height - (y + 1))) s₀)
+    ∙ (rw left at e))
 
 -- no row left
 pub rows-done : (canvas : List ℕ) (stride width height y : ℕ) (there whole : ℕ × List ℕ) → height ≤ y

@@ -26,6 +26,10 @@ unfoldable pub canvas : List ℕ
 canvas = red ++ red ++ black ++ black ++ black ++ black
 
 pub sample : pictureText endings.Complete 20 4 report 3 canvas
-    ≡ words "complete 20\nsize 2 6\nextent 2 6\nratio p1 none\nbackground opaque\nink 4\nFF0000FF FF0000FF\nFF0000FF FF0000FF\n000000FF 000000FF\n000000FF 000000FF\n000000FF 000000FF\n000000FF 000000FF\n"
-unfolding pictureText statusLine sizeLine extentLine ratioLine backgroundLine inkLine countLine pairLine pictureRows rowsText rowText furtherText pixelText hasPicture fits rowsOf decimal digits hex hexDigit words report canvas red black
+    ≡ words "complete 20\nsize 2 6\nextent 2 6\nratio p1 none\nbackground opaque\nink 4\n"
+    ++ words "FF0000FF FF0000FF\nFF0000FF FF0000FF\n"
+    ++ words "000000FF 000000FF\n000000FF 000000FF\n000000FF 000000FF\n000000FF 000000FF\n"
+unfolding pictureText statusLine sizeLine extentLine ratioLine backgroundLine inkLine countLine pairLine
+    pictureRows rowsText rowText furtherText pixelText hasPicture fits rowsOf decimal digits hex hexDigit words
+    report canvas red black
 sample = refl

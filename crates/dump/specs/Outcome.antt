@@ -23,7 +23,8 @@ endingOf (standings.Refused refusal) = endings.Complete
 
 -- the text of a finish
 unfoldable pub finishText : Finishing → Ending → Counts → ℕ → List ℕ → List ℕ
-finishText (finishings.Picture report) ending counts stride canvas = pictureText ending (counts .consumed) (counts .ink) report stride canvas
+finishText (finishings.Picture report) ending counts stride canvas =
+    pictureText ending (counts .consumed) (counts .ink) report stride canvas
 finishText (finishings.Refused refusal) ending counts stride canvas = refusalText refusal
 
 -- the length of the text, the buffer and the canvas, after the finish of a reader

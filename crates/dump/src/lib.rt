@@ -160,7 +160,8 @@ pub fn write_picture(
     stride: usize,
     canvas: &[u8],
 ) -> usize
-    ensures { λ r. ⌜ (r, now (out .exit)) ≡ put (pictureText ending consumed ink report stride (now (canvas .entry))) (0, now (out .entry)) ⌝ }
+    ensures { λ r. ⌜ (r, now (out .exit))
+        ≡ put (pictureText ending consumed ink report stride (now (canvas .entry))) (0, now (out .entry)) ⌝ }
 {
     let ratio = report.ratio;
     let size = put_status(out, 0, ending, consumed);

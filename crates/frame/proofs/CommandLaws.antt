@@ -1,5 +1,5 @@
 -- Laws of commands: one for each path through a function of `commands`.
-use Prim.Native.Nat.{ℕ, _*_, _≤_, _<_, max}
+use Prim.Native.Nat.{ℕ, _*_, _≤_, _<_, min, max}
 use mathlib.Core.Bool.{Bool, true, false, _&&_}
 use mathlib.Core.List.{List, [], _∷_}
 use mathlib.Core.Path.{_≡_, refl, sym, ap, ap₂, _∙_}
@@ -24,30 +24,38 @@ use Rattle.frame.specs.declared.Frame.{Frame}
 use Rattle.frame.specs.declared.Ground.{Ground}
 use Rattle.frame.specs.declared.Kind.{Kind}
 use Rattle.frame.specs.declared.Kind.the-variants as kinds
+use Rattle.frame.specs.declared.Progress.{Progress}
 use Rattle.frame.specs.declared.Raster.{Raster}
 use Rattle.frame.specs.declared.Refusal.{Refusal}
 use Rattle.frame.specs.declared.Refusal.the-variants as refusals
-use Rattle.frame.specs.declared.Sheet.{Sheet}
-use Rattle.frame.specs.declared.Stepped.{Stepped}
+use Rattle.frame.specs.declared.VisibleArea.{VisibleArea}
 use Rattle.frame.specs.declared.rasters.Measured.{Measured}
 use Rattle.frame.specs.declared.rasters.Measured.the-variants as measures
 use Rattle.frame.specs.declared.commands.Selected.{Selected}
 use Rattle.frame.specs.declared.sizes.Needed.{Needed}
 use Rattle.frame.specs.declared.sizes.Needed.the-variants.{Area, Refused}
 use Rattle.frame.specs.Sizes.{rasterArea}
-use Rattle.frame.specs.Commands.{withCommand, begun, valuesLonger, numberLonger, byDigitIn, byDigit, bySemicolon, settledAs, refusedAs, withRepeat, repeatEnded, definedBy, redefinedBy, registerIn, withColor, paletteAfter, selectedIn, colorEndedBy, finishedOf, quotientOf, ratioBy, keptSize, rasterBy, withArea, rasterGrown, measuredIn, measuredBy, rasterEndedIn, rasterEndedBy, Ended, endedIn, ended}
+use Rattle.frame.specs.Commands.{withCommand, begun, valuesLonger, numberLonger, byDigitIn, byDigit, bySemicolon, settledAs, refusedAs, withRepeat, repeatEnded, definedBy, redefinedBy, registerIn, withColor, paletteAfter, selectedIn, colorEndedBy, finishedOf, quotientOf, ratioBy, keptSize, rasterBy, rasterGrown, measuredIn, measuredBy, rasterEndedIn, rasterEndedBy, Ended, endedIn, ended}
 use Rattle.frame.proofs.Kind as KindType
 
 -- ---- a command begins and goes on
 
 pub begun-as : {q : Parameters} (f : Frame) (k : Kind) (n : ℕ) → q ≡ numbers.opened n
-    → _≡_ {A = Frame} (record { pen = f .pen; sheet = f .sheet; raster = f .raster; command = record { kind = k; number = 0; parameters = q } }) (begun f k n)
+    → _≡_ {A = Frame}
+    (record {
+      pen = f .pen;
+      area = f .area;
+      extent = f .extent;
+      raster = f .raster;
+      command = record { kind = k; number = 0; parameters = q };
+    })
+    (begun f k n)
 unfolding begun withCommand
 begun-as f k n e = ap (λ (q : Parameters). withCommand f (record { kind = k; number = 0; parameters = q })) e
 
 -- the frame with the pending command changed
 abbrev framed : Frame → Command → Frame
-framed f c = record { pen = f .pen; sheet = f .sheet; raster = f .raster; command = c }
+framed f c = record { pen = f .pen; area = f .area; extent = f .extent; raster = f .raster; command = c }
 
 pub digit-number : {n : ℕ} (f : Frame) (b : ℕ) → f .command .kind ≡ kinds.Repeat → n ≡ numbers.repeated (f .command .number) b
     → framed f (record { kind = f .command .kind; number = n; parameters = f .command .parameters }) ≡ withCommand f (byDigit (f .command) b)
@@ -63,7 +71,8 @@ other-digit kinds.Repeat c b h = absurd (miss (0 ∷ 2 ∷ 3 ∷ []) 1 tt h)
 other-digit kinds.Color c b h = refl
 other-digit kinds.Raster c b h = refl
 
-pub digit-value : {q : Parameters} (f : Frame) (b : ℕ) → OneOf (0 ∷ 2 ∷ 3 ∷ []) (tagOf KindType.the-type (f .command .kind)) → q ≡ numbers.withDigit (f .command .parameters) b
+pub digit-value : {q : Parameters} (f : Frame) (b : ℕ) → OneOf (0 ∷ 2 ∷ 3 ∷ []) (tagOf KindType.the-type (f .command .kind))
+    → q ≡ numbers.withDigit (f .command .parameters) b
     → framed f (record { kind = f .command .kind; number = f .command .number; parameters = q }) ≡ withCommand f (byDigit (f .command) b)
 unfolding withCommand byDigit valuesLonger
 digit-value f b k e =
@@ -77,17 +86,20 @@ semicolon-as f e = ap (λ (q : Parameters). framed f (record { kind = f .command
 
 -- ---- a repeat ends
 
-pub repeat-refused : {r : Stepped} (f : Frame) (g : Ground) → g .limits .repeats < f .command .number → r ≡ refusedAs f refusals.Repeat → r ≡ repeatEnded f g
+pub repeat-refused : {r : Progress} (f : Frame) (g : Ground) → g .limits .repeats < f .command .number → r ≡ refusedAs f refusals.Repeat → r ≡ repeatEnded f g
 unfolding repeatEnded
 repeat-refused f g h e = e ∙ sym (cond-yes _ _ (lt-ltb _ _ h))
 
-pub repeat-settled : {r : Stepped} {n : ℕ} (f : Frame) (g : Ground) → f .command .number ≤ g .limits .repeats → n ≡ max 1 (f .command .number)
-    → r ≡ settledAs (record { column = f .pen .column; row = f .pen .row; repeat = n; register = f .pen .register; color = f .pen .color }) (f .sheet) (f .raster)
+pub repeat-settled : {r : Progress} {n : ℕ} (f : Frame) (g : Ground) → f .command .number ≤ g .limits .repeats → n ≡ max 1 (f .command .number)
+    → r
+    ≡ settledAs (record { column = f .pen .column; row = f .pen .row; repeat = n; register = f .pen .register; color = f .pen .color }) (f .area)
+    (f .extent)
+    (f .raster)
     → r ≡ repeatEnded f g
 unfolding repeatEnded withRepeat
 repeat-settled f g h e k =
     k
-    ∙ ap (λ (m : ℕ). settledAs (withRepeat (f .pen) m) (f .sheet) (f .raster)) e
+    ∙ ap (λ (m : ℕ). settledAs (withRepeat (f .pen) m) (f .area) (f .extent) (f .raster)) e
     ∙ sym (cond-no _ _ (le-ltb _ _ h))
 
 -- ---- a colour ends
@@ -127,25 +139,23 @@ module _ (p : Palette) (k : ℕ) (v : Parameters) {n : ℕ} (count : n ≡ v .co
   unfolding redefinedBy
   redefined-few h = sym (cond-no _ _ (ne-eqb _ _ (λ e. h (count ∙ e))))
 
-  pub redefined-five : {s x y z : ℕ} {q : Palette} → n ≡ 5 → s ≡ numbers.valueAt v 1 → x ≡ numbers.valueAt v 2 → y ≡ numbers.valueAt v 3 → z ≡ numbers.valueAt v 4
+  pub redefined-five : {s x y z : ℕ} {q : Palette} → n ≡ 5 → s ≡ numbers.valueAt v 1 → x ≡ numbers.valueAt v 2 → y ≡ numbers.valueAt v 3
+      → z ≡ numbers.valueAt v 4
       → q ≡ definedBy p k s x y z → q ≡ redefinedBy p k v
   unfolding redefinedBy
   redefined-five five es ex ey ez e = e ∙ rw (es, ex, ey, ez) (sym (cond-yes _ _ (eq-eqb _ _ (sym count ∙ five))))
 
-pub register-first : {n : ℕ} (v : Parameters) → n ≡ numbers.valueAt v 0 → n < 255 → n ≡ registerIn v
+pub register-as : {x n : ℕ} (v : Parameters) → x ≡ numbers.valueAt v 0 → n ≡ min x 255 → n ≡ registerIn v
 unfolding registerIn
-register-first v e h = omega arith
-
-pub register-last : {n : ℕ} (v : Parameters) → n ≡ numbers.valueAt v 0 → 255 ≤ n → 255 ≡ registerIn v
-unfolding registerIn
-register-last v e h = omega arith
+register-as v e h = h ∙ ap (λ (y : ℕ). min y 255) e
 
 module _ (begun : Parameters) {v : Parameters} {n : ℕ} (finish : v ≡ numbers.finished begun) (register : n ≡ registerIn v) where
   pub selected-palette : {q : Palette} (p : Palette) → q ≡ redefinedBy p n v → q ≡ paletteAfter p (numbers.finished begun)
   unfolding paletteAfter
   selected-palette p e = e ∙ rw (register, finish) refl
 
-  pub selected-as : {px : List ℕ} (q : Palette) → px ≡ registerOf q n → _≡_ {A = Selected} (record { register = n; color = px }) (selectedIn q (numbers.finished begun))
+  pub selected-as : {px : List ℕ} (q : Palette) → px ≡ registerOf q n
+      → _≡_ {A = Selected} (record { register = n; color = px }) (selectedIn q (numbers.finished begun))
   unfolding selectedIn
   selected-as q e = rw (e, register, finish) refl
 
@@ -177,7 +187,8 @@ pub ratio-old : {n : ℕ} (old : ℕ) (v : Parameters) → n ≡ v .count → n 
 unfolding ratioBy
 ratio-old old v e h = sym (cond-yes _ _ (lt-ltb (v .count) 2 (omega arith)))
 
-pub ratio-new : {n a b x y r : ℕ} (old : ℕ) (v : Parameters) → n ≡ v .count → 2 ≤ n → a ≡ numbers.valueAt v 0 → x ≡ max 1 a → b ≡ numbers.valueAt v 1 → y ≡ max 1 b
+pub ratio-new : {n a b x y r : ℕ} (old : ℕ) (v : Parameters) → n ≡ v .count → 2 ≤ n → a ≡ numbers.valueAt v 0 → x ≡ max 1 a → b ≡ numbers.valueAt v 1
+    → y ≡ max 1 b
     → r ≡ quotientOf x y → r ≡ ratioBy old v
 unfolding ratioBy
 ratio-new old v e h ea ex eb ey er =
@@ -200,12 +211,14 @@ pub sizeless-no : (w h : ℕ) → (w ≡ 0 → ⊥) → false ≡ (eqb w 0 && eq
 sizeless-no w h e = ap (λ (s : Bool). s && eqb h 0) (sym (ne-eqb w 0 e))
 
 -- the raster of the values
-pub raster-as : {x w h a b : ℕ} (r : Raster) (v : Parameters) → x ≡ ratioBy (r .ratio) v → a ≡ numbers.valueAt v 2 → w ≡ keptSize (r .width) a → b ≡ numbers.valueAt v 3
+pub raster-as : {x w h a b : ℕ} (r : Raster) (v : Parameters) → x ≡ ratioBy (r .ratio) v → a ≡ numbers.valueAt v 2 → w ≡ keptSize (r .width) a
+    → b ≡ numbers.valueAt v 3
     → h ≡ keptSize (r .height) b → _≡_ {A = Raster} (record { ratio = x; width = w; height = h }) (rasterBy r v)
 unfolding rasterBy
 raster-as r v ex ea ew eb eh = rw (ex, ew, ea, eh, eb) refl
 
-module _ (begun : Parameters) (old : Raster) (a : Sheet) (g : Ground) {v : Parameters} {r : Raster} {t : Bool} (finish : v ≡ numbers.finished begun) (after : r ≡ rasterBy old v) (test : t ≡ (eqb (r .width) 0 && eqb (r .height) 0)) where
+module _ (begun : Parameters) (old : Raster) (a : VisibleArea) (g : Ground) {v : Parameters} {r : Raster} {t : Bool}
+    (finish : v ≡ numbers.finished begun) (after : r ≡ rasterBy old v) (test : t ≡ (eqb (r .width) 0 && eqb (r .height) 0)) where
   same-raster : measuredBy r a g ≡ measuredBy (rasterBy old (numbers.finished begun)) a g
   same-raster = ap (λ (x : Raster). measuredBy x a g) (after ∙ ap (rasterBy old) finish)
 
@@ -226,14 +239,14 @@ module _ (begun : Parameters) (old : Raster) (a : Sheet) (g : Ground) {v : Param
     unfolding measuredIn
     measured-refused e = ap (measuredIn r) (sym e) ∙ measured-in
 
-module _ (f : Frame) {m : Measured} {s : Stepped} where
-  pub raster-none : {r : Raster} → m ≡ measures.Sizeless r → s ≡ settledAs (f .pen) (f .sheet) r → s ≡ rasterEndedIn m f
+module _ (f : Frame) {m : Measured} {s : Progress} where
+  pub raster-none : {r : Raster} → m ≡ measures.Sizeless r → s ≡ settledAs (f .pen) (f .area) (f .extent) r → s ≡ rasterEndedIn m f
   unfolding rasterEndedIn
   raster-none e k = k ∙ ap (λ (x : Measured). rasterEndedIn x f) (sym e)
 
   pub raster-area : {r : Raster} {w h : ℕ} → m ≡ measures.Area r w h
-      → s ≡ settledAs (f .pen) (record { width = w; height = h; right = f .sheet .right; bottom = f .sheet .bottom }) r → s ≡ rasterEndedIn m f
-  unfolding rasterEndedIn withArea
+      → s ≡ settledAs (f .pen) (record { width = w; height = h }) (f .extent) r → s ≡ rasterEndedIn m f
+  unfolding rasterEndedIn
   raster-area e k = k ∙ ap (λ (x : Measured). rasterEndedIn x f) (sym e)
 
   pub raster-refused : {u : Refusal} → m ≡ measures.Refused u → s ≡ refusedAs f u → s ≡ rasterEndedIn m f
@@ -245,48 +258,69 @@ unfolding rasterEndedIn measuredIn rasterGrown
 raster-in f r (Area w h) = refl
 raster-in f r (Refused u) = refl
 
-raster-by : (f : Frame) (g : Ground) (r : Raster) → rasterEndedIn (measuredBy r (f .sheet) g) f ≡ rasterEndedBy f g r
+raster-by : (f : Frame) (g : Ground) (r : Raster) → rasterEndedIn (measuredBy r (f .area) g) f ≡ rasterEndedBy f g r
 unfolding measuredBy rasterEndedBy rasterEndedIn
 raster-by f g r =
     by-test (eqb (r .width) 0 && eqb (r .height) 0)
     (λ t. rw t)
-    (λ t. rw t (raster-in f r (rasterArea (f .sheet) g (max 1 (r .width)) (max 1 (r .height)))))
+    (λ t. rw t (raster-in f r (rasterArea (f .area) g (max 1 (r .width)) (max 1 (r .height)))))
 
 -- ---- whichever is pending
 
-module _ (f : Frame) (g : Ground) (p : Palette) {s : Stepped} where
-  pub ended-data : f .command .kind ≡ kinds.Data → s ≡ settledAs (f .pen) (f .sheet) (f .raster)
-      → _≡_ {A = Ended} (record { stepped = s; palette = p }) (ended f g p)
+module _ (f : Frame) (g : Ground) (p : Palette) {s : Progress} where
+  pub ended-data : f .command .kind ≡ kinds.Data → s ≡ settledAs (f .pen) (f .area) (f .extent) (f .raster)
+      → _≡_ {A = Ended} (record { progress = s; palette = p }) (ended f g p)
   unfolding ended endedIn
-  ended-data k e = ap (λ (x : Stepped). record { stepped = x; palette = p }) e ∙ sym (ap (λ (j : Kind). endedIn j f g p) k)
+  ended-data k e = ap (λ (x : Progress). record { progress = x; palette = p }) e ∙ sym (ap (λ (j : Kind). endedIn j f g p) k)
 
-  pub ended-repeat : f .command .kind ≡ kinds.Repeat → s ≡ repeatEnded f g → _≡_ {A = Ended} (record { stepped = s; palette = p }) (ended f g p)
+  pub ended-repeat : f .command .kind ≡ kinds.Repeat → s ≡ repeatEnded f g → _≡_ {A = Ended} (record { progress = s; palette = p }) (ended f g p)
   unfolding ended endedIn
-  ended-repeat k e = ap (λ (x : Stepped). record { stepped = x; palette = p }) e ∙ sym (ap (λ (j : Kind). endedIn j f g p) k)
+  ended-repeat k e = ap (λ (x : Progress). record { progress = x; palette = p }) e ∙ sym (ap (λ (j : Kind). endedIn j f g p) k)
 
   pub ended-color : {q : Palette} {x : Selected} → f .command .kind ≡ kinds.Color
       → (q ≡ paletteAfter p (numbers.finished (f .command .parameters))) × (x ≡ selectedIn q (numbers.finished (f .command .parameters)))
-      → s ≡ settledAs (withColor (f .pen) (x .register) (x .color)) (f .sheet) (f .raster)
-      → _≡_ {A = Ended} (record { stepped = s; palette = q }) (ended f g p)
+      → s ≡ settledAs (withColor (f .pen) (x .register) (x .color)) (f .area) (f .extent) (f .raster)
+      → _≡_ {A = Ended} (record { progress = s; palette = q }) (ended f g p)
   unfolding ended endedIn colorEndedBy selectedIn finishedOf
   ended-color {q} k e h =
-      let same : s ≡ colorEndedBy f q (finishedOf f) = h ∙ ap (λ (y : Selected). settledAs (withColor (f .pen) (y .register) (y .color)) (f .sheet) (f .raster)) (e .1) in
-      ap₂ (λ (y : Stepped) (z : Palette). record { stepped = y; palette = z }) (same ∙ ap (λ (z : Palette). colorEndedBy f z (finishedOf f)) (e .0)) (e .0)
+      let settles : Selected → Progress = λ y. settledAs (withColor (f .pen) (y .register) (y .color)) (f .area) (f .extent) (f .raster) in
+      let same : s ≡ colorEndedBy f q (finishedOf f) = h ∙ ap settles (e .1) in
+      ap₂ (λ (y : Progress) (z : Palette). record { progress = y; palette = z }) (same ∙ ap (λ (z : Palette). colorEndedBy f z (finishedOf f)) (e .0)) (e .0)
       ∙ sym (ap (λ (j : Kind). endedIn j f g p) k)
 
-  pub ended-raster : {m : Measured} → f .command .kind ≡ kinds.Raster → m ≡ measuredBy (rasterBy (f .raster) (numbers.finished (f .command .parameters))) (f .sheet) g → s ≡ rasterEndedIn m f
-      → _≡_ {A = Ended} (record { stepped = s; palette = p }) (ended f g p)
+  pub ended-raster : {m : Measured} → f .command .kind ≡ kinds.Raster
+      → m ≡ measuredBy (rasterBy (f .raster) (numbers.finished (f .command .parameters))) (f .area) g → s ≡ rasterEndedIn m f
+      → _≡_ {A = Ended} (record { progress = s; palette = p }) (ended f g p)
   unfolding ended endedIn finishedOf
   ended-raster k e h =
-      ap (λ (x : Stepped). record { stepped = x; palette = p }) (h ∙ ap (λ (x : Measured). rasterEndedIn x f) e ∙ raster-by f g (rasterBy (f .raster) (finishedOf f)))
+      ap (λ (x : Progress). record { progress = x; palette = p })
+      (h ∙ ap (λ (x : Measured). rasterEndedIn x f) e ∙ raster-by f g (rasterBy (f .raster) (finishedOf f)))
       ∙ sym (ap (λ (j : Kind). endedIn j f g p) k)
 
 pub ruleset begins = (begun-as, digit-number, digit-value, semicolon-as)
 
 pub ruleset colored =
-    (value-within, small-signed, defined-none, defined-hls, defined-rgb, redefined-few, redefined-five, register-first, register-last, selected-palette, selected-as)
+    (value-within, small-signed, defined-none, defined-hls, defined-rgb, redefined-few, redefined-five, register-as, selected-palette, selected-as)
 
-pub ruleset rastered =
-    (quotient-one, quotient-two, quotient-three, quotient-five, quotient-none, ratio-old, ratio-new, kept-old, kept-new, sizeless-yes, sizeless-no, raster-as, measured-none, measured-area, measured-refused, raster-none, raster-area, raster-refused)
+pub ruleset rastered = (
+  quotient-one,
+  quotient-two,
+  quotient-three,
+  quotient-five,
+  quotient-none,
+  ratio-old,
+  ratio-new,
+  kept-old,
+  kept-new,
+  sizeless-yes,
+  sizeless-no,
+  raster-as,
+  measured-none,
+  measured-area,
+  measured-refused,
+  raster-none,
+  raster-area,
+  raster-refused,
+)
 
 pub ruleset endings = (repeat-refused, repeat-settled, ended-data, ended-repeat, ended-color, ended-raster)

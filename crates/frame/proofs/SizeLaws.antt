@@ -10,7 +10,7 @@ use Rattle.numbers.proofs.Laws.{cond-yes, cond-no}
 use Rattle.canvas.proofs.Covers.{and-left, and-right, and-both, same-test, by-test}
 use Rattle.frame.specs.declared.Ground.{Ground}
 use Rattle.frame.specs.declared.Pen.{Pen}
-use Rattle.frame.specs.declared.Sheet.{Sheet}
+use Rattle.frame.specs.declared.VisibleArea.{VisibleArea}
 use Rattle.frame.specs.declared.Refusal.{Refusal}
 use Rattle.frame.specs.declared.Refusal.the-variants.{Size, Pixels, Room}
 use Rattle.frame.specs.declared.sizes.Needed.{Needed}
@@ -66,7 +66,7 @@ module _ (g : Ground) (wide high : ℕ) where
   unfolding roomFor
   room-left e t s r = sym (cond-no _ _ (sym e ∙ t) ∙ cond-no _ _ (le-ltb _ _ s) ∙ cond-no _ _ (le-ltb _ _ r))
 
-module _ (a : Sheet) (g : Ground) (w h : ℕ) where
+module _ (a : VisibleArea) (g : Ground) (w h : ℕ) where
   pub grown-as : {wide high : ℕ} {r : Needed} → wide ≡ max (a .width) w → high ≡ max (a .height) h → r ≡ roomFor g wide high → r ≡ grownArea a g w h
   unfolding grownArea
   grown-as e f r = r ∙ ap₂ (roomFor g) e f
@@ -93,7 +93,7 @@ ends-columns p w h e t = leb-true _ _ (and-left _ (leb (p .row + 6) h) (sym e �
 pub ends-rows : {t : Bool} (p : Pen) (w h : ℕ) → t ≡ ends p w h → t ≡ true → p .row + 6 ≤ h
 ends-rows p w h e t = leb-true _ _ (and-right (leb (p .column + p .repeat) w) _ (sym e ∙ t))
 
-module _ (p : Pen) (a : Sheet) (g : Ground) where
+module _ (p : Pen) (a : VisibleArea) (g : Ground) where
   pub sixel-visible : {t : Bool} → t ≡ ends p (a .width) (a .height) → t ≡ true → Area (a .width) (a .height) ≡ sixelArea p a g
   unfolding sixelArea
   sixel-visible e t = sym (cond-yes _ _ (sym e ∙ t))
@@ -113,8 +113,8 @@ pub ruleset sized =
 
 -- ---- what an area that is needed has
 
--- a sheet grown to a size that has room
-pub record Roomy (a : Sheet) (g : Ground) (w h : ℕ) : Type 0 where
+-- an area grown to a size that has room
+pub record Roomy (a : VisibleArea) (g : Ground) (w h : ℕ) : Type 0 where
   pub wider : a .width ≤ w
   pub higher : a .height ≤ h
   pub width : w ≤ g .stride
@@ -136,7 +136,7 @@ room-area g wide high w h e =
     (λ v. let k : Area wide high ≡ Area w h = sym (cond-no _ _ t ∙ cond-no _ _ u ∙ cond-no _ _ v) ∙ e in
     ((cc), (cc), ltb-false _ _ u, ltb-false _ _ v, ltb-false _ _ t))))
 
-pub grown-roomy : (a : Sheet) (g : Ground) (x y w h : ℕ) → grownArea a g x y ≡ Area w h → Roomy a g w h × (x ≤ w) × (y ≤ h)
+pub grown-roomy : (a : VisibleArea) (g : Ground) (x y w h : ℕ) → grownArea a g x y ≡ Area w h → Roomy a g w h × (x ≤ w) × (y ≤ h)
 unfolding grownArea
 grown-roomy a g x y w h e =
     let k = room-area g (max (a .width) x) (max (a .height) y) w h e in
@@ -144,7 +144,7 @@ grown-roomy a g x y w h e =
     let q : max (a .height) y ≡ h = k .1 in
     (record { wider = omega arith; higher = omega arith; width = omega (arith, k .2); height = omega (arith, k .3) }, omega arith, omega arith)
 
-pub raster-roomy : (a : Sheet) (g : Ground) (x y w h : ℕ) → rasterArea a g x y ≡ Area w h → Roomy a g w h
+pub raster-roomy : (a : VisibleArea) (g : Ground) (x y w h : ℕ) → rasterArea a g x y ≡ Area w h → Roomy a g w h
 unfolding rasterArea
 raster-roomy a g x y w h e =
     by-test (ltb (g .limits .width) x)
@@ -154,7 +154,7 @@ raster-roomy a g x y w h e =
     (λ u. grown-roomy a g x y w h (sym (cond-no _ _ t ∙ cond-no _ _ u) ∙ e) .0))
 
 -- the next sixel's area has room, and the sixel in it
-pub sixel-roomy : (p : Pen) (a : Sheet) (g : Ground) (w h : ℕ) → a .width ≤ g .stride → a .height ≤ g .rows → sixelArea p a g ≡ Area w h
+pub sixel-roomy : (p : Pen) (a : VisibleArea) (g : Ground) (w h : ℕ) → a .width ≤ g .stride → a .height ≤ g .rows → sixelArea p a g ≡ Area w h
     → Roomy a g w h × (p .column + p .repeat ≤ w) × (p .row + 6 ≤ h)
 unfolding sixelArea
 sixel-roomy p a g w h aw ah e =
@@ -173,7 +173,7 @@ sixel-roomy p a g w h aw ah e =
 -- ---- a part of a sixel's columns
 
 -- the area that is needed reaches just so far
-pub sixel-reach : (p : Pen) (a : Sheet) (g : Ground) (w h : ℕ) → sixelArea p a g ≡ Area w h
+pub sixel-reach : (p : Pen) (a : VisibleArea) (g : Ground) (w h : ℕ) → sixelArea p a g ≡ Area w h
     → (w ≡ max (a .width) (p .column + p .repeat)) × (h ≡ max (a .height) (p .row + 6))
 unfolding sixelArea grownArea
 sixel-reach p a g w h e =
@@ -188,7 +188,8 @@ sixel-reach p a g w h e =
     (λ u. absurd (refused-area (sym (cond-no _ _ t ∙ cond-no _ _ u) ∙ e))))
 
 -- where an area is had for a sixel, one is had on the way there for a part of its columns
-pub sixel-part : (p q : Pen) (a b : Sheet) (g : Ground) (w h : ℕ) → sixelArea p a g ≡ Area w h → q .row ≡ p .row → q .column + q .repeat ≤ p .column + p .repeat
+pub sixel-part : (p q : Pen) (a b : VisibleArea) (g : Ground) (w h : ℕ) → sixelArea p a g ≡ Area w h → q .row ≡ p .row
+    → q .column + q .repeat ≤ p .column + p .repeat
     → a .width ≤ b .width → b .width ≤ w → a .height ≤ b .height → b .height ≤ h
     → sixelArea q b g ≡ Area (max (b .width) (q .column + q .repeat)) (max (b .height) (q .row + 6))
 unfolding sixelArea grownArea

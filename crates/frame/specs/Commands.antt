@@ -9,6 +9,7 @@ use Rattle.numbers.specs.Step as numbers
 use Rattle.colours.specs.declared.Palette.{Palette}
 use Rattle.colours.specs.Palette.{registerOf, setRgb, setHls}
 use Rattle.frame.specs.declared.Command.{Command}
+use Rattle.frame.specs.declared.Extent.{Extent}
 use Rattle.frame.specs.declared.Frame.{Frame}
 use Rattle.frame.specs.declared.Ground.{Ground}
 use Rattle.frame.specs.declared.Kind.{Kind}
@@ -16,11 +17,11 @@ use Rattle.frame.specs.declared.Kind.the-variants as kinds
 use Rattle.frame.specs.declared.Outcome.{Outcome}
 use Rattle.frame.specs.declared.Outcome.the-variants as outcomes
 use Rattle.frame.specs.declared.Pen.{Pen}
+use Rattle.frame.specs.declared.Progress.{Progress}
 use Rattle.frame.specs.declared.Raster.{Raster}
 use Rattle.frame.specs.declared.Refusal.{Refusal}
 use Rattle.frame.specs.declared.Refusal.the-variants as refusals
-use Rattle.frame.specs.declared.Sheet.{Sheet}
-use Rattle.frame.specs.declared.Stepped.{Stepped}
+use Rattle.frame.specs.declared.VisibleArea.{VisibleArea}
 use Rattle.frame.specs.declared.rasters.Measured.{Measured}
 use Rattle.frame.specs.declared.rasters.Measured.the-variants as measures
 use Rattle.frame.specs.declared.commands.Selected.{Selected}
@@ -31,7 +32,7 @@ use Rattle.frame.specs.Sizes.{rasterArea}
 -- ---- a command begins and goes on
 
 unfoldable pub withCommand : Frame → Command → Frame
-withCommand f c = record { pen = f .pen; sheet = f .sheet; raster = f .raster; command = c }
+withCommand f c = record { pen = f .pen; area = f .area; extent = f .extent; raster = f .raster; command = c }
 
 unfoldable pub begun : Frame → Kind → ℕ → Frame
 unfolding withCommand
@@ -64,24 +65,34 @@ bySemicolon c = record { kind = c .kind; number = c .number; parameters = number
 unfoldable pub noCommand : Command
 noCommand = record { kind = kinds.Data; number = 0; parameters = numbers.opened 0 }
 
--- none is pending any more
-unfoldable pub settledAs : Pen → Sheet → Raster → Stepped
+-- none is pending any more, and the byte that ended it is still to be read
+unfoldable pub settledAs : Pen → VisibleArea → Extent → Raster → Progress
 unfolding noCommand
-settledAs p a r =
-    record { frame = record { pen = p; sheet = a; raster = r; command = noCommand }; ink = 0; outcome = outcomes.Settled }
+settledAs p a e r =
+    record {
+      frame = record { pen = p; area = a; extent = e; raster = r; command = noCommand };
+      consumed = 0;
+      ink = 0;
+      outcome = outcomes.Read;
+    }
 
-unfoldable pub refusedAs : Frame → Refusal → Stepped
-refusedAs f r = record { frame = f; ink = 0; outcome = outcomes.Refused r }
+-- the byte stays unread
+unfoldable pub unreadAs : Frame → Outcome → Progress
+unreadAs f o = record { frame = f; consumed = 0; ink = 0; outcome = o }
+
+unfoldable pub refusedAs : Frame → Refusal → Progress
+unfolding unreadAs
+refusedAs f r = unreadAs f (outcomes.Refused r)
 
 -- repeat: above the limit it is refused, and 0 means 1
 unfoldable pub withRepeat : Pen → ℕ → Pen
 withRepeat p n = record { column = p .column; row = p .row; repeat = n; register = p .register; color = p .color }
 
-unfoldable pub repeatEnded : Frame → Ground → Stepped
+unfoldable pub repeatEnded : Frame → Ground → Progress
 unfolding withRepeat settledAs refusedAs
 repeatEnded f g =
     cond (ltb (g .limits .repeats) (f .command .number)) (refusedAs f refusals.Repeat)
-    (settledAs (withRepeat (f .pen) (max 1 (f .command .number))) (f .sheet) (f .raster))
+    (settledAs (withRepeat (f .pen) (max 1 (f .command .number))) (f .area) (f .extent) (f .raster))
 
 -- colour: space 1 or 2 redefines the register
 unfoldable pub definedBy : Palette → ℕ → ℕ → ℕ → ℕ → ℕ → Palette
@@ -111,10 +122,10 @@ unfoldable pub selectedIn : Palette → Parameters → Selected
 unfolding registerIn
 selectedIn p v = record { register = registerIn v; color = registerOf p (registerIn v) }
 
-unfoldable pub colorEndedBy : Frame → Palette → Parameters → Stepped
+unfoldable pub colorEndedBy : Frame → Palette → Parameters → Progress
 unfolding settledAs withColor registerIn
 colorEndedBy f after v =
-    settledAs (withColor (f .pen) (registerIn v) (registerOf after (registerIn v))) (f .sheet) (f .raster)
+    settledAs (withColor (f .pen) (registerIn v) (registerOf after (registerIn v))) (f .area) (f .extent) (f .raster)
 
 -- raster
 unfoldable pub quotientOf : ℕ → ℕ → ℕ
@@ -132,13 +143,10 @@ unfolding ratioBy keptSize
 rasterBy r v =
     record { ratio = ratioBy (r .ratio) v; width = keptSize (r .width) (numbers.valueAt v 2); height = keptSize (r .height) (numbers.valueAt v 3) }
 
-unfoldable pub withArea : Sheet → ℕ → ℕ → Sheet
-withArea a w h = record { width = w; height = h; right = a .right; bottom = a .bottom }
-
 -- the visible area grows to the size that a raster needs
-unfoldable pub rasterGrown : Frame → Raster → Needed → Stepped
-unfolding settledAs refusedAs withArea
-rasterGrown f r (Area w h) = settledAs (f .pen) (withArea (f .sheet) w h) r
+unfoldable pub rasterGrown : Frame → Raster → Needed → Progress
+unfolding settledAs refusedAs
+rasterGrown f r (Area w h) = settledAs (f .pen) (record { width = w; height = h }) (f .extent) r
 rasterGrown f r (Refused n) = refusedAs f n
 
 -- what a raster comes to: it has no size, or needs an area, or is refused
@@ -146,30 +154,30 @@ unfoldable pub measuredIn : Raster → Needed → Measured
 measuredIn r (Area w h) = measures.Area r w h
 measuredIn r (Refused n) = measures.Refused n
 
-unfoldable pub measuredBy : Raster → Sheet → Ground → Measured
+unfoldable pub measuredBy : Raster → VisibleArea → Ground → Measured
 unfolding measuredIn
 measuredBy r a g =
     cond (eqb (r .width) 0 && eqb (r .height) 0) (measures.Sizeless r)
     (measuredIn r (rasterArea a g (max 1 (r .width)) (max 1 (r .height))))
 
 -- the step that ends it
-unfoldable pub rasterEndedIn : Measured → Frame → Stepped
-unfolding settledAs refusedAs withArea
-rasterEndedIn (measures.Sizeless r) f = settledAs (f .pen) (f .sheet) r
-rasterEndedIn (measures.Area r w h) f = settledAs (f .pen) (withArea (f .sheet) w h) r
+unfoldable pub rasterEndedIn : Measured → Frame → Progress
+unfolding settledAs refusedAs
+rasterEndedIn (measures.Sizeless r) f = settledAs (f .pen) (f .area) (f .extent) r
+rasterEndedIn (measures.Area r w h) f = settledAs (f .pen) (record { width = w; height = h }) (f .extent) r
 rasterEndedIn (measures.Refused n) f = refusedAs f n
 
-unfoldable pub rasterEndedBy : Frame → Ground → Raster → Stepped
+unfoldable pub rasterEndedBy : Frame → Ground → Raster → Progress
 unfolding settledAs rasterGrown
 rasterEndedBy f g r =
-    cond (eqb (r .width) 0 && eqb (r .height) 0) (settledAs (f .pen) (f .sheet) r)
-    (rasterGrown f r (rasterArea (f .sheet) g (max 1 (r .width)) (max 1 (r .height))))
+    cond (eqb (r .width) 0 && eqb (r .height) 0) (settledAs (f .pen) (f .area) (f .extent) r)
+    (rasterGrown f r (rasterArea (f .area) g (max 1 (r .width)) (max 1 (r .height))))
 
 -- ---- whichever is pending
 
--- a step, and the palette after it
+-- where ending a command leads, and the palette after it
 pub record Ended : Type 0 where
-  pub stepped : Stepped
+  pub progress : Progress
   pub palette : Palette
 
 unfoldable pub finishedOf : Frame → Parameters
@@ -177,11 +185,11 @@ finishedOf f = numbers.finished (f .command .parameters)
 
 unfoldable pub endedIn : Kind → Frame → Ground → Palette → Ended
 unfolding settledAs repeatEnded colorEndedBy paletteAfter rasterEndedBy rasterBy finishedOf
-endedIn kinds.Data f g p = record { stepped = settledAs (f .pen) (f .sheet) (f .raster); palette = p }
-endedIn kinds.Repeat f g p = record { stepped = repeatEnded f g; palette = p }
+endedIn kinds.Data f g p = record { progress = settledAs (f .pen) (f .area) (f .extent) (f .raster); palette = p }
+endedIn kinds.Repeat f g p = record { progress = repeatEnded f g; palette = p }
 endedIn kinds.Color f g p =
-    record { stepped = colorEndedBy f (paletteAfter p (finishedOf f)) (finishedOf f); palette = paletteAfter p (finishedOf f) }
-endedIn kinds.Raster f g p = record { stepped = rasterEndedBy f g (rasterBy (f .raster) (finishedOf f)); palette = p }
+    record { progress = colorEndedBy f (paletteAfter p (finishedOf f)) (finishedOf f); palette = paletteAfter p (finishedOf f) }
+endedIn kinds.Raster f g p = record { progress = rasterEndedBy f g (rasterBy (f .raster) (finishedOf f)); palette = p }
 
 unfoldable pub ended : Frame → Ground → Palette → Ended
 unfolding endedIn

@@ -1,23 +1,23 @@
 // Commands with an argument: how one begins, goes on and ends.
 ghost use mathlib.Core.Path.{_≡_};
-ghost use Prim.Native.Nat.{_≤_};
+ghost use Prim.Native.Nat.{_≤_, min};
 ghost use Rattle.numbers.specs.Step.{finished};
 ghost use Rattle.colours.specs.Palette.{ofTable};
-ghost use Rattle.frame.specs.Commands.{withCommand, begun, byDigit, bySemicolon, noCommand, settledAs, refusedAs, repeatEnded, definedBy, redefinedBy, registerIn, paletteAfter, withColor, selectedIn, rasterEndedIn, Ended, ended};
+ghost use Rattle.frame.specs.Commands.{withCommand, begun, byDigit, bySemicolon, noCommand, settledAs, refusedAs, repeatEnded, definedBy, redefinedBy, paletteAfter, withColor, selectedIn, rasterEndedIn, Ended, ended};
 use crate::Command;
 use crate::Frame;
 use crate::Ground;
 use crate::Kind;
 use crate::Outcome;
+use crate::Progress;
 use crate::Refusal;
-use crate::Stepped;
 use crate::rasters::Measured;
 use crate::rasters::measure;
 use crate::sizes::larger;
 use numbers::Parameters;
 
 // A command begins; `places` is how many values it has.
-pub fn begin(frame: Frame, kind: Kind, places: usize) -> Frame
+pub fn begin_command(frame: Frame, kind: Kind, places: usize) -> Frame
     ensures { λ r. ⌜ r ≡ begun frame kind places ⌝ }
 {
     let command = Command {
@@ -75,28 +75,30 @@ pub fn without_command(frame: Frame) -> Frame
 }
 
 // No command is pending any more.
-fn settled(frame: Frame) -> Stepped
-    ensures { λ r. ⌜ r ≡ settledAs (frame .pen) (frame .sheet) (frame .raster) ⌝ }
+fn settled(frame: Frame) -> Progress
+    ensures { λ r. ⌜ r ≡ settledAs (frame .pen) (frame .area) (frame .extent) (frame .raster) ⌝ }
 {
-    Stepped {
+    Progress {
         frame: without_command(frame),
+        consumed: 0,
         ink: 0,
-        outcome: Outcome::Settled,
+        outcome: Outcome::Read,
     }
 }
 
-fn refused(frame: Frame, refusal: Refusal) -> Stepped
+fn refused(frame: Frame, refusal: Refusal) -> Progress
     ensures { λ r. ⌜ r ≡ refusedAs frame refusal ⌝ }
 {
-    Stepped {
+    Progress {
         frame,
+        consumed: 0,
         ink: 0,
         outcome: Outcome::Refused(refusal),
     }
 }
 
 // A repeat of 0 means 1.
-fn end_repeat(frame: Frame, ground: Ground) -> Stepped
+fn end_repeat(frame: Frame, ground: Ground) -> Progress
     ensures { λ r. ⌜ r ≡ repeatEnded frame ground ⌝ }
 {
     let number = frame.command.number as usize;
@@ -137,13 +139,12 @@ fn redefine(colors: &mut [u32; 256], register: usize, parameters: Parameters)
     }
 }
 
-// The register that the first value selects.
-fn register_of(parameters: Parameters) -> usize
-    ensures { λ r. ⌜ r ≡ registerIn parameters ⌝ }
+// The register that a value selects.
+pub fn register_at(value: u32) -> usize
+    ensures { λ r. ⌜ r ≡ min value 255 ⌝ }
 {
-    let first = parameters.value(0) as usize;
-    if first < 255 {
-        return first;
+    if value < 255 {
+        return value as usize;
     }
     255
 }
@@ -157,17 +158,18 @@ pub struct Selected {
 // Redefines and selects the register. Whoever ends a command calls this and `measure` with the few numbers
 // that matter: handed over, the frame would be spilled to memory while bytes are read.
 fn select(begun: Parameters, colors: &mut [u32; 256]) -> Selected
-    ensures { λ r. ⌜ (ofTable (now (colors .exit)) ≡ paletteAfter (ofTable (now (colors .entry))) (finished begun)) × (r ≡ selectedIn (ofTable (now (colors .exit))) (finished begun)) ⌝ }
+    ensures { λ r. ⌜ (ofTable (now (colors .exit)) ≡ paletteAfter (ofTable (now (colors .entry))) (finished begun))
+        × (r ≡ selectedIn (ofTable (now (colors .exit))) (finished begun)) ⌝ }
 {
     let parameters = begun.finish();
-    let register = register_of(parameters);
+    let register = register_at(parameters.value(0));
     redefine(colors, register, parameters);
     let color = colours::rgb_bytes(colors, register);
     Selected { register, color }
 }
 
-fn colored(frame: Frame, selected: Selected) -> Stepped
-    ensures { λ r. ⌜ r ≡ settledAs (withColor (frame .pen) (selected .register) (selected .color)) (frame .sheet) (frame .raster) ⌝ }
+fn colored(frame: Frame, selected: Selected) -> Progress
+    ensures { λ r. ⌜ r ≡ settledAs (withColor (frame .pen) (selected .register) (selected .color)) (frame .area) (frame .extent) (frame .raster) ⌝ }
 {
     let color = selected.color;
     let mut pen = frame.pen;
@@ -178,7 +180,7 @@ fn colored(frame: Frame, selected: Selected) -> Stepped
     settled(next)
 }
 
-fn rastered(frame: Frame, measured: Measured) -> Stepped
+fn rastered(frame: Frame, measured: Measured) -> Progress
     ensures { λ r. ⌜ r ≡ rasterEndedIn measured frame ⌝ }
 {
     match measured {
@@ -194,8 +196,8 @@ fn rastered(frame: Frame, measured: Measured) -> Stepped
         } => {
             let mut next = frame;
             next.raster = raster;
-            next.sheet.width = width;
-            next.sheet.height = height;
+            next.area.width = width;
+            next.area.height = height;
             settled(next)
         }
         Measured::Refused(refusal) => refused(frame, refusal),
@@ -203,8 +205,8 @@ fn rastered(frame: Frame, measured: Measured) -> Stepped
 }
 
 // Carries the pending command out. What a raster grows is painted by whoever calls.
-pub fn end_command(frame: Frame, ground: Ground, colors: &mut [u32; 256]) -> Stepped
-    ensures { λ r. ⌜ record { stepped = r; palette = ofTable (now (colors .exit)) } ≡ ended frame ground (ofTable (now (colors .entry))) ⌝ }
+pub fn end_command(frame: Frame, ground: Ground, colors: &mut [u32; 256]) -> Progress
+    ensures { λ r. ⌜ record { progress = r; palette = ofTable (now (colors .exit)) } ≡ ended frame ground (ofTable (now (colors .entry))) ⌝ }
 {
     let command = frame.command;
     let kind = command.kind;
@@ -214,25 +216,7 @@ pub fn end_command(frame: Frame, ground: Ground, colors: &mut [u32; 256]) -> Ste
         Kind::Color => colored(frame, select(frame.command.parameters, colors)),
         Kind::Raster => rastered(
             frame,
-            measure(frame.command.parameters, frame.raster, frame.sheet, ground),
-        ),
-    }
-}
-
-// The same once more, for the loop alone: a function that finishing calls too is not inlined into the loop, and the loop
-// then takes three times as long.
-pub fn end_in_loop(frame: Frame, ground: Ground, colors: &mut [u32; 256]) -> Stepped
-    ensures { λ r. ⌜ record { stepped = r; palette = ofTable (now (colors .exit)) } ≡ ended frame ground (ofTable (now (colors .entry))) ⌝ }
-{
-    let command = frame.command;
-    let kind = command.kind;
-    match kind {
-        Kind::Data => settled(frame),
-        Kind::Repeat => end_repeat(frame, ground),
-        Kind::Color => colored(frame, select(frame.command.parameters, colors)),
-        Kind::Raster => rastered(
-            frame,
-            measure(frame.command.parameters, frame.raster, frame.sheet, ground),
+            measure(frame.command.parameters, frame.raster, frame.area, ground),
         ),
     }
 }

@@ -74,10 +74,14 @@ pub struct Pen {
     pub color: [u8; 4],
 }
 
-// The visible area, and the extent.
-pub struct Sheet {
+// The visible area: (0, 0) to its width and height.
+pub struct VisibleArea {
     pub width: usize,
     pub height: usize,
+}
+
+// The extent (rule 4.4).
+pub struct Extent {
     pub right: usize,
     pub bottom: usize,
 }
@@ -105,27 +109,21 @@ pub struct Command {
 
 pub struct Frame {
     pub pen: Pen,
-    pub sheet: Sheet,
+    pub area: VisibleArea,
+    pub extent: Extent,
     pub raster: Raster,
     pub command: Command,
 }
 
-// What a byte came to: it was read; or it ended the pending command and is still to be read; or it stays unread.
+// What reading came to: what there was is read, or a byte stays unread.
 pub enum Outcome {
     Read,
-    Settled,
     Stopped,
     Ended(u8),
     Refused(Refusal),
 }
 
-pub struct Stepped {
-    pub frame: Frame,
-    pub ink: usize,
-    pub outcome: Outcome,
-}
-
-// What reading some bytes came to. `Settled` never stands here.
+// Where reading a byte, or some, has led. A byte that ends the pending command is not consumed by that: it is still to be read.
 pub struct Progress {
     pub frame: Frame,
     pub consumed: usize,

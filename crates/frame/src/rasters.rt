@@ -8,7 +8,7 @@ ghost use Rattle.frame.specs.Commands.{quotientOf, ratioBy, keptSize, ra
 use crate::Ground;
 use crate::Raster;
 use crate::Refusal;
-use crate::Sheet;
+use crate::VisibleArea;
 use crate::sizes::Needed;
 use crate::sizes::larger;
 use crate::sizes::raster_area;
@@ -97,15 +97,15 @@ pub enum Measured {
     Refused(Refusal),
 }
 
-pub fn measure(begun: Parameters, old: Raster, sheet: Sheet, ground: Ground) -> Measured
-    ensures { λ r. ⌜ r ≡ measuredBy (rasterBy old (finished begun)) sheet ground ⌝ }
+pub fn measure(begun: Parameters, old: Raster, area: VisibleArea, ground: Ground) -> Measured
+    ensures { λ r. ⌜ r ≡ measuredBy (rasterBy old (finished begun)) area ground ⌝ }
 {
     let raster = raster_after(old, begun.finish());
     if sizeless(raster) {
         return Measured::Sizeless(raster);
     }
     match raster_area(
-        sheet,
+        area,
         ground,
         larger(1, raster.width),
         larger(1, raster.height),

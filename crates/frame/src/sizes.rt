@@ -8,7 +8,7 @@ use crate::Frame;
 use crate::Ground;
 use crate::Pen;
 use crate::Refusal;
-use crate::Sheet;
+use crate::VisibleArea;
 
 // The visible area that a size needs, or what the size is refused for.
 pub enum Needed {
@@ -46,11 +46,11 @@ pub fn reaches(from: usize, count: usize, most: usize) -> bool
 }
 
 // The area grown to a size that is within the width and the height limit.
-fn grown_area(sheet: Sheet, ground: Ground, width: usize, height: usize) -> Needed
-    ensures { λ r. ⌜ r ≡ grownArea sheet ground width height ⌝ }
+fn grown_area(area: VisibleArea, ground: Ground, width: usize, height: usize) -> Needed
+    ensures { λ r. ⌜ r ≡ grownArea area ground width height ⌝ }
 {
-    let wide = larger(sheet.width, width);
-    let high = larger(sheet.height, height);
+    let wide = larger(area.width, width);
+    let high = larger(area.height, height);
     if exceeds(wide, high, ground.limits.pixels) {
         return Needed::Refused(Refusal::Pixels);
     }
@@ -67,8 +67,8 @@ fn grown_area(sheet: Sheet, ground: Ground, width: usize, height: usize) -> Need
 }
 
 // The area that a raster's size needs.
-pub fn raster_area(sheet: Sheet, ground: Ground, width: usize, height: usize) -> Needed
-    ensures { λ r. ⌜ r ≡ rasterArea sheet ground width height ⌝ }
+pub fn raster_area(area: VisibleArea, ground: Ground, width: usize, height: usize) -> Needed
+    ensures { λ r. ⌜ r ≡ rasterArea area ground width height ⌝ }
 {
     if ground.limits.width < width {
         return Needed::Refused(Refusal::Size);
@@ -76,7 +76,7 @@ pub fn raster_area(sheet: Sheet, ground: Ground, width: usize, height: usize) ->
     if ground.limits.height < height {
         return Needed::Refused(Refusal::Size);
     }
-    grown_area(sheet, ground, width, height)
+    grown_area(area, ground, width, height)
 }
 
 // Whether the next sixel ends within a width and a height.
@@ -91,18 +91,18 @@ fn within(pen: Pen, width: usize, height: usize) -> bool
 
 // The area that the next sixel needs. One that is visible already has passed every limit before.
 pub fn sixel_area(frame: Frame, ground: Ground) -> Needed
-    ensures { λ r. ⌜ r ≡ sixelArea (frame .pen) (frame .sheet) ground ⌝ }
+    ensures { λ r. ⌜ r ≡ sixelArea (frame .pen) (frame .area) ground ⌝ }
 {
     let pen = frame.pen;
-    let sheet = frame.sheet;
-    if within(pen, sheet.width, sheet.height) {
+    let area = frame.area;
+    if within(pen, area.width, area.height) {
         return Needed::Area {
-            width: sheet.width,
-            height: sheet.height,
+            width: area.width,
+            height: area.height,
         };
     }
     if within(pen, ground.limits.width, ground.limits.height) {
-        return grown_area(sheet, ground, pen.column + pen.repeat, pen.row + 6);
+        return grown_area(area, ground, pen.column + pen.repeat, pen.row + 6);
     }
     Needed::Refused(Refusal::Size)
 }

@@ -21,23 +21,19 @@ use Rattle.meaning.specs.Payload as meant
 use Rattle.meaning.specs.Sessions as sessions
 use Rattle.payload.specs.Meant.{parametersMeant}
 use Rattle.header.specs.declared.Place.the-variants as places
-use Rattle.header.specs.declared.Led.{Led}
 use Rattle.header.specs.declared.Led.the-variants as leds
 use Rattle.header.specs.declared.Step.{Step}
 use Rattle.header.specs.declared.Lead.{Lead}
 use Rattle.header.specs.Lead.{ledTo, headerByte, leadByte, leadAt, leadOn, leadFrom}
 use Rattle.header.specs.Settings.{settingsFrom}
 use Rattle.header.proofs.Cases.{both, either}
+use Rattle.header.proofs.LeadLaws.{inHeader}
 use Rattle.header.proofs.SettingsLaws.{settings-meant}
 
 -- ---- a byte
 
--- a step that stays in the header
-abbrev inHeader : Parameters → Led → Step
-inHeader h led = record { place = places.Header; header = h; led = led }
-
--- the code's step and what the definition says of a header's byte: on with the values of the same digits and `;`, to the payload with the same
--- parameters, or refused with 2 or 3, the values being as they were
+-- the code's step and what the definition says of a header's byte: on with the values of the same digits and `;`, to the payload with
+-- the same parameters, or refused with 2 or 3, the values being as they were
 pub data HeaderAgrees (got : List ℕ) : Step → sessions.HeaderByte → Type 0 where
   goesOn : {h : Parameters} {more : List ℕ} → Read 3 more h → HeaderAgrees got (inHeader h leds.On) (sessions.goesOn more)
   settles : {h : Parameters} {o : meant.Parameters} → o ≡ parametersMeant (settingsFrom h)
@@ -60,7 +56,8 @@ header-agrees {h} {got} b r =
 
 -- ---- all of it
 
--- where a header led to among some bytes, and what the definition finds there: that `q` is missing, the parameters and the part after it, or 2 or 3
+-- where a header led to among some bytes, and what the definition finds there: that `q` is missing, the parameters and the part after
+-- it, or 2 or 3
 pub data HeaderFinds (whole : List ℕ) : Lead → meaning.Found → Type 0 where
   lacks : {h : Parameters} {n : ℕ} → HeaderFinds whole (leadAt places.Header h n leds.On) meaning.lacking
   begins : {h : Parameters} {n : ℕ}
@@ -70,8 +67,10 @@ pub data HeaderFinds (whole : List ℕ) : Lead → meaning.Found → Type 0 wher
 
 module _ (whole : List ℕ) where
   -- one byte, where the later ones are known
-  byte-finds : (n : ℕ) (bs : List ℕ) {got : List ℕ} {s : Step} {y : sessions.HeaderByte} → drop (n + 1) whole ≡ bs → HeaderAgrees got s y
-      → ((more : List ℕ) (h : Parameters) → Read 3 more h → HeaderFinds whole (leadFrom bs (n + 1) places.Header h) (meaning.headerFrom more bs))
+  byte-finds : (n : ℕ) (bs : List ℕ) {got : List ℕ} {s : Step} {y : sessions.HeaderByte}
+      → drop (n + 1) whole ≡ bs → HeaderAgrees got s y
+      → ((more : List ℕ) (h : Parameters) → Read 3 more h
+      → HeaderFinds whole (leadFrom bs (n + 1) places.Header h) (meaning.headerFrom more bs))
       → HeaderFinds whole (leadOn (s .led) s n (λ n′ t′ h′. leadFrom bs n′ t′ h′))
       (elim y as (λ _. meaning.Found) [
         | sessions.goesOn more ↦ meaning.headerFrom more bs

@@ -1,4 +1,4 @@
--- Laws of introducer and header: one for each path through a function, and the loop's.
+-- Laws of introducer and header: one for each path through a function, and the loop's, which `Going` is the invariant of.
 use Prim.Native.Nat.{ℕ, _+_, _≤_, _<_}
 use mathlib.Core.Bool.{Bool, true, false}
 use mathlib.Core.List.{List, _∷_}
@@ -21,6 +21,10 @@ use Rattle.header.specs.declared.Step.{Step}
 use Rattle.header.specs.declared.Lead.{Lead}
 use Rattle.header.specs.Lead.{ledTo, startByte, introducedByte, headerByte, leadByte, leadAt, leadOn, leadFrom}
 
+-- a step that stays in the header, or comes to it
+abbrev pub inHeader : Parameters → Led → Step
+inHeader h led = record { place = places.Header; header = h; led = led }
+
 -- ---- the introducer
 
 module _ (h : Parameters) (b : ℕ) where
@@ -28,7 +32,7 @@ module _ (h : Parameters) (b : ℕ) where
   unfolding startByte ledTo
   start-escape e = sym (rw (eq-eqb b 0x1B e) refl)
 
-  pub start-dcs : (b ≡ 0x1B → ⊥) → b ≡ 0x90 → _≡_ {A = Step} (record { place = places.Header; header = h; led = On }) (startByte h b)
+  pub start-dcs : (b ≡ 0x1B → ⊥) → b ≡ 0x90 → _≡_ {A = Step} (inHeader h On) (startByte h b)
   unfolding startByte ledTo
   start-dcs n e = sym (rw (ne-eqb b 0x1B n, eq-eqb b 0x90 e) refl)
 
@@ -37,7 +41,7 @@ module _ (h : Parameters) (b : ℕ) where
   unfolding startByte ledTo
   start-other n m = sym (rw (ne-eqb b 0x1B n, ne-eqb b 0x90 m) refl)
 
-  pub introduced-p : b ≡ 0x50 → _≡_ {A = Step} (record { place = places.Header; header = h; led = On }) (introducedByte h b)
+  pub introduced-p : b ≡ 0x50 → _≡_ {A = Step} (inHeader h On) (introducedByte h b)
   unfolding introducedByte ledTo
   introduced-p e = sym (rw (eq-eqb b 0x50 e) refl)
 
@@ -51,40 +55,40 @@ pub ruleset introducers = (start-escape, start-dcs, start-other, introduced-p, i
 -- ---- the header
 
 module _ (h : Parameters) (b : ℕ) {r : Step} {s : Bool} (skips : s ≡ skipped b) where
-  pub header-skipped : s ≡ true → r ≡ record { place = places.Header; header = h; led = On } → r ≡ headerByte h b
+  pub header-skipped : s ≡ true → r ≡ inHeader h On → r ≡ headerByte h b
   unfolding headerByte ledTo
   header-skipped t e = e ∙ sym (rw (sym skips ∙ t) refl)
 
   module _ (own : s ≡ false) {d : Bool} (digits : d ≡ digit b) where
-    pub header-digit : {k : Parameters} → d ≡ true → k ≡ withDigit h b → r ≡ record { place = places.Header; header = k; led = On }
+    pub header-digit : {k : Parameters} → d ≡ true → k ≡ withDigit h b → r ≡ inHeader k On
         → r ≡ headerByte h b
     unfolding headerByte ledTo
     header-digit t k e =
-        e ∙ ap (λ (x : Parameters). record { place = places.Header; header = x; led = On }) k ∙ sym (rw (sym skips ∙ own, sym digits ∙ t) refl)
+        e ∙ ap (λ (x : Parameters). inHeader x On) k ∙ sym (rw (sym skips ∙ own, sym digits ∙ t) refl)
 
     module _ (other : d ≡ false) where
-      pub header-semicolon : {k : Parameters} → b ≡ 0x3B → k ≡ withSemicolon h → r ≡ record { place = places.Header; header = k; led = On }
+      pub header-semicolon : {k : Parameters} → b ≡ 0x3B → k ≡ withSemicolon h → r ≡ inHeader k On
           → r ≡ headerByte h b
       unfolding headerByte ledTo
       header-semicolon t k e =
           e
-          ∙ ap (λ (x : Parameters). record { place = places.Header; header = x; led = On }) k
+          ∙ ap (λ (x : Parameters). inHeader x On) k
           ∙ sym (rw (sym skips ∙ own, sym digits ∙ other, eq-eqb b 0x3B t) refl)
 
       module _ (unparted : b ≡ 0x3B → ⊥) where
-        pub header-q : b ≡ 0x71 → r ≡ record { place = places.Header; header = h; led = Begins } → r ≡ headerByte h b
+        pub header-q : b ≡ 0x71 → r ≡ inHeader h Begins → r ≡ headerByte h b
         unfolding headerByte ledTo
         header-q t e = e ∙ sym (rw (sym skips ∙ own, sym digits ∙ other, ne-eqb b 0x3B unparted, eq-eqb b 0x71 t) refl)
 
         module _ (going : b ≡ 0x71 → ⊥) {n : Bool} (ending : n ≡ ends b) where
-          pub header-ended : n ≡ true → r ≡ record { place = places.Header; header = h; led = Refused refusals.HeaderEnded } → r ≡ headerByte h b
+          pub header-ended : n ≡ true → r ≡ inHeader h (Refused refusals.HeaderEnded) → r ≡ headerByte h b
           unfolding headerByte ledTo
           header-ended t e =
               e
               ∙ sym
               (rw (sym skips ∙ own, sym digits ∙ other, ne-eqb b 0x3B unparted, ne-eqb b 0x71 going, sym ending ∙ t) refl)
 
-          pub header-wrong : n ≡ false → r ≡ record { place = places.Header; header = h; led = Refused refusals.HeaderByte } → r ≡ headerByte h b
+          pub header-wrong : n ≡ false → r ≡ inHeader h (Refused refusals.HeaderByte) → r ≡ headerByte h b
           unfolding headerByte ledTo
           header-wrong t e =
               e

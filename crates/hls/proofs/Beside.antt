@@ -23,7 +23,9 @@ use Rattle.hls.proofs.Channels.{ends, Channel, upper-near, lower-near, 
 -- ---- a channel's byte
 
 -- a / d rounded down, of a number at most 51,002 units from the exact one
-module _ (a d c : ℕ) (D : 0 < d) (hi : a * N ≤ (1_530_000_000 * c + 1_800_000_000_000 + 51_002) * d) (lo : (1_530_000_000 * c + 1_800_000_000_000) * d ≤ a * N + 51_002 * d) where
+module _ (a d c : ℕ) (D : 0 < d)
+    (hi : a * N ≤ (1_530_000_000 * c + 1_800_000_000_000 + 51_002) * d)
+    (lo : (1_530_000_000 * c + 1_800_000_000_000) * d ≤ a * N + 51_002 * d) where
   whole : ℕ
   whole = (510 * c + 600_000) / 1_200_000
 
@@ -79,7 +81,8 @@ cast-beside (fin false m e) c l h =
       same = λ r. exactly (a / d) (floor-same a d c D hi lo r) x;
     }
   where
-    exactly : (n : ℕ) → (510 * c + 600_000) / 1_200_000 ≤ n → n ≤ (510 * c + 600_000) / 1_200_000 → min n 255 ≡ (510 * c + 600_000) / 1_200_000
+    exactly : (n : ℕ) → (510 * c + 600_000) / 1_200_000 ≤ n → n ≤ (510 * c + 600_000) / 1_200_000
+        → min n 255 ≡ (510 * c + 600_000) / 1_200_000
     exactly n g f = omega arith
 
 byte-beside : (x : Float) (c : ℕ) → Channel x c → Beside c (channelByte x)
@@ -88,7 +91,9 @@ byte-beside x c h =
     let c-top = h .top in
     cast-beside (add (mul x f255) f½) c (h .top)
     (add-near (1_530_000_000 * c) 0 51_001 1_800_000_000_000 0 0 (omega arith) (mul x f255) f½
-    (mul-near x f255 (6_000_000 * c) 0 200 (255 * N) 0 (1_530_000_000 * c) 0 51_000 (omega arith) (omega arith) (omega arith) (omega arith) (h .near) full) half)
+    (mul-near x f255 (6_000_000 * c) 0 200 (255 * N) 0 (1_530_000_000 * c) 0 51_000
+    (omega arith) (omega arith) (omega arith) (omega arith) (h .near) full)
+    half)
 
 -- ---- the three channels
 
@@ -118,12 +123,14 @@ percent n l = go (over n f100) (percent-at n l)
           dark = agree (lt x f½) (ltb n 50) (and-r (a && b) c t);
         }
 
-module _ (P Q : ℕ) (le : P ≤ Q) (top : Q ≤ 10000) (p q : Float) (p-near : Near p (360_000_000 * P) 0 12) (q-near : Near q (360_000_000 * Q) 0 8) where
+module _ (P Q : ℕ) (le : P ≤ Q) (top : Q ≤ 10000) (p q : Float)
+    (p-near : Near p (360_000_000 * P) 0 12) (q-near : Near q (360_000_000 * Q) 0 8) where
   turn-beside : (t : Float) (n : ℕ) → T (turn-stands (lowered (raised t)) n) → Beside (exactC P Q n) (channelByte (hueToRgb p q t))
   unfolding hueToRgb placed turn-stands
   turn-beside t n h =
       let u = lowered (raised t) in
-      byte-beside (placed p q u) (exactC P Q n) (place-near P Q le top p q p-near q-near (lt u (div f1 f6)) (lt u (div f1 f2)) (lt u (div f2 f3)) u n h)
+      byte-beside (placed p q u) (exactC P Q n)
+      (place-near P Q le top p q p-near q-near (lt u (div f1 f6)) (lt u (div f1 f2)) (lt u (div f2 f3)) u n h)
 
   hue-beside : (n : ℕ) → n < 360 → AllBeside (map (exactC P Q) (exactTurns n)) (between p q (over n f360))
   unfolding between exactTurns
@@ -135,7 +142,10 @@ module _ (P Q : ℕ) (le : P ≤ Q) (top : Q ≤ 10000) (p q : Float) (p-near : 
           let b = turn-stands (lowered (raised x)) n in
           let c = turn-stands (lowered (raised (sub x (div f1 f3)))) ((n + 240) % 360) in
           unfold hue-stands in
-          (turn-beside (add x (div f1 f3)) ((n + 120) % 360) (and-l a b (and-l (a && b) c t)), (turn-beside x n (and-r a b (and-l (a && b) c t)), (turn-beside (sub x (div f1 f3)) ((n + 240) % 360) (and-r (a && b) c t), tt)))
+          let red = turn-beside (add x (div f1 f3)) ((n + 120) % 360) (and-l a b (and-l (a && b) c t)) in
+          let green = turn-beside x n (and-r a b (and-l (a && b) c t)) in
+          let blue = turn-beside (sub x (div f1 f3)) ((n + 240) % 360) (and-r (a && b) c t) in
+          (red, (green, (blue, tt)))
 
 upper-beside : (l s : ℕ) → l ≤ 100 → s ≤ 100 → Near (upper (over l f100) (over s f100)) (360_000_000 * exactQ l s) 0 8
 unfolding upper exactQ
@@ -144,10 +154,12 @@ upper-beside l s hl hs =
     let sat = over s f100 in
     let L = percent l hl in
     let S = percent s hs in
-    subst (λ (b : Bool). Near (upperBy b lum sat) (360_000_000 * pick (ltb l 50) (l * (100 + s)) (100 * l + 100 * s - l * s)) 0 8) (sym (L .dark))
+    let exact : ℕ = 360_000_000 * pick (ltb l 50) (l * (100 + s)) (100 * l + 100 * s - l * s) in
+    subst (λ (b : Bool). Near (upperBy b lum sat) exact 0 8) (sym (L .dark))
     (upper-near l s hl hs lum sat (L .is) (S .is) (S .more) (ltb l 50) (ltb→lt l 50))
 
-colour-beside : (l s n : ℕ) → l ≤ 100 → s ≤ 100 → n < 360 → AllBeside (map (exactC (exactP l s) (exactQ l s)) (exactTurns n)) (coloured (over n f360) (over l f100) (over s f100))
+colour-beside : (l s n : ℕ) → l ≤ 100 → s ≤ 100 → n < 360
+    → AllBeside (map (exactC (exactP l s) (exactQ l s)) (exactTurns n)) (coloured (over n f360) (over l f100) (over s f100))
 unfolding coloured exactP
 colour-beside l s n hl hs hn =
     let lum = over l f100 in
@@ -172,7 +184,8 @@ flat p n = go (ltb n 60) (ltb n 180) (ltb n 240)
     none : (x : ℕ) → 60 * p + (p - p) * x ≡ 60 * p
     none x = let z : p - p ≡ 0 = omega arith in rw z (omega arith)
 
-    go : (a b c : Bool) → pick a (60 * p + (p - p) * n) (pick b (60 * p) (pick c (60 * p + (p - p) * (240 - n)) (60 * p))) ≡ 60 * p
+    go : (a b c : Bool)
+        → pick a (60 * p + (p - p) * n) (pick b (60 * p) (pick c (60 * p + (p - p) * (240 - n)) (60 * p))) ≡ 60 * p
     go true b c = none n
     go false true c = refl
     go false false true = none (240 - n)
@@ -200,10 +213,14 @@ all-beside h l s = go (leZ s (pos 0)) refl
     none (pos n) t = unfold held in omega (arith, leb-true n 0 t)
     none (negsuc n) t = unfold held in refl
 
-    all-grey : (x : ℕ) → x ≡ 0 → AllBeside (map (exactC (exactP (held l) x) (exactQ (held l) x)) (exactTurns (turned h))) (grey (percentByte l))
+    all-grey : (x : ℕ) → x ≡ 0
+        → AllBeside (map (exactC (exactP (held l) x) (exactQ (held l) x)) (exactTurns (turned h))) (grey (percentByte l))
     all-grey x e =
         unfold grey percentByte exactTurns in
-        rw e (grey-beside (held l) ((turned h + 120) % 360), (grey-beside (held l) (turned h), (grey-beside (held l) ((turned h + 240) % 360), tt)))
+        let red = grey-beside (held l) ((turned h + 120) % 360) in
+        let green = grey-beside (held l) (turned h) in
+        let blue = grey-beside (held l) ((turned h + 240) % 360) in
+        rw e (red, (green, (blue, tt)))
 
     go : (b : Bool) → leZ s (pos 0) ≡ b → AllBeside (exactHls h l s) (hlsBytes h l s)
     go true e = unfold exactHls hlsBytes in rw e (all-grey (held s) (none s e))

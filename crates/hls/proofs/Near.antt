@@ -1,5 +1,6 @@
--- How far an f64 is from an exact number. Every exact number is counted in units of 1 / N, so fine that one rounding below 1,024 adds less than one unit to the distance.
--- An exact number is written as a difference u - v of two natural numbers, so that one law serves both signs. Assumes nothing.
+-- How far an f64 is from an exact number. Every exact number is counted in units of 1 / N, so fine that one rounding below 1,024 adds
+-- less than one unit to the distance. An exact number is written as a difference u - v of two natural numbers, so that one law serves
+-- both signs. Assumes nothing.
 use mathlib.Core.Path.{_≡_, sym, ap, subst}
 use mathlib.Core.Bool.{Bool, true, false, not, cond}
 use Prim.Native.Nat.{ℕ, _+_, _-_, _*_, _/_, _%_, _^_, _≤_, _<_, compare}
@@ -15,6 +16,7 @@ use lib.Ieee.Nearest.{closest, nearest-ge}
 use lib.Ieee.Order.{drop, kept}
 use lib.Ieee.Scale.{grid}
 
+-- units to 1
 abbrev pub N : ℕ
 N = 3_600_000_000_000
 
@@ -67,7 +69,8 @@ module _ (n y d g L b a c : ℕ) (pos-L : 0 < L) (is : y * L ≡ g * d) (fine : 
       le-of-mul-le-mul-right (omega (arith, e, f, k)) pos-L
 
 -- what one rounding to y / d adds
-moved : (y d a c u v k : ℕ) → 0 < c → y * N * c ≤ a * N * d + c * d → a * N * d ≤ y * N * c + c * d → Nearby false a c u v k → Nearby false y d u v (k + 1)
+moved : (y d a c u v k : ℕ) → 0 < c → y * N * c ≤ a * N * d + c * d → a * N * d ≤ y * N * c + c * d → Nearby false a c u v k
+    → Nearby false y d u v (k + 1)
 moved y d a c u v k C hi lo h = (
   le-of-mul-le-mul-right (omega (arith, mul-le-mul-right d (h .0), hi)) C,
   le-of-mul-le-mul-right (omega (arith, mul-le-mul-right d (h .1), lo)) C,
@@ -90,7 +93,8 @@ module _ (s : Bool) (a c : ℕ) (C : 0 < c) (h : a < 1024 * c) where
       let w = closest-near (a * 2 ^ 1074) (c * 2 ^ dropped) (mul-pos C (pow-pos dropped)) in
       off-by (2 ^ 1074) (2 ^ 1031) (2 ^ dropped) (kept 53 (a * 2 ^ 1074) c) unit-le w
     where
-      off-by : (L b q k : ℕ) → q ≤ b → (k * (c * q) ≤ a * L + c * q) × (a * L ≤ k * (c * q) + c * q) → (k * q * c ≤ a * L + c * b) × (a * L ≤ k * q * c + c * b)
+      off-by : (L b q k : ℕ) → q ≤ b → (k * (c * q) ≤ a * L + c * q) × (a * L ≤ k * (c * q) + c * q)
+          → (k * q * c ≤ a * L + c * b) × (a * L ≤ k * q * c + c * b)
       off-by L b q k l w = (omega (arith, mul-le-mul-right c l, w .0), omega (arith, mul-le-mul-right c l, w .1))
 
   under : units < 2 ^ (1074 + 1024)
@@ -101,10 +105,14 @@ module _ (s : Bool) (a c : ℕ) (C : 0 < c) (h : a < 1024 * c) where
 
   value : HasValue (round binary64 s a c) s units (2 ^ 1074)
   unfolding units dropped
-  value = subst (λ (x : Float). HasValue x s units (2 ^ 1074)) (sym (round-is binary64 s a c)) (units-val binary64 s (kept 53 (a * 2 ^ 1074) c) dropped under)
+  value =
+      subst (λ (x : Float). HasValue x s units (2 ^ 1074)) (sym (round-is binary64 s a c))
+      (units-val binary64 s (kept 53 (a * 2 ^ 1074) c) dropped under)
 
 -- the distance after a rounding, from the distance before it
-taken : (x : Float) (s : Bool) (g a c u v k : ℕ) → 0 < c → HasValue x s g (2 ^ 1074) → g * c ≤ a * 2 ^ 1074 + c * 2 ^ 1031 → a * 2 ^ 1074 ≤ g * c + c * 2 ^ 1031 → Nearby s a c u v k → Near x u v (k + 1)
+taken : (x : Float) (s : Bool) (g a c u v k : ℕ) → 0 < c → HasValue x s g (2 ^ 1074) → g * c ≤ a * 2 ^ 1074 + c * 2 ^ 1031
+    → a * 2 ^ 1074 ≤ g * c + c * 2 ^ 1031 → Nearby s a c u v k
+    → Near x u v (k + 1)
 taken nan s g a c u v k C is hi lo h = absurd is
 taken (inf t) s g a c u v k C is hi lo h = absurd is
 taken (fin t m e) s g a c u v k C is hi lo h = subst (λ (x : Bool). Nearby x (m * up e) (down e) u v (k + 1)) (sym (is .0)) (go s h)
@@ -137,18 +145,21 @@ over-more false a c d u v k h = (omega (arith, mul-le-mul-right d (h .0)), omega
 over-more true a c d u v k h = (omega (arith, mul-le-mul-right d (h .0)), omega (arith, mul-le-mul-right d (h .1)))
 
 module _ (u v k u' v' k' : ℕ) (l : u + u' + (v + v') + (k + k') < 1024 * N) where
-  sum-near : (s t : Bool) (a b c : ℕ) → 0 < c → Nearby s a c u v k → Nearby t b c u' v' k' → Near (sum binary64 s a t b c) (u + u') (v + v') (k + k' + 1)
+  sum-near : (s t : Bool) (a b c : ℕ) → 0 < c → Nearby s a c u v k → Nearby t b c u' v' k'
+      → Near (sum binary64 s a t b c) (u + u') (v + v') (k + k' + 1)
   unfolding sum
   sum-near false false a b c C h g = round-near false (a + b) c (u + u') (v + v') (k + k') C l (omega arith)
   sum-near true true a b c C h g = round-near true (a + b) c (u + u') (v + v') (k + k') C l (omega arith)
   sum-near false true a b c C h g = go (ltb a b) (ltb→lt a b) (nltb→le a b)
     where
-      go : (x : Bool) → (T x → a < b) → (T (not x) → b ≤ a) → Near (cond x (round binary64 true (b - a) c) (round binary64 false (a - b) c)) (u + u') (v + v') (k + k' + 1)
+      go : (x : Bool) → (T x → a < b) → (T (not x) → b ≤ a)
+          → Near (cond x (round binary64 true (b - a) c) (round binary64 false (a - b) c)) (u + u') (v + v') (k + k' + 1)
       go true y n = let q = y tt in round-near true (b - a) c (u + u') (v + v') (k + k') C l (omega arith)
       go false y n = let q = n tt in round-near false (a - b) c (u + u') (v + v') (k + k') C l (omega arith)
   sum-near true false a b c C h g = go (ltb a b) (ltb b a) (ltb→lt a b) (nltb→le a b) (nltb→le b a)
     where
-      go : (x z : Bool) → (T x → a < b) → (T (not x) → b ≤ a) → (T (not z) → a ≤ b) → Near (cond x (round binary64 false (b - a) c) (round binary64 z (a - b) c)) (u + u') (v + v') (k + k' + 1)
+      go : (x z : Bool) → (T x → a < b) → (T (not x) → b ≤ a) → (T (not z) → a ≤ b)
+          → Near (cond x (round binary64 false (b - a) c) (round binary64 z (a - b) c)) (u + u') (v + v') (k + k' + 1)
       go true z y n m = let q = y tt in round-near false (b - a) c (u + u') (v + v') (k + k') C l (omega arith)
       go false true y n m = let q = n tt in round-near true (a - b) c (u + u') (v + v') (k + k') C l (omega arith)
       go false false y n m = let q = n tt in let r = m tt in round-near false (a - b) c (u + u') (v + v') (k + k') C l (omega arith)
@@ -162,7 +173,8 @@ module _ (u v k u' v' k' : ℕ) (l : u + u' + (v + v') + (k + k') < 1024 * N) wh
   add-near (fin s m e) (fin t n d) h g =
       sum-near s t (m * up e * down d) (n * up d * down e) (down e * down d) (mul-pos (down-pos e) (down-pos d))
       (over-more s (m * up e) (down e) (down d) u v k h)
-      (subst (λ (c : ℕ). Nearby t (n * up d * down e) c u' v' k') (mul-comm (down d) (down e)) (over-more t (n * up d) (down d) (down e) u' v' k' g))
+      (subst (λ (c : ℕ). Nearby t (n * up d * down e) c u' v' k') (mul-comm (down d) (down e))
+      (over-more t (n * up d) (down d) (down e) u' v' k' g))
 
 neg-near : (x : Float) (u v k : ℕ) → Near x u v k → Near (neg x) v u k
 unfolding neg
@@ -171,7 +183,8 @@ neg-near (inf s) u v k h = absurd h
 neg-near (fin true m e) u v k h = h
 neg-near (fin false m e) u v k h = h
 
-pub sub-near : (x y : Float) (u v k u' v' k' : ℕ) → u + v' + (v + u') + (k + k') < 1024 * N → Near x u v k → Near y u' v' k' → Near (sub binary64 x y) (u + v') (v + u') (k + k' + 1)
+pub sub-near : (x y : Float) (u v k u' v' k' : ℕ) → u + v' + (v + u') + (k + k') < 1024 * N → Near x u v k → Near y u' v' k'
+    → Near (sub binary64 x y) (u + v') (v + u') (k + k' + 1)
 unfolding sub
 sub-near x y u v k u' v' k' l h g = add-near u v k v' u' k' l x (neg y) h (neg-near y u' v' k' g)
 
@@ -217,12 +230,16 @@ module _ (n a b z z' g f X Y E : ℕ) (n-pos : 0 < n) (is : z * n ≡ X) (is' : 
       let e' = ap (λ (x : ℕ). x * f) is' in
       le-of-mul-le-mul-right (omega (arith, mul-le-mul-right f l, h)) n-pos
 
-times : (u v k w j z z' g a c b d : ℕ) → z * N ≡ u * w → z' * N ≡ v * w → slack u v k w j ≤ g * N → Nearby false b d w 0 j → Nearby false a c u v k → Nearby false (a * b) (c * d) z z' g
+times : (u v k w j z z' g a c b d : ℕ) → z * N ≡ u * w → z' * N ≡ v * w → slack u v k w j ≤ g * N
+    → Nearby false b d w 0 j → Nearby false a c u v k
+    → Nearby false (a * b) (c * d) z z' g
 times u v k w j z z' g a c b d is is' l r h =
     let hi : b * N ≤ (w + j) * d = omega (arith, r .0) in
     let lo : w * d ≤ b * N + j * d = omega (arith, r .1) in (
-      divided-up N a b z z' g (c * d) (u * w) (v * w) (slack u v k w j) (lit< tt) is is' l (product-up u v k w j c d (a * N) (b * N) hi lo (h .0)),
-      divided-down N a b z z' g (c * d) (u * w) (v * w) (slack u v k w j) (lit< tt) is is' l (product-down u v k w j c d (a * N) (b * N) hi lo (h .1)),
+      divided-up N a b z z' g (c * d) (u * w) (v * w) (slack u v k w j) (lit< tt) is is' l
+          (product-up u v k w j c d (a * N) (b * N) hi lo (h .0)),
+      divided-down N a b z z' g (c * d) (u * w) (v * w) (slack u v k w j) (lit< tt) is is' l
+          (product-down u v k w j c d (a * N) (b * N) hi lo (h .1)),
     )
 
 pub mul-near :

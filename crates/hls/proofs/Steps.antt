@@ -94,7 +94,8 @@ unfolding hlsBytes grey
 grey-is h l s e t f = ap (λ (b : ℕ). b ∷ b ∷ b ∷ []) f ∙ pick-yes _ _ (subst (λ (z : ℤ). leZ z (pos 0) ≡ true) e t)
 
 pub colour-is :
-    (h l s : ℤ) {z : ℤ} {m L S : ℕ} {q r g b : Float} {x y w : ℕ} → z ≡ s → leZ z (pos 0) ≡ false → m ≡ modulo360 h → L ≡ held l → S ≡ held s
+    (h l s : ℤ) {z : ℤ} {m L S : ℕ} {q r g b : Float} {x y w : ℕ} → z ≡ s → leZ z (pos 0) ≡ false
+    → m ≡ modulo360 h → L ≡ held l → S ≡ held s
     → q ≡ upper (over L f100) (over S f100)
     → r ≡ hueToRgb (sub (mul f2 (over L f100)) q) q (add (over ((m + 240) % 360) f360) (div f1 f3))
     → g ≡ hueToRgb (sub (mul f2 (over L f100)) q) q (over ((m + 240) % 360) f360)
@@ -115,6 +116,7 @@ hls-byte-lt h l s = go (leZ s (pos 0))
     each x y z a b c (suc (suc zero)) = c
     each x y z a b c (suc (suc (suc i))) = lit< tt
 
-    go : (b : Bool) (i : ℕ) → getD (pick b (grey (percentByte l)) (coloured (over (turned h) f360) (over (held l) f100) (over (held s) f100))) i 0 < 256
+    go : (b : Bool) (i : ℕ)
+        → getD (pick b (grey (percentByte l)) (coloured (over (turned h) f360) (over (held l) f100) (over (held s) f100))) i 0 < 256
     go true = each _ _ _ (percent-byte-lt l) (percent-byte-lt l) (percent-byte-lt l)
     go false = each _ _ _ (toUnsigned-lt 8 _) (toUnsigned-lt 8 _) (toUnsigned-lt 8 _)

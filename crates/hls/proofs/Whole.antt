@@ -97,7 +97,9 @@ quot-fits h e f = subst (λ (x : ℤ). SFits w32 (quotZ x (pos 360))) (sym e) (s
         neg (suc k) l = omega arith
 
 pub rest-is : (h : ℤ) → SFits w32 h → toZ w32 (ofZ w32 (remZ (toZ w32 (ofZ w32 h)) (pos 360))) ≡ remZ h (pos 360)
-rest-is h f = ap (λ (z : ℤ). toZ w32 (ofZ w32 (remZ z (pos 360)))) (toZ-ofZ w32 h f) ∙ toZ-ofZ w32 (remZ h (pos 360)) (sfits-le (mag-rem h (pos 360)) f)
+rest-is h f =
+    ap (λ (z : ℤ). toZ w32 (ofZ w32 (remZ z (pos 360)))) (toZ-ofZ w32 h f)
+    ∙ toZ-ofZ w32 (remZ h (pos 360)) (sfits-le (mag-rem h (pos 360)) f)
 
 pub rest-below : {r : ℤ} (h : ℤ) → r ≡ remZ h (pos 360) → ltZ r (pos 0) ≡ true → r +ℤ pos 360 ≡ pos (modulo360 h)
 rest-below {r} h e t = ap (λ (x : ℤ). x +ℤ pos 360) e ∙ go h (subst (λ (x : ℤ). ltZ x (pos 0) ≡ true) e t)

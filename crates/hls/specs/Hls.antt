@@ -1,4 +1,5 @@
--- HLS to three channel bytes: the f64 operations of the Rust's `hls_to_rgb` and `hue_to_rgb`, one by one and in its order, over IEEE 754's binary64.
+-- HLS to three channel bytes: the f64 operations of the Rust's `hls_to_rgb` and `hue_to_rgb`, one by one and in its order, over IEEE
+-- 754's binary64.
 use mathlib.Core.Bool.{Bool, true, false}
 use mathlib.Core.List.{List, [], _∷_}
 use Prim.Native.Nat.{ℕ}

@@ -11,7 +11,8 @@ pub fn feed_payload(
     bytes: &[u8],
     allowance: usize,
 ) -> payload::Answer
-    ensures { λ r. ⌜ (record { answer = r; session = now (session .exit) }, now (canvas .exit)) ≡ payload.fedBy (now (session .entry)) (now (canvas .entry)) (now (bytes .entry)) allowance ⌝ }
+    ensures { λ r. ⌜ (record { answer = r; session = now (session .exit) }, now (canvas .exit)) ≡ payload.fedBy
+        (now (session .entry)) (now (canvas .entry)) (now (bytes .entry)) allowance ⌝ }
 {
     let fed = payload::feed(*session, canvas, bytes, allowance);
     *session = fed.session;
@@ -25,7 +26,8 @@ pub fn feed_dcs(
     bytes: &[u8],
     allowance: usize,
 ) -> dcs::Answer
-    ensures { λ r. ⌜ (record { answer = r; session = now (session .exit) }, now (canvas .exit)) ≡ dcs.fedBy (now (session .entry)) (now (canvas .entry)) (now (bytes .entry)) allowance ⌝ }
+    ensures { λ r. ⌜ (record { answer = r; session = now (session .exit) }, now (canvas .exit)) ≡ dcs.fedBy
+        (now (session .entry)) (now (canvas .entry)) (now (bytes .entry)) allowance ⌝ }
 {
     let read = dcs::feed(*session, canvas, bytes, allowance);
     *session = read.session;

@@ -33,8 +33,8 @@ drop-one-more n b bs = rw (add-comm 1 n, add-one n)
 pub take-one-more : (n b : ℕ) (bs : List ℕ) → take (1 + n) (b ∷ bs) ≡ b ∷ take n bs
 take-one-more n b bs = rw (add-comm 1 n, add-one n)
 
--- where a call stopped: the bytes consumed lead to a last state, whose rest the call leaves; and there the next byte, which is unread, would be
--- read with an ink above what is left
+-- where a call stopped: the bytes consumed lead to a last state, whose rest the call leaves; and there the next byte, which is
+-- unread, would be read with an ink above what is left
 pub record StoppedAt {S : Type 0} (step : S → ℕ → Step S) (rest : S → S) (a : ℕ) (s : S) (xs : List ℕ) (r : Run S) : Type 0 where
   pub last : S
   pub byte : ℕ
@@ -170,7 +170,8 @@ module _ {S : Type 0} (step : S → ℕ → Step S) (rest : S → S) where
       let p : StoppedAt step rest a s xs (call step rest a s xs) = call-stopped-at a s xs h in
       omega (arith, p .exceeds, cap-law (p .last) (p .reached) (p .byte) (p .cost) (p .reads), call-ink a s xs)
 
-  reads-some : {cap a : ℕ} {s : S} {xs : List ℕ} {r : Run S} → CapLaw step cap → cap ≤ a → Called step rest a s xs r → r .how ≡ stopped → 0 < r .consumed
+  reads-some : {cap a : ℕ} {s : S} {xs : List ℕ} {r : Run S} → CapLaw step cap → cap ≤ a → Called step rest a s xs r
+      → r .how ≡ stopped → 0 < r .consumed
   unfolding still after
   reads-some caps fits nothing h = absurd (subst Stops (sym h) tt)
   reads-some caps fits (goes e fewer c) h = omega arith
@@ -197,7 +198,8 @@ module _ {S : Type 0} (step : S → ℕ → Step S) where
       cond-map (after 1 i) (isRefused (r .how)) _ _
       ∙ ap (cond (isRefused (r .how)) (after 1 i r))
       (sym (after-after 1 i (r .consumed) (r .ink) (readFrom step (r .state) (drop (r .consumed) bs ++ zs)))
-      ∙ ap (λ (us : List ℕ). after (1 + r .consumed) (i + r .ink) (readFrom step (r .state) (us ++ zs))) (sym (drop-one-more (r .consumed) b bs)))
+      ∙ ap (λ (us : List ℕ). after (1 + r .consumed) (i + r .ink) (readFrom step (r .state) (us ++ zs)))
+      (sym (drop-one-more (r .consumed) b bs)))
 
 module _ {S : Type 0} (step : S → ℕ → Step S) (rest : S → S) (rest-law : RestLaw step rest) (halt-law : HaltLaw step) where
   called-onward : {a : ℕ} {s : S} {xs : List ℕ} {r : Run S} → Called step rest a s xs r → (zs : List ℕ)

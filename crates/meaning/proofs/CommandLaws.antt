@@ -1,5 +1,5 @@
--- Laws of commands: what each makes of a drawing and leaves as it was. The area never shrinks, strokes are only appended and lie inside it, and
--- sizes stay within W, H, M, the stride and the rows.
+-- Laws of commands: what each makes of a drawing and leaves as it was. The area never shrinks, strokes are only appended and lie
+-- inside it, and sizes stay within W, H, M, the stride and the rows.
 use Prim.Native.Nat.{ℕ, _+_, _≤_, max}
 use native.Mathlib.Nat.{le-refl, le-trans}
 use native.Mathlib.Omega.{arith}
@@ -228,7 +228,9 @@ stretched-follows s r d =
 rastered-follows : (s : Setting) (r : Raster) (d : Drawing) → Gives (Follows s d) (rastered s r d)
 unfolding rastered withRaster
 rastered-follows s r d =
-    cond-case (Gives (Follows s d)) (eqb (r .width + r .height) 0) (λ _. same-follows refl refl refl (λ h. h)) (λ _. stretched-follows s r d)
+    cond-case (Gives (Follows s d)) (eqb (r .width + r .height) 0)
+    (λ _. same-follows refl refl refl (λ h. h))
+    (λ _. stretched-follows s r d)
 
 -- a stroke more, where its size is allowed
 stroked-follows : (s : Setting) (d : Drawing) (k : Stroke) → Allowed s (d .area) (k .column + k .repeat) (k .row + 6)

@@ -1,5 +1,5 @@
--- Reading a DCS sequence: through the header as a one-shot goes, then through the payload as a payload session does, and at an end finishing
--- answers what a one-shot does.
+-- Reading a DCS sequence: through the header as a one-shot goes, then through the payload as a payload session does, and at an end
+-- finishing answers what a one-shot does.
 use Prim.Native.Nat.{ℕ, _≤_}
 use native.Mathlib.Nat.{zero-add}
 use native.Mathlib.Omega.{arith}
@@ -43,11 +43,13 @@ module _ (s : Setting) (p : Palette) (bs : List ℕ) where
   sequence-lacking e = subst (Leads s p start bs) e (sequence-leads s p bs)
 
   -- nor has it where introducer or header is refused
-  pub sequence-refused-before : {n : ℕ} → sequencePayload bs ≡ refusedWith n → Before (readSequence .state) × (readSequence .how ≡ refusedBy n)
+  pub sequence-refused-before : {n : ℕ} → sequencePayload bs ≡ refusedWith n
+      → Before (readSequence .state) × (readSequence .how ≡ refusedBy n)
   sequence-refused-before e = subst (Leads s p start bs) e (sequence-leads s p bs)
 
   -- a refusal within the payload is the payload's
-  pub sequence-refused-within : {o : Parameters} {part : List ℕ} {n : ℕ} → sequencePayload bs ≡ found o part → readSequence .how ≡ refusedBy n
+  pub sequence-refused-within : {o : Parameters} {part : List ℕ} {n : ℕ} → sequencePayload bs ≡ found o part
+      → readSequence .how ≡ refusedBy n
       → (readPayload s o p part .how ≡ refusedBy n) × (readSequence .state ≡ within (readPayload s o p part .state))
   unfolding after inPayload
   sequence-refused-within {o} {part} {n} e r =
@@ -57,7 +59,8 @@ module _ (s : Setting) (p : Palette) (bs : List ℕ) where
       (inner, ap (λ (x : Run Phase). x .state) (h .1) ∙ ap (λ (x : Run Phase). x .state) (framed-in s p q part inner))
 
   -- with its drawing
-  pub sequence-refused-drawing : {o : Parameters} {part : List ℕ} {n : ℕ} → sequencePayload bs ≡ found o part → readSequence .how ≡ refusedBy n
+  pub sequence-refused-drawing : {o : Parameters} {part : List ℕ} {n : ℕ} → sequencePayload bs ≡ found o part
+      → readSequence .how ≡ refusedBy n
       → (payload s o p part .refusal ≡ some n) × (drawingOf (readSequence .state) ≡ some (payload s o p part .drawing))
   unfolding drawingOf
   sequence-refused-drawing {o} {part} e r =
@@ -82,7 +85,8 @@ module _ (s : Setting) (p : Palette) (bs : List ℕ) where
       → (readPayload s o p part .how ≡ halted) × (readSequence .state ≡ over e (readPayload s o p part .state))
   unfolding after
   sequence-over {o} {part} f z =
-      let same : readSequence .state ≡ framed s p (readPayload s o p part) part .state = ap (λ (x : Run Phase). x .state) (sequence-found f .1) in
+      let same : readSequence .state ≡ framed s p (readPayload s o p part) part .state =
+      ap (λ (x : Run Phase). x .state) (sequence-found f .1) in
       let h = framed-over s p (readPayload s o p part) part (ap dcsEnd (sym same) ∙ z) in
       (h .0, same ∙ h .1)
 
@@ -99,7 +103,8 @@ module _ (s : Setting) (p : Palette) (bs : List ℕ) where
       go (refusedWith n) q same = absurd (no-end (sym (before-open (readSequence .state) (sequence-refused-before q .0)) ∙ z))
 
   -- and it leaves the payload's drawing
-  pub sequence-drawing : {o : Parameters} {part : List ℕ} {e : End} → sequencePayload bs ≡ found o part → dcsEnd (readSequence .state) ≡ some e
+  pub sequence-drawing : {o : Parameters} {part : List ℕ} {e : End} → sequencePayload bs ≡ found o part
+      → dcsEnd (readSequence .state) ≡ some e
       → drawingAtFinish s (readSequence .state) ≡ some (payload s o p part .drawing)
   unfolding drawingAtFinish isRefused
   sequence-drawing {o} {part} f z =
@@ -133,7 +138,10 @@ module _ (s : Setting) (p : Palette) (bs : List ℕ) where
       go : (f : Found) → sequencePayload bs ≡ f
           → readSequence .ink ≡ elim f as (λ _. ℕ) [ found o part ↦ payloadInk s o p part | lacking ↦ 0 | refusedWith n ↦ 0 ]
       go (found o part) q =
-          ap (λ (x : Run Phase). x .ink) (sequence-found q .1) ∙ zero-add _ ∙ framed-ink s p (readPayload s o p part) part ∙ reading-ink s o p part
+          ap (λ (x : Run Phase). x .ink) (sequence-found q .1)
+          ∙ zero-add _
+          ∙ framed-ink s p (readPayload s o p part) part
+          ∙ reading-ink s o p part
       go lacking q = dry (sequence-lacking q .0)
       go (refusedWith n) q = dry (sequence-refused-before q .0)
 

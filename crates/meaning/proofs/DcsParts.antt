@@ -93,12 +93,20 @@ module _ (s : Setting) (p : Palette) where
 
   header-as : (got : List ℕ) (b : ℕ) {x : HeaderByte} → headerByte got b ≡ x
       → dcsStep s p (header got) b
-      ≡ elim x as (λ _. Step Phase) [ goesOn more ↦ next (header more) 0 | settles o ↦ next (within (opened o p)) 0 | wrong n ↦ refuse (header got) n ]
+      ≡ elim x as (λ _. Step Phase) [
+        | goesOn more ↦ next (header more) 0
+        | settles o ↦ next (within (opened o p)) 0
+        | wrong n ↦ refuse (header got) n
+      ]
   unfolding dcsStep headerStep
   header-as got b e =
       ap
       (λ (x : HeaderByte).
-      elim x as (λ _. Step Phase) [ goesOn more ↦ next (header more) 0 | settles o ↦ next (within (opened o p)) 0 | wrong n ↦ refuse (header got) n ])
+      elim x as (λ _. Step Phase) [
+        | goesOn more ↦ next (header more) 0
+        | settles o ↦ next (within (opened o p)) 0
+        | wrong n ↦ refuse (header got) n
+      ])
       e
 
   -- a header leads where a one-shot goes from it
@@ -174,7 +182,10 @@ module _ (s : Setting) (p : Palette) (t : Reading) where
   end-closes (b ∷ bs) =
       cond-case Good (eqb b 0x1B) (λ _. closes-on _ (escape-closes bs))
       λ _. cond-case Good (eqb b 0x9C) (λ _. closes-on _ (over-closes _ bs))
-      λ _. cond-case Good (eqb b 0x18 || eqb b 0x1A) (λ _. closes-on _ (over-closes _ bs)) (λ _. record { kept = refl; fine = refl; dry = refl })
+      λ _.
+      cond-case Good (eqb b 0x18 || eqb b 0x1A)
+      (λ _. closes-on _ (over-closes _ bs))
+      (λ _. record { kept = refl; fine = refl; dry = refl })
     where
       Good : Step Phase → Type 0
       Good x = Closes t (follow x (λ u i. after 1 i (readFrom (dcsStep s p) u bs)))
@@ -245,7 +256,8 @@ module _ (s : Setting) (p : Palette) (q : Run Reading) (bs : List ℕ) where
   unfolding framed inPayload ranTo after dcsEnd
   framed-over {e} = go (q .how)
     where
-      go : (h : How) → dcsEnd (framed s p (ranTo h) bs .state) ≡ some e → (h ≡ halted) × (framed s p (ranTo h) bs .state ≡ over e (q .state))
+      go : (h : How) → dcsEnd (framed s p (ranTo h) bs .state) ≡ some e
+          → (h ≡ halted) × (framed s p (ranTo h) bs .state ≡ over e (q .state))
       go readAll z = absurd (no-end z)
       go stopped z = absurd (no-end z)
       go halted z = (refl, kept-over (q .state) _ (end-closes s p (q .state) (drop (q .consumed) bs) .kept) z)
@@ -261,7 +273,9 @@ module _ (s : Setting) (p : Palette) (q : Run Reading) (bs : List ℕ) where
           → (isRefused h ≡ false) × (drawingSettled s (framed s p (ranTo h) bs .state) ≡ some (settled s (q .state) .drawing))
       go readAll fine = (refl, refl)
       go stopped fine = (refl, refl)
-      go halted fine = (refl, kept-settled s (q .state) (readEnd s p (q .state) (drop (q .consumed) bs) .state) (end-closes s p (q .state) (drop (q .consumed) bs) .kept))
+      go halted fine =
+          let left = drop (q .consumed) bs in
+          (refl, kept-settled s (q .state) (readEnd s p (q .state) left .state) (end-closes s p (q .state) left .kept))
       go (refusedBy n) fine = absurd (true≢false fine)
 
   -- the ink is the payload's

@@ -210,8 +210,8 @@ module _ (s : Setting) (p : Palette) (A : ℕ) (ts : List Turn) (fits : 6 * s .l
             sym (ap (λ (q : Run Phase). q .ink) (h .before)) ∙ sequence-ink s p us,
           )
 
-  -- After each call that is not refused: with its pending command carried out, the session's drawing is what the bytes consumed so far mean,
-  -- and the ink so far is theirs.
+  -- After each call that is not refused: with its pending command carried out, the session's drawing is what the bytes consumed so
+  -- far mean, and the ink so far is theirs.
   pub dcs-settled-so-far : isRefused (dcsTurns s p ts .how) ≡ false → SettledSoFar
   unfolding isRefused isOngoing
   dcs-settled-so-far fine = go (dcsTurns s p ts .how) refl

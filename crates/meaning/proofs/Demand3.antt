@@ -1,6 +1,6 @@
--- Demand 3 for payload and DCS sessions: under the premises of rule 6.7 (the unread bytes come next, the canvas comes back unaltered) the number
--- of calls is bounded, the outcome is the definition's, and the ink adds up to the definition's.
--- A caller's turns are proper for A where each call may be made and has an allowance of at least A.
+-- Demand 3 for payload and DCS sessions: under the premises of rule 6.7 (the unread bytes come next, the canvas comes back
+-- unaltered) the number of calls is bounded, the outcome is the definition's, and the ink adds up to the definition's. A caller's
+-- turns are proper for A where each call may be made and has an allowance of at least A.
 use Prim.Native.Nat.{ℕ, _+_, _-_, _*_, _/_, _≤_}
 use native.Mathlib.Omega.{arith}
 use mathlib.Core.Path.{_≡_, sym, ap, _∙_, subst}
@@ -52,13 +52,14 @@ dcs-caps s p t u b i = dcs-cap s p t b
 -- ---- payload sessions
 
 module _ (s : Setting) (o : Parameters) (p : Palette) where
-  -- the calls are at most the pieces and I / (A - 6W + 1), rounded down, where I is the ink of the whole payload, of its draws before a refusal
-  -- too
+  -- the calls are at most the pieces and I / (A - 6W + 1), rounded down, where I is the ink of the whole payload, of its draws
+  -- before a refusal too
   pub payload-calls : (A : ℕ) (ts : List Turn) → 6 * s .limits .width ≤ A → properPayload s o p A ts ≡ true
       → length ts ≤ pieces ts + payloadInk s o p (stream ts) / (A - 6 * s .limits .width + 1)
   payload-calls A ts fits ok =
       rw (sym (reading-ink s o p (stream ts)))
-      (calls-bound (payloadStep s) (rested s) (payload-rests s) (payload-halts s) (6 * s .limits .width) (payload-caps s) A (opened o p) ts fits ok)
+      (calls-bound (payloadStep s) (rested s) (payload-rests s) (payload-halts s) (6 * s .limits .width) (payload-caps s) A
+      (opened o p) ts fits ok)
 
   -- unless the last call stopped, the calls came to what reading the whole comes to
   pub payload-whole : (A : ℕ) (ts : List Turn) → properPayload s o p A ts ≡ true → (payloadTurns s o p ts .how ≡ stopped → ⊥)
@@ -101,15 +102,16 @@ module _ (s : Setting) (o : Parameters) (p : Palette) where
 
   -- what the calls have read, marks of stops and all, is the whole stream
   pub payload-history : (A : ℕ) (ts : List Turn) → properPayload s o p A ts ≡ true → (payloadTurns s o p ts .how ≡ stopped → ⊥)
-      → readItems (payloadStep s) (rested s) (opened o p) (history (payloadStep s) (rested s) (opened o p) (asksOf (payloadStep s) (rested s) (ready (opened o p)) ts))
+      → readItems (payloadStep s) (rested s) (opened o p)
+      (history (payloadStep s) (rested s) (opened o p) (asksOf (payloadStep s) (rested s) (ready (opened o p)) ts))
       ≡ readFrom (payloadStep s) (opened o p) (stream ts)
   payload-history A ts = history-plain (payloadStep s) (rested s) (payload-rests s) (payload-halts s) A (opened o p) ts
 
 -- ---- DCS sessions
 
 module _ (s : Setting) (p : Palette) where
-  -- the calls are at most the pieces and I / (A - 6W + 1), rounded down, where I is the ink of the whole sequence, of its draws before a refusal
-  -- too
+  -- the calls are at most the pieces and I / (A - 6W + 1), rounded down, where I is the ink of the whole sequence, of its draws
+  -- before a refusal too
   pub dcs-calls : (A : ℕ) (ts : List Turn) → 6 * s .limits .width ≤ A → properDcs s p A ts ≡ true
       → length ts ≤ pieces ts + sequenceInk s p (stream ts) / (A - 6 * s .limits .width + 1)
   dcs-calls A ts fits ok =
@@ -146,6 +148,7 @@ module _ (s : Setting) (p : Palette) where
 
   -- what the calls have read, marks of stops and all, is the whole stream
   pub dcs-history : (A : ℕ) (ts : List Turn) → properDcs s p A ts ≡ true → (dcsTurns s p ts .how ≡ stopped → ⊥)
-      → readItems (dcsStep s p) (dcsRested s) start (history (dcsStep s p) (dcsRested s) start (asksOf (dcsStep s p) (dcsRested s) (ready start) ts))
+      → readItems (dcsStep s p) (dcsRested s) start
+      (history (dcsStep s p) (dcsRested s) start (asksOf (dcsStep s p) (dcsRested s) (ready start) ts))
       ≡ readFrom (dcsStep s p) start (stream ts)
   dcs-history A ts = history-plain (dcsStep s p) (dcsRested s) (dcs-rests s p) (dcs-halts s p) A start ts

@@ -63,7 +63,8 @@ module _ (s : Setting) (o : Parameters) (p : Palette) (A : ℕ) (ts : List Turn)
   stands : isOngoing (payloadTurns s o p ts .how) ≡ true
       → SoFar (payloadStep s) (rested s) (opened o p) (stream ts) (payloadTurns s o p ts)
   stands =
-      caller-so-far (payloadStep s) (rested s) (payload-rests s) (payload-halts s) (6 * s .limits .width) (payload-caps s) A fits (opened o p) ts ok
+      caller-so-far (payloadStep s) (rested s) (payload-rests s) (payload-halts s) (6 * s .limits .width) (payload-caps s) A fits
+      (opened o p) ts ok
 
   ongoing-settled : isOngoing (payloadTurns s o p ts .how) ≡ true
       → settled s (payloadTurns s o p ts .state) ≡ payload s o p (take (payloadTurns s o p ts .consumed) (stream ts))
@@ -89,7 +90,9 @@ module _ (s : Setting) (o : Parameters) (p : Palette) (A : ℕ) (ts : List Turn)
           let going : payloadTurns s o p ts .how ≡ stopped → ⊥ = ended-going e in
           sym (outcome-settled s (ranBy (payloadTurns s o p ts)) fine)
           ∙ payload-outcome s o p A ts ok going
-          ∙ sym (ap (λ (n : ℕ). payload s o p (take n (stream ts))) (payload-consumed s o p A ts ok going fine) ∙ payload-body s o p (stream ts))
+          ∙ sym
+          (ap (λ (n : ℕ). payload s o p (take n (stream ts))) (payload-consumed s o p A ts ok going fine)
+          ∙ payload-body s o p (stream ts))
       go (refusedBy n) e = absurd (true≢false (sym (ap isRefused e) ∙ fine))
 
   -- after a stop and after an end no command is pending
@@ -103,7 +106,8 @@ module _ (s : Setting) (o : Parameters) (p : Palette) (A : ℕ) (ts : List Turn)
       go stopped e = left-begun s (stands (ap isOngoing e) .left) some-left
       go halted e =
           let whole : readPayload s o p (stream ts) ≡ ranBy (payloadTurns s o p ts) = payload-whole s o p A ts ok (ended-going e) in
-          sym (ap (λ (q : Run Reading). q .state .begun) whole) ∙ halted-settled s o p (stream ts) (ap (λ (q : Run Reading). q .how) whole ∙ e)
+          sym (ap (λ (q : Run Reading). q .state .begun) whole)
+          ∙ halted-settled s o p (stream ts) (ap (λ (q : Run Reading). q .how) whole ∙ e)
       go (refusedBy n) e = absurd (true≢false (sym (ap isRefused e) ∙ fine))
 
   -- so there the drawing is the one of the bytes consumed so far
@@ -140,8 +144,8 @@ module _ (s : Setting) (o : Parameters) (p : Palette) (A : ℕ) (ts : List Turn)
 
 -- ---- DCS sessions
 
--- after each call that came to no end and no refusal, a DCS session stands where reading the bytes consumed so far in one go leads, and a stop
--- has carried out the pending command
+-- after each call that came to no end and no refusal, a DCS session stands where reading the bytes consumed so far in one go leads,
+-- and a stop has carried out the pending command
 pub dcs-so-far : (s : Setting) (p : Palette) (A : ℕ) (ts : List Turn) → 6 * s .limits .width ≤ A → properDcs s p A ts ≡ true
     → isOngoing (dcsTurns s p ts .how) ≡ true → SoFar (dcsStep s p) (dcsRested s) start (stream ts) (dcsTurns s p ts)
 dcs-so-far s p A ts fits =

@@ -47,8 +47,8 @@ bench =
     ∷ [])
     ∷ []
 
--- the slips to rule out: the repeat spent at `$`, height from inked bands, the byte after a lone 1B consumed, the background recoloured with
--- register 0, `-` refused below H
+-- the slips to rule out: the repeat spent at `$`, height from inked bands, the byte after a lone 1B consumed, the background
+-- recoloured with register 0, `-` refused below H
 slips : List Row
 slips =
     row "!5$~" (size 5 6 ∷ ink 30 ∷ [])
@@ -108,8 +108,8 @@ rasters =
     ∷ under (onCanvas 24 4 6) "!5~" (refusal 6 ∷ [])
     ∷ []
 
--- what has been drawn once the bytes are read: a pending command is not yet carried out, and neither is its refusal; the byte that ends it, or
--- the payload, does both
+-- what has been drawn once the bytes are read: a pending command is not yet carried out, and neither is its refusal; the byte that
+-- ends it, or the payload, does both
 pending : List Row
 pending =
     partly "" (size 1 1 ∷ leaves "" ∷ [])

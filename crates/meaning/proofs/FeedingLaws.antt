@@ -12,7 +12,8 @@ use Rattle.meaning.specs.Payload.{Finished, turnedDown}
 use Rattle.meaning.specs.Reader.{Step, call}
 use Rattle.meaning.proofs.Cases.{cond-no}
 
-module _ {S E : Type 0} (areaOf : S → Area) (step : Setting → S → ℕ → Step S) (rest : Setting → S → S) (end : S → Option E) (m : Session S) (size a : ℕ) where
+module _ {S E : Type 0} (areaOf : S → Area) (step : Setting → S → ℕ → Step S) (rest : Setting → S → S) (end : S → Option E)
+    (m : Session S) (size a : ℕ) where
   -- a feed by its refusal: refused, or read
   pub fed-as : (bs : List ℕ) {o : Option ℕ} → feedRefusal areaOf m size a ≡ o
       → feed areaOf step rest end m size a bs
@@ -39,12 +40,15 @@ module _ {S E : Type 0} (areaOf : S → Area) (step : Setting → S → ℕ → 
 
 module _ {S : Type 0} (areaOf : S → Area) (finishState : Setting → S → Finished) (m : Session S) (size : ℕ) where
   -- a finish by its refusal: refused, or as the state is
-  pub finished-as : {o : Option ℕ} → firstOf (record { holds = m .failed; number = 9 } ∷ record { holds = misfits areaOf m size; number = 12 } ∷ []) ≡ o
-      → finishSession areaOf finishState m size ≡ elim o as (λ _. Finished) [ none ↦ finishState (m .setting) (m .state) | some n ↦ turnedDown n ]
+  pub finished-as : {o : Option ℕ}
+      → firstOf (record { holds = m .failed; number = 9 } ∷ record { holds = misfits areaOf m size; number = 12 } ∷ []) ≡ o
+      → finishSession areaOf finishState m size
+      ≡ elim o as (λ _. Finished) [ none ↦ finishState (m .setting) (m .state) | some n ↦ turnedDown n ]
   unfolding finishSession
   finished-as e = ap (λ (o : Option ℕ). elim o as (λ _. Finished) [ none ↦ finishState (m .setting) (m .state) | some n ↦ turnedDown n ]) e
 
   -- one that is refused neither 9 nor 12 is as the state is
-  pub finish-answers : m .failed ≡ false → misfits areaOf m size ≡ false → finishSession areaOf finishState m size ≡ finishState (m .setting) (m .state)
+  pub finish-answers : m .failed ≡ false → misfits areaOf m size ≡ false
+      → finishSession areaOf finishState m size ≡ finishState (m .setting) (m .state)
   unfolding firstOf
   finish-answers live fits = finished-as {o = none} (cond-no _ _ _ live ∙ cond-no _ _ _ fits)

@@ -95,7 +95,8 @@ module _ {S : Type 0} (step : S → ℕ → Step S) (rest : S → S) where
       full : How → Run S
       full h = record { state = r .state; consumed = r .consumed; ink = r .ink; how = h }
 
-      go : (h : How) → cond (isAll (goingOn h)) (after (r .consumed) (r .ink) (still (r .state) readAll)) (full (goingOn h)) ≡ full (goingOn h)
+      go : (h : How)
+          → cond (isAll (goingOn h)) (after (r .consumed) (r .ink) (still (r .state) readAll)) (full (goingOn h)) ≡ full (goingOn h)
       go readAll = same-counts (r .state) readAll (add-zero _) (add-zero _)
       go stopped = same-counts (r .state) readAll (add-zero _) (add-zero _)
       go halted = refl
@@ -151,7 +152,8 @@ module _ {S : Type 0} (step : S → ℕ → Step S) (rest : S → S) (halt-law :
   turns-anyCalls A c (t ∷ ts) ok stays =
       let parts = proper-parts step rest A c t ts ok in
       one-call c t (λ u. anyCalls step rest u (asksOf step rest (turn step rest c t) ts)) (parts .1) stays
-      ∙ turns-anyCalls A (turn step rest c t) ts (parts .2) (halts-again (called step rest (allowanceOf t) (c .state) (c .unread ++ pieceOf t)))
+      ∙ turns-anyCalls A (turn step rest c t) ts (parts .2)
+      (halts-again (called step rest (allowanceOf t) (c .state) (c .unread ++ pieceOf t)))
 
   -- a caller that presents what was left unread stands where what its calls have read leads
   pub caller-history : (A : ℕ) (s : S) (ts : List Turn) → proper step rest A (ready s) ts ≡ true

@@ -106,7 +106,9 @@ payload-capped : (s : Setting) (r : Reading) (b : ℕ) → Inks (λ i. i ≤ 6 *
 payload-capped s r b =
     payload-case Capped s r b
     (λ _. readByte-case Capped s r b (ended-inks _ b r _)
-    (λ c q. wentOn-inks _ r c _ (let none-more = since-same (r .drawing) (drawAll s (c .ended) (r .drawing) .drawing) (quiet-strokes s (c .ended) (r .drawing) q) in omega arith))
+    (λ c q.
+    let quiet = quiet-strokes s (c .ended) (r .drawing) q in
+    wentOn-inks _ r c _ (let none-more = since-same (r .drawing) (drawAll s (c .ended) (r .drawing) .drawing) quiet in omega arith))
     (λ c _ e. sixel-cap s r b c e))
     (λ _. tt)
   where
@@ -211,18 +213,21 @@ payload-rest s r b e =
     quiet : (c : Scanned) → AllQuiet (c .ended) → Again (wentOn r c (drawAll s (c .ended) (r .drawing)))
     quiet c q =
         inked-none (payloadStep s (rested s r) b) (wentOn r c (drawAll s (c .ended) (r .drawing)))
-        (wentOn-inks (λ i. i ≡ 0) r c (drawAll s (c .ended) (r .drawing)) (since-same (r .drawing) _ (quiet-strokes s (c .ended) (r .drawing) q)))
+        (wentOn-inks (λ i. i ≡ 0) r c (drawAll s (c .ended) (r .drawing))
+        (since-same (r .drawing) _ (quiet-strokes s (c .ended) (r .drawing) q)))
 
 -- where a byte with ink is read, the begun command before it is not refused
 pub inked-settled : (s : Setting) (r : Reading) (b : ℕ) {t : Reading} {i : ℕ} → payloadStep s r b ≡ next t i → 0 < i
     → settled s r .refusal ≡ none
-inked-settled s r b e = subst (Inks Fine) e (payload-case (Inks Fine) s r b (λ _. readByte-case (Inks Fine) s r b ended quiet inked) (λ _. tt))
+inked-settled s r b e =
+    subst (Inks Fine) e (payload-case (Inks Fine) s r b (λ _. readByte-case (Inks Fine) s r b ended quiet inked) (λ _. tt))
   where
     Fine : ℕ → Type 0
     Fine i = 0 < i → settled s r .refusal ≡ none
 
     dry : (c : Scanned) (out : Outcome) → out .drawing .strokes ≡ r .drawing .strokes → Inks Fine (wentOn r c out)
-    dry c out same = wentOn-inks Fine r c out (λ some-ink. let none-more = since-same (r .drawing) (out .drawing) same in absurd (omega arith))
+    dry c out same =
+        wentOn-inks Fine r c out (λ some-ink. let none-more = since-same (r .drawing) (out .drawing) same in absurd (omega arith))
 
     ended : Inks Fine (endedAt b r (settled s r))
     ended = ended-inks Fine b r (settled s r)

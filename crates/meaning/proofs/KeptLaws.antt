@@ -12,7 +12,8 @@ use Rattle.meaning.specs.Callers.{Ask, fedAll}
 use Rattle.meaning.proofs.StepLaws.{Leaves, call-keeps}
 
 -- what the state keeps in every step and in every stop, a session keeps in any calls, with its setting
-module _ {S E : Type 0} (areaOf : S → Area) (step : Setting → S → ℕ → Step S) (rest : Setting → S → S) (end : S → Option E) (s : Setting) (P : S → Type 0)
+module _ {S E : Type 0} (areaOf : S → Area) (step : Setting → S → ℕ → Step S) (rest : Setting → S → S) (end : S → Option E)
+    (s : Setting) (P : S → Type 0)
     (keep : (t : S) (b : ℕ) → P t → Leaves P (step s t b)) (stop : (t : S) → P t → P (rest s t)) where
   abbrev pub Kept : Session S → Type 0
   Kept m = (m .setting ≡ s) × P (m .state)
@@ -40,9 +41,12 @@ module _ {S E : Type 0} (areaOf : S → Area) (step : Setting → S → ℕ → 
       r = call (step (m .setting)) (rest (m .setting)) a (m .state) bs
 
       read : P (r .state)
-      read = subst (λ (x : Setting). P (call (step x) (rest x) a (m .state) bs .state)) (sym (h .0)) (call-keeps P (step s) (rest s) keep stop a (m .state) bs (h .1))
+      read =
+          subst (λ (x : Setting). P (call (step x) (rest x) a (m .state) bs .state)) (sym (h .0))
+          (call-keeps P (step s) (rest s) keep stop a (m .state) bs (h .1))
 
-      go : (o : Option ℕ) → Kept (elim o as (λ _. Fed S E) [ none ↦ answered end m r | some n ↦ record { answer = refused n; session = m } ] .session)
+      go : (o : Option ℕ)
+          → Kept (elim o as (λ _. Fed S E) [ none ↦ answered end m r | some n ↦ record { answer = refused n; session = m } ] .session)
       go none = answered-kept m r (h .0) read
       go (some n) = h
 
@@ -53,4 +57,5 @@ module _ {S E : Type 0} (areaOf : S → Area) (step : Setting → S → ℕ → 
   pub calls-kept : (size : ℕ) (m : Session S) (cs : List Ask) → Kept m → Kept (fedAll (fedOn size) m cs .state)
   unfolding fedAll
   calls-kept size m [] h = h
-  calls-kept size m (c ∷ cs) h = calls-kept size (fedOn size m (c .bytes) (c .allowance) .0) cs (feed-kept m size (c .allowance) (c .bytes) h)
+  calls-kept size m (c ∷ cs) h =
+      calls-kept size (fedOn size m (c .bytes) (c .allowance) .0) cs (feed-kept m size (c .allowance) (c .bytes) h)

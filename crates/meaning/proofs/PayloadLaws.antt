@@ -72,7 +72,9 @@ module _ (s : Setting) (r : Reading) (b : ℕ) (bs : List ℕ) where
 
   went-outcome : (c : Scanned) (cs : List Placed) (out : Outcome)
       → ((t : Reading) → t .over ≡ none → outcomeOf s (readFrom (payloadStep s) t bs) ≡ payloadFrom s t bs)
-      → cs ≡ commandsFrom (record { parameters = r .parameters; passed = suc (r .passed); begun = c .begun; drawing = out .drawing; over = none }) bs
+      → cs
+      ≡ commandsFrom
+      (record { parameters = r .parameters; passed = suc (r .passed); begun = c .begun; drawing = out .drawing; over = none }) bs
       → outcomeOf s (follow (wentOn r c out) (go-on s bs)) ≡ drawOn s out cs
   unfolding wentOn outcomeOf payloadFrom follow still go-on after
   went-outcome c cs out later e =
@@ -97,7 +99,8 @@ module _ (s : Setting) (r : Reading) (b : ℕ) (bs : List ℕ) where
       whole : List ℕ → Outcome
       whole us = let k : Scanned = scan (r .passed) (r .begun) us in drawAll s (k .ended ++ closed (k .begun)) (r .drawing)
 
-      go : (x : Bool) → outcomeOf s (follow (cond x (endedAt b r (settled s r)) (wentOn r c out)) (go-on s bs)) ≡ whole (cond x [] (b ∷ body bs))
+      go : (x : Bool)
+          → outcomeOf s (follow (cond x (endedAt b r (settled s r)) (wentOn r c out)) (go-on s bs)) ≡ whole (cond x [] (b ∷ body bs))
       go true = ended-outcome
       go false =
           went-outcome c (commandsFrom t bs) out later refl
@@ -175,7 +178,12 @@ ended-parameters b r out = option-case (Leaves (λ t. t .parameters ≡ r .param
 step-parameters : (s : Setting) (r : Reading) (b : ℕ) → Leaves (λ t. t .parameters ≡ r .parameters) (payloadStep s r b)
 unfolding readByte
 step-parameters s r b =
-    payload-case Same s r b (λ _. cond-case Same (ends b) (λ _. ended-parameters b r (settled s r)) (λ _. wentOn-parameters r c (drawAll s (c .ended) (r .drawing)))) (λ _. refl)
+    payload-case Same s r b
+    (λ _.
+    cond-case Same (ends b)
+    (λ _. ended-parameters b r (settled s r))
+    (λ _. wentOn-parameters r c (drawAll s (c .ended) (r .drawing))))
+    (λ _. refl)
   where
     c : Scanned
     c = scanByte (r .passed) (r .begun) b
@@ -267,7 +275,8 @@ module _ (s : Setting) (o : Parameters) (p : Palette) (bs : List ℕ) where
   reading-over going = reading-body s (opened o p) bs refl going .over
 
   -- a refusal is the payload's, and leaves the payload's drawing
-  pub reading-refused : {n : ℕ} → readPayload .how ≡ refusedBy n → payload s o p bs ≡ record { drawing = readPayload .state .drawing; refusal = some n }
+  pub reading-refused : {n : ℕ} → readPayload .how ≡ refusedBy n
+      → payload s o p bs ≡ record { drawing = readPayload .state .drawing; refusal = some n }
   reading-refused e = sym (reading-is-payload s o p bs) ∙ outcome-refused s readPayload e
 
   -- it is 4 to 7
@@ -311,7 +320,10 @@ step-end : (s : Setting) (r : Reading) (b : ℕ) → EndSettles r → Leaves End
 unfolding readByte
 step-end s r b h =
     payload-case (Leaves EndSettles) s r b
-    (λ _. cond-case (Leaves EndSettles) (ends b) (λ _. ended-end b r (settled s r)) (λ _. wentOn-end r c (drawAll s (c .ended) (r .drawing))))
+    (λ _.
+    cond-case (Leaves EndSettles) (ends b)
+    (λ _. ended-end b r (settled s r))
+    (λ _. wentOn-end r c (drawAll s (c .ended) (r .drawing))))
     (λ _. h)
   where
     c : Scanned
@@ -336,7 +348,10 @@ halted-settled s o p bs e =
 take-body : (bs : List ℕ) → take (length (body bs)) bs ≡ body bs
 unfolding body
 take-body [] = refl
-take-body (b ∷ bs) = cond-case (λ (us : List ℕ). take (length us) (b ∷ bs) ≡ us) (ends b) (λ _. refl) (λ _. ap (λ (us : List ℕ). b ∷ us) (take-body bs))
+take-body (b ∷ bs) =
+    cond-case (λ (us : List ℕ). take (length us) (b ∷ bs) ≡ us) (ends b)
+    (λ _. refl)
+    (λ _. ap (λ (us : List ℕ). b ∷ us) (take-body bs))
 
 body-body : (bs : List ℕ) → body (body bs) ≡ body bs
 unfolding body

@@ -80,7 +80,8 @@ module _ {S : Type 0} (step : S → ℕ → Step S) where
   ended-prefix s xs ys ended = read-append s xs ys ∙ cond-no _ _ _ (not-all (readFrom step s xs .how) ended)
 
   -- reading from a byte on, where it is known what the byte does
-  pub read-as : (s : S) (b : ℕ) (bs : List ℕ) {x : Step S} → step s b ≡ x → readFrom step s (b ∷ bs) ≡ follow x (λ t i. after 1 i (readFrom step t bs))
+  pub read-as : (s : S) (b : ℕ) (bs : List ℕ) {x : Step S} → step s b ≡ x
+      → readFrom step s (b ∷ bs) ≡ follow x (λ t i. after 1 i (readFrom step t bs))
   unfolding readFrom
   read-as s b bs e = ap (λ (x : Step S). follow x (λ t i. after 1 i (readFrom step t bs))) e
 

@@ -58,7 +58,9 @@ module _ (s : Setting) (p : Palette) (t : Reading) where
   unfolding closedAfterEscape readFrom dcsStep escapeStep still after follow isRefused drawingOf dcsEnd
   escape-closes [] = record { drawing = refl; end = refl; consumed = refl; fine = refl }
   escape-closes (b ∷ bs) =
-      cond-both (λ (c : Closing) (x : Step Phase). Closes t c (after 1 0 (follow x (λ u i. after 1 i (readFrom (dcsStep s p) u bs))))) (eqb b 0x5C)
+      cond-both
+      (λ (c : Closing) (x : Step Phase). Closes t c (after 1 0 (follow x (λ u i. after 1 i (readFrom (dcsStep s p) u bs)))))
+      (eqb b 0x5C)
       (λ _. closes-on (closes-on (over-closes complete bs)))
       (λ _. record { drawing = refl; end = refl; consumed = refl; fine = refl })
 
@@ -192,7 +194,8 @@ pub ended-found : (bs : List ℕ) {e : End} → sequenceEnd bs ≡ some e → fi
 unfolding sequenceEnd
 ended-found bs {e} = go (sequencePayload bs) (sequence-agrees bs)
   where
-    go : (f : Found) → Agrees bs f → elim f as (λ _. Option End) [ found o part ↦ closing (afterBody part) .end | lacking ↦ none | refusedWith n ↦ none ] ≡ some e
+    go : (f : Found) → Agrees bs f
+        → elim f as (λ _. Option End) [ found o part ↦ closing (afterBody part) .end | lacking ↦ none | refusedWith n ↦ none ] ≡ some e
         → findPayload bs ≡ f
     go (found o part) same z = same
     go lacking same z = absurd (no-end z)
@@ -238,7 +241,8 @@ module _ (s : Setting) (p : Palette) (bs : List ℕ) where
       let h = sequence-through s p bs e in
       let q : Run Reading = readPayload s o p part in
       let x : Run Phase = framed s p q part in
-      let k = framed-closes s p q part (reading-body s (opened o p) part refl) (sym (ap (λ (y : Run Phase). isRefused (y .how)) (h .1)) ∙ fine) in
+      let k =
+      framed-closes s p q part (reading-body s (opened o p) part refl) (sym (ap (λ (y : Run Phase). isRefused (y .how)) (h .1)) ∙ fine) in
       let n : ℕ = h .0 in
       let all : readSequence s p bs .consumed ≡ n + x .consumed = ap (λ (y : Run Phase). y .consumed) (h .1) in
       let short : readSequence s p bs .consumed ≤ length bs = read-within (dcsStep s p) start bs in
@@ -252,7 +256,8 @@ module _ (s : Setting) (p : Palette) (bs : List ℕ) where
     sequence-ended = go (sequencePayload bs) refl
       where
         go : (f : Found) → sequencePayload bs ≡ f
-            → dcsEnd (readSequence s p bs .state) ≡ elim f as (λ _. Option End) [ found o part ↦ closing (afterBody part) .end | lacking ↦ none | refusedWith n ↦ none ]
+            → dcsEnd (readSequence s p bs .state)
+            ≡ elim f as (λ _. Option End) [ found o part ↦ closing (afterBody part) .end | lacking ↦ none | refusedWith n ↦ none ]
         go (found o part) e = through e fine .0
         go lacking e = before-open (readSequence s p bs .state) (sequence-lacking s p bs e .0)
         go (refusedWith n) e = before-open (readSequence s p bs .state) (sequence-refused-before s p bs e .0)
@@ -278,9 +283,11 @@ module _ (s : Setting) (p : Palette) (bs : List ℕ) where
     unfolding sequenceFinish oneShot
     sequence-finished =
         go (dcsEnd (readSequence s p bs .state)) refl
-        ∙ ap (λ (o : Option End). elim o as (λ _. Finished) [ none ↦ turnedDown 8 | some e ↦ answerOf s p (sequencePayload bs) ]) sequence-ended
+        ∙ ap (λ (o : Option End). elim o as (λ _. Finished) [ none ↦ turnedDown 8 | some e ↦ answerOf s p (sequencePayload bs) ])
+        sequence-ended
       where
         go : (o : Option End) → dcsEnd (readSequence s p bs .state) ≡ o
-            → finishDcs s (readSequence s p bs .state) ≡ elim o as (λ _. Finished) [ none ↦ turnedDown 8 | some e ↦ answerOf s p (sequencePayload bs) ]
+            → finishDcs s (readSequence s p bs .state)
+            ≡ elim o as (λ _. Finished) [ none ↦ turnedDown 8 | some e ↦ answerOf s p (sequencePayload bs) ]
         go none e = unended-finish s (readSequence s p bs .state) e
         go (some x) e = sequence-finish s p bs e ∙ ap (answerOf s p) (ended-found bs (sym sequence-ended ∙ e))

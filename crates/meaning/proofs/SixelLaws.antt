@@ -222,6 +222,7 @@ pub drew-ink : {s : Setting} {r : Reading} {b : ℕ} {e : Drawing} → sixel b �
 unfolding inkOfAll strokeOf
 drew-ink {s} {r} {b} {e} x drew =
     let k : Stroke = strokeOf (b - 63) (settled s r .drawing) in
-    let own : inkOfAll (strokesSince (r .drawing) e) ≡ k .repeat * ones (b - 63) + 0 = ap inkOfAll (since-appended (r .drawing) e (k ∷ []) (drew .strokes)) in
+    let own : inkOfAll (strokesSince (r .drawing) e) ≡ k .repeat * ones (b - 63) + 0 =
+    ap inkOfAll (since-appended (r .drawing) e (k ∷ []) (drew .strokes)) in
     let most : k .repeat * ones (b - 63) ≤ s .limits .width * 6 = mul-le-mul (drew .repeats) (ones-sixel b x) in
     omega arith

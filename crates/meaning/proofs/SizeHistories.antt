@@ -29,11 +29,13 @@ roomy-needed p p2 h = record { width = h .width; height = h .height; pixels = h 
 -- ---- any session
 
 -- a finish reports what its state's finish does
-finish-fits : {S : Type 0} (areaOf : S → Area) (finishState : Setting → S → Finished) (s : Setting) (m : Session S) (size : ℕ) → m .setting ≡ s
+finish-fits : {S : Type 0} (areaOf : S → Area) (finishState : Setting → S → Finished) (s : Setting) (m : Session S) (size : ℕ)
+    → m .setting ≡ s
     → ReportFits s (finishState s (m .state)) → ReportFits s (finishSession areaOf finishState m size)
 unfolding finishSession
 finish-fits areaOf finishState s m size e h =
-    option-case (ReportFits s) (firstOf (record { holds = m .failed; number = 9 } ∷ record { holds = misfits areaOf m size; number = 12 } ∷ []))
+    option-case (ReportFits s)
+    (firstOf (record { holds = m .failed; number = 9 } ∷ record { holds = misfits areaOf m size; number = 12 } ∷ []))
     (λ _. subst (λ (x : Setting). ReportFits s (finishState x (m .state))) (sym e) h)
     (λ n _. tt)
 
@@ -58,7 +60,8 @@ module _ {s : Setting} (roomy : Roomy s) (o : Parameters) (p : Palette) (size : 
   sound-after : (payloadAfter .setting ≡ s) × Sound s (payloadAfter .state .drawing)
   unfolding feedPayload opened
   sound-after =
-      calls-kept (λ r. r .drawing .area) payloadStep rested (λ r. r .over) s (λ r. Sound s (r .drawing)) (payload-step-sound s) (rested-sound s) size _ cs
+      calls-kept (λ r. r .drawing .area) payloadStep rested (λ r. r .over) s (λ r. Sound s (r .drawing)) (payload-step-sound s)
+      (rested-sound s) size _ cs
       (refl, blank-sound roomy p (o .p2))
 
   pub payload-visible : VisibleFits s (some (payloadAfter .state .drawing))
@@ -71,7 +74,8 @@ module _ {s : Setting} (roomy : Roomy s) (o : Parameters) (p : Palette) (size : 
   pub payload-reported : (lent : ℕ) → ReportFits s (finishPayload payloadAfter lent)
   unfolding finishPayload
   payload-reported lent =
-      finish-fits (λ r. r .drawing .area) finishReading s payloadAfter lent (sound-after .0) (reading-fits s (payloadAfter .state) (sound-after .1))
+      finish-fits (λ r. r .drawing .area) finishReading s payloadAfter lent (sound-after .0)
+      (reading-fits s (payloadAfter .state) (sound-after .1))
 
 -- ---- a DCS session
 
@@ -102,7 +106,8 @@ module _ {s : Setting} (roomy : Roomy s) (p : Palette) (size : ℕ) (cs : List A
   phase-after : (dcsAfter .setting ≡ s) × PhaseSound s (dcsAfter .state)
   unfolding feedDcs drawingOf
   phase-after =
-      calls-kept (λ t. visibleArea (drawingOf t)) (λ x. dcsStep x p) dcsRested dcsEnd s (PhaseSound s) (dcs-step-sound roomy p) (dcs-rested-sound s) size _ cs
+      calls-kept (λ t. visibleArea (drawingOf t)) (λ x. dcsStep x p) dcsRested dcsEnd s (PhaseSound s) (dcs-step-sound roomy p)
+      (dcs-rested-sound s) size _ cs
       (refl, tt)
 
   pub dcs-visible : VisibleFits s (drawingOf (dcsAfter .state))
@@ -114,7 +119,8 @@ module _ {s : Setting} (roomy : Roomy s) (p : Palette) (size : ℕ) (cs : List A
   pub dcs-reported : (lent : ℕ) → ReportFits s (finishDcsSession dcsAfter lent)
   unfolding finishDcsSession
   dcs-reported lent =
-      finish-fits (λ t. visibleArea (drawingOf t)) finishDcs s dcsAfter lent (phase-after .0) (phase-reported s (dcsAfter .state) (phase-after .1))
+      finish-fits (λ t. visibleArea (drawingOf t)) finishDcs s dcsAfter lent (phase-after .0)
+      (phase-reported s (dcsAfter .state) (phase-after .1))
 
 -- ---- reading all at once
 

@@ -1,5 +1,5 @@
--- Laws of what a caller has read so far: after every call, stopped or not, it stands where the bytes consumed so far lead, as if they had been
--- read in one go. Nothing of SIXEL stands here.
+-- Laws of what a caller has read so far: after every call, stopped or not, it stands where the bytes consumed so far lead, as if
+-- they had been read in one go. Nothing of SIXEL stands here.
 use Prim.Native.Nat.{ℕ, _+_, _-_, _≤_, _<_}
 use native.Mathlib.Omega.{arith}
 use mathlib.Core.Path.{_≡_, refl, sym, ap, _∙_, subst}
@@ -16,11 +16,12 @@ use Rattle.meaning.proofs.CallLaws.{take-one-more, called, StoppedAt, c
 use Rattle.meaning.proofs.CallerLaws.{not-refused, proper-parts}
 use Rattle.meaning.proofs.HistoryLaws.{StaysHalted, halts-again}
 
--- what the last call left of where the bytes consumed lead: that place, with nothing unread; or what a stop leaves of it, before a byte that
--- has ink there
+-- what the last call left of where the bytes consumed lead: that place, with nothing unread; or what a stop leaves of it, before a
+-- byte that has ink there
 pub data LeftBy {S : Type 0} (step : S → ℕ → Step S) (rest : S → S) : How → S → S → List ℕ → Type 0 where
   allRead : {here : S} → LeftBy step rest readAll here here []
-  stoppedAt : {here t : S} {b i : ℕ} {later : List ℕ} → step here b ≡ next t i → 0 < i → LeftBy step rest stopped here (rest here) (b ∷ later)
+  stoppedAt : {here t : S} {b i : ℕ} {later : List ℕ} → step here b ≡ next t i → 0 < i
+      → LeftBy step rest stopped here (rest here) (b ∷ later)
 
 -- where a caller stands that has been given some bytes: those that were read lead to a place with its counts, and the last call left this
 pub record SoFar {S : Type 0} (step : S → ℕ → Step S) (rest : S → S) (s : S) (xs : List ℕ) (c : Caller S) : Type 0 where
@@ -91,7 +92,10 @@ module _ {S : Type 0} (step : S → ℕ → Step S) (rest : S → S) where
         record {
           read = f .read ++ take (q .consumed) presented;
           here = p .last;
-          split = given ∙ ap (λ (us : List ℕ). f .read ++ us) (sym (take-append-drop (q .consumed) presented)) ∙ sym (append-assoc (f .read) _ _);
+          split =
+              given
+              ∙ ap (λ (us : List ℕ). f .read ++ us) (sym (take-append-drop (q .consumed) presented))
+              ∙ sym (append-assoc (f .read) _ _);
           ran = further (take (q .consumed) presented) ∙ ap (after (c .consumed) (c .ink)) (p .before);
           left = stop-left e (p .rested) (p .unread) (p .reads) (omega (arith, p .exceeds));
         }

@@ -112,7 +112,8 @@ module _ (s : Setting) (p : Palette) (b : ℕ) where
   header-does bs = go (headerByte bs b)
     where
       go : (x : HeaderByte)
-          → DcsDoes s p b (header bs) (elim x [ goesOn more ↦ next (header more) 0 | settles o ↦ next (within (opened o p)) 0 | wrong n ↦ refuse (header bs) n ])
+          → DcsDoes s p b (header bs)
+          (elim x [ goesOn more ↦ next (header more) 0 | settles o ↦ next (within (opened o p)) 0 | wrong n ↦ refuse (header bs) n ])
       go (goesOn more) = advances tt tt
       go (settles o) = begins tt o
       go (wrong n) = turns tt
@@ -216,7 +217,8 @@ pub call-keeps : {S : Type 0} (P : S → Type 0) (step : S → ℕ → Step S) (
     → ((t : S) → P t → P (rest t)) → (left : ℕ) (t : S) (bs : List ℕ) → P t → P (call step rest left t bs .state)
 unfolding call
 call-keeps P step rest keep stop left t [] h = h
-call-keeps {S} P step rest keep stop left t (b ∷ bs) h = go (step t b) (keep t b h) (λ i u. call-keeps P step rest keep stop (left - i) u bs)
+call-keeps {S} P step rest keep stop left t (b ∷ bs) h =
+    go (step t b) (keep t b h) (λ i u. call-keeps P step rest keep stop (left - i) u bs)
   where
     go : (x : Step S) → Leaves P x → ((i : ℕ) (u : S) → P u → P (call step rest (left - i) u bs .state))
         → P (follow x (λ u i. cond (leb i left) (after 1 i (call step rest (left - i) u bs)) (still (rest t) stopped)) .state)

@@ -22,7 +22,8 @@ pub record Passes {H M A B : Type 0} (Stands : H → M → Type 0) (meant : A �
 
 -- where each feed is the definition's, so are any
 module _ {H M A B : Type 0} (f : Feed H A) (g : Feed M B) (Stands : H → M → Type 0) (meant : A → B)
-    (one : (h : H) (m : M) → Stands h m → (bs : List ℕ) (a : ℕ) → (meant (f h bs a .1) ≡ g m bs a .1) × Stands (f h bs a .0) (g m bs a .0)) where
+    (one : (h : H) (m : M) → Stands h m → (bs : List ℕ) (a : ℕ)
+    → (meant (f h bs a .1) ≡ g m bs a .1) × Stands (f h bs a .0) (g m bs a .0)) where
   pub all-pass : {h : H} {m : M} → Stands h m → (cs : List Ask) → Passes Stands meant (fedAll f h cs) (fedAll g m cs)
   unfolding fedAll
   all-pass k [] = record { answers = refl; state = k }
@@ -169,7 +170,8 @@ pub record Learned {H S : Type 0} (said : How) (c : Caller H) (k : Caller S) : T
   pub ink : isRefused (k .how) ≡ false → c .ink ≡ k .ink
 
 -- one call more that tells what the definition's comes to
-pub learned-more : {H S E : Type 0} (step : S → ℕ → Step S) (rest : S → S) {c : Caller H} {k : Caller S} {before said : How} → Learned before c k → isRefused (k .how) ≡ false
+pub learned-more : {H S E : Type 0} (step : S → ℕ → Step S) (rest : S → S) {c : Caller H} {k : Caller S} {before said : How}
+    → Learned before c k → isRefused (k .how) ≡ false
     → (z : List ℕ) (h : H) {q : Run S} {x : Answer E} → Tells said q x
     → Learned said (afterFeed c (c .unread ++ z) h x) (having step rest k (k .unread ++ z) q)
 unfolding afterFeed having
@@ -190,7 +192,8 @@ module _ {H E : Type 0} (feed : Feed H (Answer E)) where
       let inner = both (mayCall t (c .how)) _ (outer .1) in
       (leb-true A (allowanceOf t) (outer .0), inner .0, inner .1)
 
-  proper-whole : (A : ℕ) (c : Caller H) (t : Turn) (ts : List Turn) → A ≤ allowanceOf t → mayCall t (c .how) ≡ true → properCalls feed A (called feed c t) ts ≡ true
+  proper-whole : (A : ℕ) (c : Caller H) (t : Turn) (ts : List Turn) → A ≤ allowanceOf t → mayCall t (c .how) ≡ true
+      → properCalls feed A (called feed c t) ts ≡ true
       → properCalls feed A c (t ∷ ts) ≡ true
   unfolding properCalls
   proper-whole A c t ts allowed may later = and-both _ _ (le-leb A (allowanceOf t) allowed) (and-both _ _ may later)
@@ -206,7 +209,8 @@ module _ {H E : Type 0} (feed : Feed H (Answer E)) where
   calls-append c [] us = refl
   calls-append c (t ∷ ts) us = calls-append (called feed c t) ts us
 
-  pub proper-append : (A : ℕ) (c : Caller H) (ts us : List Turn) → properCalls feed A c ts ≡ true → properCalls feed A (callsOf feed c ts) us ≡ true
+  pub proper-append : (A : ℕ) (c : Caller H) (ts us : List Turn) → properCalls feed A c ts ≡ true
+      → properCalls feed A (callsOf feed c ts) us ≡ true
       → properCalls feed A c (ts ++ us) ≡ true
   unfolding callsOf
   proper-append A c [] us h k = k
@@ -217,7 +221,8 @@ module _ {H E : Type 0} (feed : Feed H (Answer E)) where
   -- where one call that may be made leaves the callers standing alike, so do any, and they may be made of the definition too
   module _ {S : Type 0} (step : S → ℕ → Step S) (rest : S → S) (Stands : Caller H → Caller S → Type 0) (A : ℕ)
       (may : (c : Caller H) (k : Caller S) → Stands c k → (t : Turn) → mayCall t (c .how) ≡ true → mayCall t (k .how) ≡ true)
-      (one : (c : Caller H) (k : Caller S) → Stands c k → (t : Turn) → A ≤ allowanceOf t → mayCall t (k .how) ≡ true → Stands (called feed c t) (turn step rest k t)) where
+      (one : (c : Caller H) (k : Caller S) → Stands c k → (t : Turn) → A ≤ allowanceOf t → mayCall t (k .how) ≡ true
+      → Stands (called feed c t) (turn step rest k t)) where
     pub calls-stand : {c : Caller H} {k : Caller S} → Stands c k → (ts : List Turn) → properCalls feed A c ts ≡ true
         → Stands (callsOf feed c ts) (turns step rest k ts) × (proper step rest A k ts ≡ true)
     unfolding callsOf turns proper
@@ -228,14 +233,16 @@ module _ {H E : Type 0} (feed : Feed H (Answer E)) where
         let later = calls-stand (one c k h t (parts .0) there) ts (parts .2) in
         (later .0, and-both _ _ (le-leb A (allowanceOf t) (parts .0)) (and-both _ _ there (later .1)))
 
-    -- where each such call that neither stops nor is refused tells whether the end has come, so does the last of any, after a status told before
+    -- where each such call that neither stops nor is refused tells whether the end has come, so does the last of any, after a
+    -- status told before
     module _ (end : S → Option E)
         (tells : (c : Caller H) (k : Caller S) → Stands c k → (t : Turn) → A ≤ allowanceOf t → mayCall t (k .how) ≡ true → (x : Status E)
         → (called feed c t .how ≡ stopped → ⊥) → isRefused (called feed c t .how) ≡ false
         → statusTold x (feed (c .state) (c .unread ++ pieceOf t) (allowanceOf t) .1) ≡ atEnd (end (turn step rest k t .state))) where
       pub status-stands : {c : Caller H} {k : Caller S} → Stands c k → (x : Status E)
           → ((c .how ≡ stopped → ⊥) → isRefused (c .how) ≡ false → x ≡ atEnd (end (k .state)))
-          → (ts : List Turn) → properCalls feed A c ts ≡ true → (callsOf feed c ts .how ≡ stopped → ⊥) → isRefused (callsOf feed c ts .how) ≡ false
+          → (ts : List Turn) → properCalls feed A c ts ≡ true → (callsOf feed c ts .how ≡ stopped → ⊥)
+          → isRefused (callsOf feed c ts .how) ≡ false
           → lastStatus feed x c ts ≡ atEnd (end (turns step rest k ts .state))
       unfolding callsOf turns lastStatus
       status-stands h x before [] ok going fine = before going fine
@@ -248,13 +255,15 @@ module _ {H E : Type 0} (feed : Feed H (Answer E)) where
 -- ---- the status that an answer tells
 
 -- an answered call that neither stopped nor was refused tells whether the end has come
-pub answer-status : {S E : Type 0} (end : S → Option E) (m : Session S) (q : Run S) (x : Status E) {y : Answer E} → y ≡ answered end m q .answer
+pub answer-status : {S E : Type 0} (end : S → Option E) (m : Session S) (q : Run S) (x : Status E) {y : Answer E}
+    → y ≡ answered end m q .answer
     → (howTold y ≡ stopped → ⊥) → isRefused (howTold y) ≡ false → statusTold x y ≡ atEnd (end (q .state))
 unfolding answered tells statusTold isRefused howTold ending
 answer-status {S} {E} end m q x e going fine =
     ap (statusTold x) e ∙ each (q .how) (λ z. going (ap howTold e ∙ z)) (sym (ap (λ (y : Answer E). isRefused (howTold y)) e) ∙ fine)
   where
-    each : (h : How) → (howTold (ending end m q h (end (q .state)) .answer) ≡ stopped → ⊥) → isRefused (howTold (ending end m q h (end (q .state)) .answer)) ≡ false
+    each : (h : How) → (howTold (ending end m q h (end (q .state)) .answer) ≡ stopped → ⊥)
+        → isRefused (howTold (ending end m q h (end (q .state)) .answer)) ≡ false
         → statusTold x (ending end m q h (end (q .state)) .answer) ≡ atEnd (end (q .state))
     each readAll going fine = refl
     each stopped going fine = absurd (going refl)

@@ -41,8 +41,9 @@ bytes (cons c cs) = code c ∷ bytes cs
 pub data Way : Type 0 where
   asPayload soFar asDcs atOnce : Way
 
--- what a row says: the size's or the extent's width and height; ink; the pixel at a column and a row, as RRGGBBAA; the ratio; the background;
--- a refusal's number; that a DCS sequence has come to an end, or has not; and what stays unread, or is the part handed back
+-- what a row says: the size's or the extent's width and height; ink; the pixel at a column and a row, as RRGGBBAA; the ratio; the
+-- background; a refusal's number; that a DCS sequence has come to an end, or has not; and what stays unread, or is the part handed
+-- back
 pub data Says : Type 0 where
   size extent : ℕ → ℕ → Says
   ink : ℕ → Says
@@ -146,7 +147,8 @@ unfoldable pub soFarResult : Setting → List ℕ → Result
 unfolding resulting refusalOr
 soFarResult s bs =
     let run : Run Reading = readFrom (payloadStep s) (opened noParameters standard) bs in
-    resulting (refusalOr (run .how) (finished (reportOf noParameters (run .state .drawing)))) (run .state .drawing) (run .ink) none (run .consumed) bs
+    resulting (refusalOr (run .how) (finished (reportOf noParameters (run .state .drawing)))) (run .state .drawing) (run .ink) none
+    (run .consumed) bs
 
 -- and as a whole
 unfoldable pub soFarMeant : Setting → List ℕ → Result
@@ -160,11 +162,13 @@ unfoldable pub dcsResult : Setting → List ℕ → Result
 unfolding resulting orBlank refusalOr
 dcsResult s bs =
     let run : Run Phase = readFrom (dcsStep s standard) start bs in
-    resulting (refusalOr (run .how) (finishDcs s (run .state))) (orBlank (drawingOf (run .state))) (run .ink) (dcsEnd (run .state)) (run .consumed) bs
+    resulting (refusalOr (run .how) (finishDcs s (run .state))) (orBlank (drawingOf (run .state))) (run .ink) (dcsEnd (run .state))
+    (run .consumed) bs
 
 -- and as a whole
 unfoldable pub dcsMeant : Setting → List ℕ → Result
-unfolding resulting orBlank refusedOr sequenceEnd sequenceConsumed sequenceRefusal sequenceDrawn sequenceFinish sequenceInk Commands.endedCommands
+unfolding resulting orBlank refusedOr sequenceEnd sequenceConsumed sequenceRefusal sequenceDrawn sequenceFinish sequenceInk
+    Commands.endedCommands
 dcsMeant s bs =
     resulting (refusedOr (sequenceRefusal s standard bs) (sequenceFinish s standard bs)) (orBlank (sequenceDrawn s standard bs))
     (sequenceInk s standard bs) (sequenceEnd bs) (sequenceConsumed bs) bs

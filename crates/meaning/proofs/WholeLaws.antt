@@ -42,7 +42,8 @@ drawnBy q = record { drawing = q .state .drawing; refusal = refusalIn (q .how) }
 
 -- ---- the commands that end from a reading on
 
--- where the payload has not come to its end, those that end among its bytes; else all that end in its body, and the one that the end cuts off
+-- where the payload has not come to its end, those that end among its bytes; else all that end in its body, and the one that the
+-- end cuts off
 endedOf : Reading → Option ℕ → List ℕ → List ℕ → List Placed
 unfolding scan closed
 endedOf r o bs cut =
@@ -120,7 +121,8 @@ unfolding drawnSoFar endedCommands commands endedFrom endedOf opened
 reading-so-far s o p bs = drawn-from s (opened o p) bs refl
 
 -- what has been drawn
-pub reading-drawn : (s : Setting) (o : Parameters) (p : Palette) (bs : List ℕ) → readPayload s o p bs .state .drawing ≡ drawnSoFar s o p bs .drawing
+pub reading-drawn : (s : Setting) (o : Parameters) (p : Palette) (bs : List ℕ)
+    → readPayload s o p bs .state .drawing ≡ drawnSoFar s o p bs .drawing
 unfolding drawnBy
 reading-drawn s o p bs = ap (λ (out : Outcome). out .drawing) (reading-so-far s o p bs)
 

@@ -1,5 +1,5 @@
--- Callers of any session, and what they learn from its answers (docs/RULES.md, section 6). Nothing of SIXEL stands here: `H` is what a caller holds
--- between its calls, as a session and its canvas.
+-- Callers of any session, and what they learn from its answers (docs/RULES.md, section 6). Nothing of SIXEL stands here: `H` is
+-- what a caller holds between its calls, as a session and its canvas.
 use Prim.Native.Nat.{ℕ, _+_}
 use mathlib.Core.Bool.{Bool, true, _&&_}
 use mathlib.Core.List.{List, [], _∷_, _++_}

@@ -130,7 +130,8 @@ module _ {S : Type 0} (areaOf : S → Area) where
       ]
 
   -- rules 5.2, 5.6: a call on a canvas of so many bytes, with an allowance; a refused one leaves the session as it is
-  unfoldable pub feed : {E : Type 0} → (Setting → S → ℕ → Step S) → (Setting → S → S) → (S → Option E) → Session S → ℕ → ℕ → List ℕ → Fed S E
+  unfoldable pub feed : {E : Type 0} → (Setting → S → ℕ → Step S) → (Setting → S → S) → (S → Option E) → Session S → ℕ → ℕ → List ℕ
+      → Fed S E
   unfolding feedRefusal answered
   feed step rest end s length allowance bs =
       elim (feedRefusal s length allowance) [
@@ -183,9 +184,9 @@ unfoldable pub shown : ℕ → Option Drawing → List ℕ → List ℕ
 shown stride none opening = opening
 shown stride (some d) opening = picture stride (d .area) (d .background) (d .strokes) opening
 
--- Rules 1.7, 6.5. After an opening and after every call the canvas shows the drawing of the session's state; a payload session opens with the blank
--- drawing, which is pixel (0,0) in the background, and a DCS session has none before `q`. After a call that read all its bytes the pending command is
--- not yet carried out; after a stop (`call` of Reader) or an end it is.
+-- Rules 1.7, 6.5. After an opening and after every call the canvas shows the drawing of the session's state; a payload session
+-- opens with the blank drawing, which is pixel (0,0) in the background, and a DCS session has none before `q`. After a call that
+-- read all its bytes the pending command is not yet carried out; after a stop (`call` of Reader) or an end it is.
 unfoldable pub payloadShown : Session Reading → List ℕ → List ℕ
 unfolding shown
 payloadShown s opening = shown (s .setting .stride) (some (s .state .drawing)) opening

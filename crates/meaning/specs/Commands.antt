@@ -114,7 +114,8 @@ unfoldable pub commands : List ℕ → List Placed
 unfolding scan body closed
 commands bs = let s : Scanned = scan 0 none (body bs) in s .ended ++ closed (s .begun)
 
--- rule 6.5: the commands that have ended among some bytes: one that is still pending is not yet among them, and the payload's end ends it too
+-- rule 6.5: the commands that have ended among some bytes: one that is still pending is not yet among them, and the payload's end
+-- ends it too
 unfoldable pub endedCommands : List ℕ → List Placed
 unfolding scan endOf commands
 endedCommands bs = elim (endOf bs) [ none ↦ scan 0 none bs .ended | some b ↦ commands bs ]

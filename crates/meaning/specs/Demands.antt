@@ -27,8 +27,8 @@ pub record Concluded : Type 0 where
   pub palette : Palette
   pub canvas : List ℕ
 
--- rules 1.8, 5.7: a report: its palette is the owner's now, and the canvas shows the picture; a refusal: the owner's palette and the canvas are as
--- they were
+-- rules 1.8, 5.7: a report: its palette is the owner's now, and the canvas shows the picture; a refusal: the owner's palette and
+-- the canvas are as they were
 unfoldable pub concluded : List ℕ → Palette → List ℕ → Finished → Concluded
 concluded picture owner canvas (finished r) = record { answer = finished r; palette = r .palette; canvas = picture }
 concluded picture owner canvas (turnedDown n) = record { answer = turnedDown n; palette = owner; canvas = canvas }
@@ -39,8 +39,8 @@ aborted owner = owner
 
 -- ---- what a stream means
 
--- the refusal that reading it comes to; else the end, if it has come, and the bytes consumed; the ink of all that it draws, before a refusal
--- too; the canvas once it is read; the canvas with the pending command carried out too; and what finishing it answers
+-- the refusal that reading it comes to; else the end, if it has come, and the bytes consumed; the ink of all that it draws, before
+-- a refusal too; the canvas once it is read; the canvas with the pending command carried out too; and what finishing it answers
 pub record Whole (E : Type 0) : Type 0 where
   pub refusal : Option ℕ
   pub end : Option E
@@ -109,22 +109,23 @@ module _ {H E : Type 0} (feed : Feed H (Answer E)) (h : H) (ts : List Turn) wher
   abbrev pub Through : Type 0
   Through = AllRead × (isRefused (now .how) ≡ false)
 
--- Rule 6.7. However the stream is split. A refusal is given exactly when reading the whole comes to it; else the status told last, the bytes consumed
--- in all and the finish are the whole's. So is the canvas; after a stop it shows what the bytes consumed draw, the command before the unread sixel
--- with them.
+-- Rule 6.7. However the stream is split. A refusal is given exactly when reading the whole comes to it; else the status told last,
+-- the bytes consumed in all and the finish are the whole's. So is the canvas; after a stop it shows what the bytes consumed draw,
+-- the command before the unread sixel with them.
 pub record DemandTwo {H E : Type 0} (feed : Feed H (Answer E)) (canvas : H → List ℕ) (finish : H → Palette → Concluded)
     (meant : List ℕ → Whole E) (h : H) (ts : List Turn) : Type 0 where
   pub refusal : AllRead feed h ts → (n : ℕ) → (now feed h ts .how ≡ refusedBy n) ↔ (meant (stream ts) .refusal ≡ some n)
   pub status : Through feed h ts → lastStatus feed needsMore (ready h) ts ≡ atEnd (meant (stream ts) .end)
   pub consumed : Through feed h ts → now feed h ts .consumed ≡ meant (stream ts) .consumed
   pub canvas-read : AllRead feed h ts → canvas (now feed h ts .state) ≡ meant (stream ts) .shown
-  pub canvas-stopped : now feed h ts .how ≡ stopped → canvas (now feed h ts .state) ≡ meant (take (now feed h ts .consumed) (stream ts)) .settled
+  pub canvas-stopped : now feed h ts .how ≡ stopped
+      → canvas (now feed h ts .state) ≡ meant (take (now feed h ts .consumed) (stream ts)) .settled
   pub finishes : Through feed h ts → (owner : Palette)
       → finish (now feed h ts .state) owner
       ≡ concluded (meant (stream ts) .settled) owner (canvas (now feed h ts .state)) (meant (stream ts) .finish)
 
--- Rule 6.8. The calls are at most the pieces and I / (A - 6W + 1), rounded down, where A is the smallest allowance and I the ink that the definition
--- draws; and with no refusal the ink told adds up to I.
+-- Rule 6.8. The calls are at most the pieces and I / (A - 6W + 1), rounded down, where A is the smallest allowance and I the ink
+-- that the definition draws; and with no refusal the ink told adds up to I.
 pub record DemandThree {H E : Type 0} (feed : Feed H (Answer E)) (meant : List ℕ → Whole E) (W A : ℕ) (h : H) (ts : List Turn) : Type 0 where
   pub calls : length ts ≤ pieces ts + meant (stream ts) .ink / (A - 6 * W + 1)
   pub ink : Through feed h ts → now feed h ts .ink ≡ meant (stream ts) .ink
@@ -178,7 +179,8 @@ module _ {H E : Type 0} (feed : Feed H (Answer E)) (lend : H → List ℕ → H)
   pub record FinishRefusals (finish : H → Palette → Concluded) (owner : Palette) : Type 0 where
     pub nine : (finish held owner .answer ≡ turnedDown 9) ↔ (haveFailed (fedAll feed h cs .answers) ≡ true)
     pub twelve : (finish held owner .answer ≡ turnedDown 12) ↔ (Live × ¬ Fits)
-    pub keeps : (n : ℕ) → finish held owner .answer ≡ turnedDown n → (finish held owner .palette ≡ owner) × (finish held owner .canvas ≡ lent)
+    pub keeps : (n : ℕ) → finish held owner .answer ≡ turnedDown n
+        → (finish held owner .palette ≡ owner) × (finish held owner .canvas ≡ lent)
 
   -- And of a DCS session then 8: no answer has told an end.
   abbrev pub FinishedEarly : (H → Palette → Concluded) → Palette → Type 0

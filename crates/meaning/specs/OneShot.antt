@@ -16,8 +16,8 @@ afterIntroducer [] = none
 afterIntroducer (b ∷ bs) =
     cond (eqb b 0x90) (some bs) (cond (eqb b escape && eqb (getD bs 0 0) 0x50) (some (drop 1 bs)) (afterIntroducer bs))
 
--- what an input has: parameters and the part that is its payload; or bytes are missing, as a whole introducer or `q`; or its introducer or header
--- is refused with a number
+-- what an input has: parameters and the part that is its payload; or bytes are missing, as a whole introducer or `q`; or its
+-- introducer or header is refused with a number
 pub data Found : Type 0 where
   found : Parameters → List ℕ → Found
   lacking : Found

@@ -17,12 +17,13 @@ pub record Parameters : Type 0 where
 abbrev pub noParameters : Parameters
 noParameters = record { p1 = none; p2 = none }
 
--- Rule 3.11. The drawing of a payload from its first byte to its end, or to its first refusal. This is the payload as a whole; Sessions says it byte
--- by byte (`payloadStep`), and the two are one: the law `reading-is-payload` of proofs/PayloadLaws.
+-- Rule 3.11. The drawing of a payload from its first byte to its end, or to its first refusal. This is the payload as a whole;
+-- Sessions says it byte by byte (`payloadStep`), and the two are one: the law `reading-is-payload` of proofs/PayloadLaws.
 unfoldable pub payload : Setting → Parameters → Palette → List ℕ → Outcome
 payload s o p bs = drawAll s (commands bs) (blank p (o .p2))
 
--- rule 6.5: what has been drawn once its bytes are read: a pending command is not yet carried out; with the refusal, if reading them comes to one
+-- rule 6.5: what has been drawn once its bytes are read: a pending command is not yet carried out; with the refusal, if reading
+-- them comes to one
 unfoldable pub drawnSoFar : Setting → Parameters → Palette → List ℕ → Outcome
 drawnSoFar s o p bs = drawAll s (endedCommands bs) (blank p (o .p2))
 

@@ -79,8 +79,8 @@ module _ {S : Type 0} (step : S → ℕ → Step S) where
 
   -- `rest` says what a stop leaves: what is pending has taken effect
   module _ (rest : S → S) where
-    -- Rule 6.3. A call with an allowance. It stops exactly when the next byte is one that is read, so not refused, and its ink exceeds what is left.
-    -- That byte stays unread.
+    -- Rule 6.3. A call with an allowance. It stops exactly when the next byte is one that is read, so not refused, and its ink
+    -- exceeds what is left. That byte stays unread.
     unfoldable pub call : ℕ → S → List ℕ → Run S
     unfolding still after follow
     call left s [] = still s readAll

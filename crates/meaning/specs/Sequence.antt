@@ -39,7 +39,8 @@ closedAfterEscape [] = record { end = none; consumed = 1 }
 closedAfterEscape (b ∷ bs) =
     cond (eqb b 0x5C) (record { end = some complete; consumed = 2 }) (record { end = some (interrupted escape); consumed = 1 })
 
--- rules 7.3, 7.4, 7.5: from the byte on that ends the payload: 9C is complete, 18 or 1A is cancelled, another C1 byte means interrupted and stays unread
+-- rules 7.3, 7.4, 7.5: from the byte on that ends the payload: 9C is complete, 18 or 1A is cancelled, another C1 byte means
+-- interrupted and stays unread
 unfoldable pub closing : List ℕ → Closing
 unfolding closedAfterEscape
 closing [] = record { end = none; consumed = 0 }

@@ -142,8 +142,8 @@ headerStep p bs b =
       | wrong n ↦ refuse (header bs) n
     ]
 
--- rules 7.3, 7.4, 7.5: the byte that ends a payload: 1B is consumed and waits for the next, 9C and 18 and 1A are consumed, another C1 byte stays
--- unread
+-- rules 7.3, 7.4, 7.5: the byte that ends a payload: 1B is consumed and waits for the next, 9C and 18 and 1A are consumed, another
+-- C1 byte stays unread
 unfoldable pub endStep : Reading → ℕ → Step Phase
 endStep r b =
     cond (eqb b escape) (next (afterEscape r) 0)
@@ -164,8 +164,8 @@ withinStep s r b =
 unfoldable pub escapeStep : Reading → ℕ → Step Phase
 escapeStep r b = cond (eqb b 0x5C) (next (over complete r) 0) (halt (over (interrupted escape) r))
 
--- Rule 7.6. One byte of a DCS sequence; the palette is the one that the session was opened with. Sequence says it of the whole, and the two are one:
--- proofs/SequenceLaws, and of its finish `sequence-finish` of proofs/DcsLaws.
+-- Rule 7.6. One byte of a DCS sequence; the palette is the one that the session was opened with. Sequence says it of the whole, and
+-- the two are one: proofs/SequenceLaws, and of its finish `sequence-finish` of proofs/DcsLaws.
 unfoldable pub dcsStep : Setting → Palette → Phase → ℕ → Step Phase
 unfolding startStep introducedStep headerStep withinStep escapeStep
 dcsStep s p start b = startStep b

@@ -1,5 +1,5 @@
--- The sizes that a picture can have. Each growth of the visible area has passed 5, 6 and 7 before it takes place, so that no finish has a size
--- to judge: what these definitions say of every size is proved (proofs/SizeHistories).
+-- The sizes that a picture can have. Each growth of the visible area has passed 5, 6 and 7 before it takes place, so that no finish
+-- has a size to judge: what these definitions say of every size is proved (proofs/SizeHistories).
 use Prim.Native.Nat.{ℕ, _≤_}
 use mathlib.Core.Option.{Option, none, some}
 use mathlib.Core.List.{List}
@@ -39,8 +39,8 @@ abbrev pub ReportFits : Setting → Finished → Type 0
 ReportFits s (finished r) = Fits s (r .size)
 ReportFits s (turnedDown n) = Unit {0}
 
--- Of any reader, as its caller meets it (Demands): so is what a finish reports after any calls, with any bytes and allowances, on any canvas
--- that is then lent to it.
+-- Of any reader, as its caller meets it (Demands): so is what a finish reports after any calls, with any bytes and allowances, on
+-- any canvas that is then lent to it.
 abbrev pub SizesFit : {H E : Type 0} → Feed H (Answer E) → (H → List ℕ → H) → (H → Palette → Concluded) → Setting → H → List Ask → Type 0
 SizesFit feed lend finish s h cs =
     (lent : List ℕ) (owner : Palette) → ReportFits s (finish (lend (fedAll feed h cs .state) lent) owner .answer)

@@ -24,8 +24,13 @@ digit-no-semicolon b h = let k : b ≤ 0x39 = digit-top b h in ne-eqb b semicolo
 pub unskipped : (b : ℕ) → 0x20 ≤ b → b < 0x7F → skipped b ≡ false
 unfolding skipped
 unskipped b g h =
-    rw
-    (lt-leb b 0x17 (omega arith), ne-eqb b 0x19 (λ e. omega arith), le-leb 0x1C b (omega arith), lt-leb b 0x1F (omega arith), ne-eqb b 0x7F (λ e. omega arith))
+    rw (
+      lt-leb b 0x17 (omega arith),
+      ne-eqb b 0x19 (λ e. omega arith),
+      le-leb 0x1C b (omega arith),
+      lt-leb b 0x1F (omega arith),
+      ne-eqb b 0x7F (λ e. omega arith),
+    )
 
 pub skipped-silent : (b : ℕ) → skipped b ≡ true → Silent b
 skipped-silent b h = record { no-digit = go (digit b) refl; no-semicolon = at (eqb b semicolon) refl }

@@ -45,7 +45,8 @@ unfolding withDigit
 digit-other p b e f = sym (cond-no _ _ (sym e ∙ f))
 
 pub digit-more : {t : Bool} (p : Parameters) (b d n : ℕ) → t ≡ digit b → t ≡ true → d ≡ b - 0x30 → n ≡ held (p .current * 10 + d)
-    → _≡_ {A = Parameters} (record { values = p .values; count = p .count; current = n; pending = true; places = p .places }) (withDigit p b)
+    → _≡_ {A = Parameters} (record { values = p .values; count = p .count; current = n; pending = true; places = p .places })
+    (withDigit p b)
 unfolding withDigit
 digit-more p b d n e f g h =
     ap (λ (m : ℕ). record { values = p .values; count = p .count; current = m; pending = true; places = p .places }) h
@@ -116,5 +117,21 @@ pub value-there : (p : Parameters) (i r : ℕ) → i < p .count → r ≡ held (
 unfolding valueAt
 value-there p i r h e = e ∙ ap held (sym (getD-take (p .count) (p .values) i 0 h))
 
-pub ruleset steps =
-    (digit-other, digit-more, repeat-other, repeat-more, repeat-full, push-semicolon, push-other, store-full, store-five, store-room, finish-pending, finish-empty, value-past, value-five, value-there)
+-- one law for each path of the functions that read numbers
+pub ruleset steps = (
+  digit-other,
+  digit-more,
+  repeat-other,
+  repeat-more,
+  repeat-full,
+  push-semicolon,
+  push-other,
+  store-full,
+  store-five,
+  store-room,
+  finish-pending,
+  finish-empty,
+  value-past,
+  value-five,
+  value-there,
+)

@@ -1,18 +1,17 @@
--- A record of values in nine numbers: read back it is the same, for a record whose fields are in their ranges; and reading keeps them there.
-use Prim.Native.Nat.{ℕ, zero, suc, _-_, _<_}
+-- A record of values in nine numbers: read back it is the same, for a record whose fields are in their ranges; and reading keeps them
+-- there.
+use Prim.Native.Nat.{ℕ, zero, suc, _<_}
 use native.Mathlib.Nat.{mod-eq-of-lt}
 use native.Mathlib.Omega.{arith}
 use mathlib.Core.Bool.{Bool, true, false, cond}
 use mathlib.Core.List.{List, [], _∷_}
-use mathlib.Core.Path.{_≡_, refl, sym, ap, ap₂, subst, _∙_}
-use borrow.Author.Tests.{eqb-true}
-use lib.Dec.{eqb, ltb}
+use mathlib.Core.Path.{_≡_, refl, _∙_}
+use lib.Dec.{eqb}
 use lib.ListN.{getD, set, length, length-set}
-use lib.Seq.{getD-set-same, getD-set-other}
 use mir.Val.{boolByte}
 use Rattle.numbers.specs.Bytes.{digit}
 use Rattle.numbers.specs.Values.{held}
-use Rattle.numbers.specs.Step.{opened, room, filled, emptied, stored, marked, lengthened, withDigit, withSemicolon, finished}
+use Rattle.numbers.specs.Step.{opened, room, stored, marked, withDigit, withSemicolon}
 use Rattle.numbers.specs.Memory.{numbersOf, parametersFrom, Ranged}
 use Rattle.numbers.specs.declared.Parameters.{Parameters}
 
@@ -26,8 +25,10 @@ flag-number : (t : Bool) → boolByte t ≡ cond t 1 0
 flag-number true = refl
 flag-number false = refl
 
+-- the nine numbers as the code lists them
 pub numbers-told : (p : Parameters)
-    → getD (p .values) 0 0 ∷ getD (p .values) 1 0 ∷ getD (p .values) 2 0 ∷ getD (p .values) 3 0 ∷ getD (p .values) 4 0 ∷ p .count ∷ p .current ∷ boolByte (p .pending) ∷ p .places ∷ []
+    → getD (p .values) 0 0 ∷ getD (p .values) 1 0 ∷ getD (p .values) 2 0 ∷ getD (p .values) 3 0 ∷ getD (p .values) 4 0
+    ∷ p .count ∷ p .current ∷ boolByte (p .pending) ∷ p .places ∷ []
     ≡ numbersOf p
 unfolding numbersOf
 numbers-told p = rw (flag-number (p .pending)) refl
@@ -76,7 +77,8 @@ low-more a l h k (suc i) = k i
 low-zeros : Low (0 ∷ 0 ∷ 0 ∷ 0 ∷ 0 ∷ [])
 low-zeros =
     let z : 0 < 4294967296 = omega arith in
-    low-more 0 (0 ∷ 0 ∷ 0 ∷ 0 ∷ []) z (low-more 0 (0 ∷ 0 ∷ 0 ∷ []) z (low-more 0 (0 ∷ 0 ∷ []) z (low-more 0 (0 ∷ []) z (low-more 0 [] z low-none))))
+    low-more 0 (0 ∷ 0 ∷ 0 ∷ 0 ∷ []) z
+    (low-more 0 (0 ∷ 0 ∷ 0 ∷ []) z (low-more 0 (0 ∷ 0 ∷ []) z (low-more 0 (0 ∷ []) z (low-more 0 [] z low-none))))
 
 low-set : (l : List ℕ) (n a : ℕ) → a < 4294967296 → Low l → Low (set l n a)
 low-set [] n a h k = low-none
@@ -100,7 +102,12 @@ pub stored-ranged : (p : Parameters) → Ranged p → Ranged (stored p)
 unfolding stored
 stored-ranged p h =
     cond-case Ranged (room p)
-    (λ _. record { five = length-set (p .values) (p .count) (p .current) ∙ h .five; values = low-set (p .values) (p .count) (p .current) (h .current) (h .values); current = omega arith })
+    (λ _.
+    record {
+      five = length-set (p .values) (p .count) (p .current) ∙ h .five;
+      values = low-set (p .values) (p .count) (p .current) (h .current) (h .values);
+      current = omega arith;
+    })
     (λ _. record { five = h .five; values = h .values; current = omega arith })
 
 pub semicolon-ranged : (p : Parameters) → Ranged p → Ranged (withSemicolon p)

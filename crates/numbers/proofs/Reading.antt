@@ -76,7 +76,8 @@ unfolding opened
 opened-sound places h = record { five = refl; within = h; below = omega arith }
 
 -- where a place is left, and where none is
-store-cases {ℓ} : (P : Parameters → Type ℓ) (p : Parameters) → Sound p → (p .count < p .places → P (filled p)) → (p .count ≡ p .places → P (emptied p))
+store-cases {ℓ} : (P : Parameters → Type ℓ) (p : Parameters) → Sound p → (p .count < p .places → P (filled p))
+    → (p .count ≡ p .places → P (emptied p))
     → P (stored p)
 store-cases P p s f g =
     elim (decLe (p .places) (p .count)) [
@@ -170,7 +171,8 @@ pushed-digit : (p : Parameters) (b : ℕ) → digit b ≡ true → pushed p b �
 unfolding withDigit
 pushed-digit p b h = pushed-other p b (digit-no-semicolon b h) ∙ cond-yes _ _ h
 
-holds-digit : (p : Parameters) (n b : ℕ) (bs : List ℕ) → digit b ≡ true → Holds bs (lengthened p (b - 0x30)) (extended n b) → Holds (b ∷ bs) p n
+holds-digit : (p : Parameters) (n b : ℕ) (bs : List ℕ) → digit b ≡ true → Holds bs (lengthened p (b - 0x30)) (extended n b)
+    → Holds (b ∷ bs) p n
 unfolding kept
 holds-digit p n b bs h next =
     holds-written p n b bs (written-digit b bs h)
@@ -195,7 +197,9 @@ feeding [] p n s e = holds-end p n s e
 feeding (b ∷ bs) p n s e =
     byte-cases b
     (λ h. holds-semicolon p n b bs s e h (feeding bs (withSemicolon p) 0 (semicolon-sound p s) (semicolon-current p s)))
-    (λ h. holds-digit p n b bs h (feeding bs (lengthened p (b - 0x30)) (extended n b) (record { five = s .five; within = s .within; below = s .below }) (held-digit (p .current) n b e h)))
+    (λ h.
+    let longer : Sound (lengthened p (b - 0x30)) = record { five = s .five; within = s .within; below = s .below } in
+    holds-digit p n b bs h (feeding bs (lengthened p (b - 0x30)) (extended n b) longer (held-digit (p .current) n b e h)))
     (λ h. holds-silent p n b bs h (feeding bs p n s e))
 
 -- ---- a record that was fed is not damaged
@@ -234,8 +238,10 @@ pub read-count : {places : ℕ} {bs : List ℕ} {p : Parameters} → places ≤ 
     → finished p .count ≡ length (values places bs)
 unfolding kept
 read-count {places} {bs} {p} h r =
-    let s : Sound (finished p) = subst (λ (q : Parameters). Sound (finished q)) (sym (r .same)) (finished-sound (fed (opened places) bs) (fed-sound bs (opened places) (opened-sound places h))) in
-    sym (length-take-le (finished p .count) (finished p .values) (omega (arith, s .below, s .within, s .five))) ∙ ap length (read-values h r)
+    let whole = finished-sound (fed (opened places) bs) (fed-sound bs (opened places) (opened-sound places h)) in
+    let s : Sound (finished p) = subst (λ (q : Parameters). Sound (finished q)) (sym (r .same)) whole in
+    sym (length-take-le (finished p .count) (finished p .values) (omega (arith, s .below, s .within, s .five)))
+    ∙ ap length (read-values h r)
 
 -- and each is read at its place
 pub read-value : {places : ℕ} {bs : List ℕ} {p : Parameters} (i : ℕ) → places ≤ 5 → Read places bs p

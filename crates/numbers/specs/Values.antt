@@ -57,8 +57,8 @@ unfoldable pub written : List ℕ → Bool
 written [] = false
 written (b ∷ bs) = digit b || (eqb b semicolon || written bs)
 
--- rules 2.9, 2.10: the values of an argument with so many places: none where nothing is written, else the numbers of its fields, and those past the
--- last place are dropped
+-- rules 2.9, 2.10: the values of an argument with so many places: none where nothing is written, else the numbers of its
+-- fields, and those past the last place are dropped
 unfoldable pub values : ℕ → List ℕ → List ℕ
 unfolding number fields written
 values places bs = cond (written bs) (take places (map number (fields bs))) []

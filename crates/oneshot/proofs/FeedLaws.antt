@@ -53,7 +53,8 @@ pub piece-end : {at size end : ℕ} (chunk : ℕ) → at ≤ size → end ≡ pi
 unfolding pieceEnd
 piece-end {at} {size} chunk h e = subst (λ (n : ℕ). Piece at n size) (sym e) (go (eqb chunk 0) refl (leb (size - at) chunk) refl)
   where
-    go : (none : Bool) → eqb chunk 0 ≡ none → (last : Bool) → leb (size - at) chunk ≡ last → Piece at (cond none size (cond last size (at + chunk))) size
+    go : (none : Bool) → eqb chunk 0 ≡ none → (last : Bool) → leb (size - at) chunk ≡ last
+        → Piece at (cond none size (cond last size (at + chunk))) size
     go true z last y = record { from = h; to = omega arith; filled = λ n. n }
     go false z true y = record { from = h; to = omega arith; filled = λ n. n }
     go false z false y =
@@ -81,14 +82,16 @@ pub record Left (opening part : List ℕ) (t : Setting) (first : Reading) (l : L
 pub record Midway (a : ℕ) (s₀ : Session) (l₀ part l : List ℕ) (s : Session) (at : ℕ) : Type 0 where
   pub within : at ≤ length part
   pub kept : length l ≡ length l₀
-  pub left : {opening : List ℕ} {t : Setting} {first : Reading} → Lives opening t first s₀ l₀ → 6 * t .limits .width ≤ a → Left opening part t first l s at
+  pub left : {opening : List ℕ} {t : Setting} {first : Reading}
+      → Lives opening t first s₀ l₀ → 6 * t .limits .width ≤ a → Left opening part t first l s at
 
 pub midway-start : (a : ℕ) (s : Session) (l part : List ℕ) → Midway a s l part l s 0
 midway-start a s l part =
     record {
       within = omega arith;
       kept = refl;
-      left = λ {opening} {t} {first} h enough. record { state = first; lives = h; consumed = 0; ink = 0; reads = sym (after-zero _) };
+      left = λ {opening} {t} {first} h enough.
+          record { state = first; lives = h; consumed = 0; ink = 0; reads = sym (after-zero _) };
     }
 
 -- a session and its canvas stand for what a reading that was not refused came to
@@ -97,17 +100,22 @@ pub record Came (opening : List ℕ) (t : Setting) (q : Run Reading) (s : Sessio
   pub stands : Stands opening s l (sessionIn opening t (q .state) false)
 
 -- where nothing is left, the session has come to what reading the part comes to
-pub came-all : {opening part : List ℕ} {t : Setting} {first : Reading} {l : List ℕ} {s : Session} {at : ℕ} → Left opening part t first l s at → at ≡ length part
+pub came-all : {opening part : List ℕ} {t : Setting} {first : Reading} {l : List ℕ} {s : Session} {at : ℕ}
+    → Left opening part t first l s at → at ≡ length part
     → Came opening t (readFrom (payloadStep t) first part) s l
 unfolding readFrom still after isRefused
 came-all {opening} {part} {t} {first} {l} {s} {at} k e =
     let all : drop at part ≡ [] = ap (λ (n : ℕ). drop n part) e ∙ drop-length part in
-    let whole : readFrom (payloadStep t) first part ≡ after (k .consumed) (k .ink) (still (k .state) readAll) = k .reads ∙ ap (λ (us : List ℕ). after (k .consumed) (k .ink) (readFrom (payloadStep t) (k .state) us)) all in
-    subst (λ (q : Run Reading). Came opening t q s l) (sym whole) (record { fine = refl; stands = k .lives .stands })
+    let from-here : List ℕ → Run Reading = λ us. after (k .consumed) (k .ink) (readFrom (payloadStep t) (k .state) us) in
+    subst (λ (q : Run Reading). Came opening t q s l) (sym (k .reads ∙ ap from-here all))
+    (record { fine = refl; stands = k .lives .stands })
 
 -- ---- one feed
 
-module _ {opening part : List ℕ} {t : Setting} {first : Reading} {l : List ℕ} {s : Session} {at : ℕ} (k : Left opening part t first l s at) {a : ℕ} (enough : 6 * t .limits .width ≤ a) {end : ℕ} (g : Piece at end (length part)) {x : Fed} {l₁ : List ℕ} (e : (x, l₁) ≡ fedBy s l (take (end - at) (drop at part)) a) where
+module _ {opening part : List ℕ} {t : Setting} {first : Reading} {l : List ℕ} {s : Session} {at : ℕ}
+    (k : Left opening part t first l s at) {a : ℕ} (enough : 6 * t .limits .width ≤ a)
+    {end : ℕ} (g : Piece at end (length part))
+    {x : Fed} {l₁ : List ℕ} (e : (x, l₁) ≡ fedBy s l (take (end - at) (drop at part)) a) where
   -- the piece and what comes after it
   abbrev piece : List ℕ
   piece = take (end - at) (drop at part)
@@ -133,7 +141,8 @@ module _ {opening part : List ℕ} {t : Setting} {first : Reading} {l : List ℕ
 
   -- what a call that was not refused left is read next
   reads-on : isRefused (run .how) ≡ false
-      → readFrom (payloadStep t) (k .state) (drop at part) ≡ after (run .consumed) (run .ink) (readFrom (payloadStep t) (run .state) (drop (at + run .consumed) part))
+      → readFrom (payloadStep t) (k .state) (drop at part)
+      ≡ after (run .consumed) (run .ink) (readFrom (payloadStep t) (run .state) (drop (at + run .consumed) part))
   unfolding onward
   reads-on fine =
       ap (readFrom (payloadStep t) (k .state)) (sym split)
@@ -146,7 +155,8 @@ module _ {opening part : List ℕ} {t : Setting} {first : Reading} {l : List ℕ
   pub ran-stands : {f : Bool} → isRefused (run .how) ≡ f → Stands opening (x .session) l₁ (sessionIn opening t (run .state) f)
   ran-stands h = subst (λ (f : Bool). Stands opening (x .session) l₁ (sessionIn opening t (run .state) f)) h (feeds .stands)
 
-  module _ {n : ℕ} (fine : isRefused (run .how) ≡ false) (on : run .how ≡ halted → ⊥) (c : consumedTold (answerMeant (x .answer)) ≡ n) where
+  module _ {n : ℕ} (fine : isRefused (run .how) ≡ false) (on : run .how ≡ halted → ⊥)
+      (c : consumedTold (answerMeant (x .answer)) ≡ n) where
     count : run .consumed ≡ n
     count = sym (feeds .consumed fine) ∙ c
 
@@ -161,7 +171,8 @@ module _ {opening part : List ℕ} {t : Setting} {first : Reading} {l : List ℕ
               k .reads
               ∙ ap (after (k .consumed) (k .ink)) (reads-on fine)
               ∙ sym (after-after (k .consumed) (k .ink) (run .consumed) (run .ink) _)
-              ∙ ap (λ (c : ℕ). after (k .consumed + run .consumed) (k .ink + run .ink) (readFrom (payloadStep t) (run .state) (drop (at + c) part))) count;
+              ∙ ap (λ (c : ℕ). after (k .consumed + run .consumed) (k .ink + run .ink)
+              (readFrom (payloadStep t) (run .state) (drop (at + c) part))) count;
         }
 
     on-within : n ≤ end - at
@@ -182,7 +193,9 @@ module _ {opening part : List ℕ} {t : Setting} {first : Reading} {l : List ℕ
     stop-fine = ap isRefused is-stop
 
     pub stop-more : 0 < n
-    stop-more = subst (λ (c : ℕ). 0 < c) (count stop-fine (stopped-on is-stop) stop-told) (stop-consumes (k .lives) enough piece is-stop)
+    stop-more =
+        subst (λ (c : ℕ). 0 < c) (count stop-fine (stopped-on is-stop) stop-told)
+        (stop-consumes (k .lives) enough piece is-stop)
 
     pub stop-within : n ≤ end - at
     stop-within = on-within stop-fine (stopped-on is-stop) stop-told
@@ -214,7 +227,8 @@ module _ {opening part : List ℕ} {t : Setting} {first : Reading} {l : List ℕ
     read-left = left-on read-fine (read-on is-read) read-told
 
   -- an end or a refusal is that of the whole part
-  pub whole : (run .how ≡ stopped → ⊥) → (run .how ≡ readAll → ⊥) → readFrom (payloadStep t) first part ≡ after (k .consumed) (k .ink) run
+  pub whole : (run .how ≡ stopped → ⊥) → (run .how ≡ readAll → ⊥)
+      → readFrom (payloadStep t) first part ≡ after (k .consumed) (k .ink) run
   whole going ended =
       let plain : readFrom (payloadStep t) (k .state) piece ≡ run = call-plain (payloadStep t) (rested t) a (k .state) piece going in
       k .reads
@@ -223,7 +237,8 @@ module _ {opening part : List ℕ} {t : Setting} {first : Reading} {l : List ℕ
       ∙ ended-prefix (payloadStep t) (k .state) piece later (λ z. ended (sym (ap (λ (q : Run Reading). q .how) plain) ∙ z))
       ∙ plain)
 
-  pub came-end : howTold (answerMeant (x .answer)) ≡ halted → Came opening t (readFrom (payloadStep t) first part) (x .session) l₁
+  pub came-end : howTold (answerMeant (x .answer)) ≡ halted
+      → Came opening t (readFrom (payloadStep t) first part) (x .session) l₁
   unfolding after isRefused
   came-end told =
       let h : run .how ≡ halted = sym (feeds .how) ∙ told in

@@ -21,7 +21,7 @@ use Rattle.meaning.specs.OneShot.{afterIntroducer, findPayload}
 use Rattle.meaning.specs.Payload.{noParameters}
 use Rattle.meaning.proofs.AreaLaws.{cond-case}
 use Rattle.payload.specs.declared.Settings.{Settings}
-use Rattle.payload.specs.Begin.{noSettings}
+use Rattle.payload.specs.Deferred.{noSettings}
 use Rattle.payload.specs.Meant.{givenMeant, parametersMeant}
 use Rattle.header.specs.declared.Lead.{Lead}
 use Rattle.header.specs.declared.Led.{Led}

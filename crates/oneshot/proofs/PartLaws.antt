@@ -12,7 +12,7 @@ use Rattle.frame.specs.declared.Refusal.{Refusal}
 use Rattle.meaning.specs.Calls.{partHandedBack}
 use Rattle.meaning.specs.OneShot.{partOf}
 use Rattle.payload.specs.declared.Settings.{Settings}
-use Rattle.payload.specs.Judge.{openable}
+use Rattle.payload.specs.Refusals.{openable}
 pub use Rattle.payload.proofs.Openings.{opens-meant}
 use Rattle.oneshot.specs.declared.search.Found.{Found}
 use Rattle.oneshot.specs.declared.search.Found.the-variants.{Payload, Refused}
@@ -34,7 +34,8 @@ module _ {t : Bool} (l : Limits) (stride size : ℕ) (bytes : List ℕ) (e : t �
         ∙ ap partOf (found-meant bytes)
         ∙ sym (cond-yes _ _ (sym (opens-meant l stride size) ∙ sym e ∙ h))
 
-    pub part-found : {from : ℕ} {o : Settings} → f ≡ Payload from o → take (length bytes - from) (drop from bytes) ≡ partHandedBack (limitsMeant l) stride size bytes
+    pub part-found : {from : ℕ} {o : Settings} → f ≡ Payload from o
+        → take (length bytes - from) (drop from bytes) ≡ partHandedBack (limitsMeant l) stride size bytes
     unfolding partOf foundMeant
     part-found {from} m =
         take-all (length bytes - from) (drop from bytes) (rw (length-drop from bytes) (omega arith))

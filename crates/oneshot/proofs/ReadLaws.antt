@@ -32,7 +32,7 @@ use Rattle.payload.specs.declared.Session.{Session}
 use Rattle.payload.specs.declared.Settings.{Settings}
 use Rattle.payload.specs.History.{Stands, Finishes, pictures, declines}
 use Rattle.payload.specs.Meant.{parametersMeant, limitsMeant, settingMeant, answerMeant, reportMeant, finishMeant}
-use Rattle.payload.specs.Judge.{openable}
+use Rattle.payload.specs.Refusals.{openable}
 use Rattle.payload.specs.Session.{backgroundFor, sessionFor, openedBy, fedBy, finishedBy}
 use Rattle.payload.proofs.Answer as AnswerType
 use Rattle.payload.proofs.Finishings.{finish-stands}
@@ -64,7 +64,8 @@ ended-told (answers.Refused n) h = absurd (miss (2 ∷ []) 3 tt h)
 -- ---- a finish
 
 -- a refused pending command leaves the drawing
-refused-keeps : (s : Setting) (d : Drawing) (x : Drawn) {n : ℕ} → andThen d x (drawAll s []) .refusal ≡ some n → andThen d x (drawAll s []) .drawing ≡ d
+refused-keeps : (s : Setting) (d : Drawing) (x : Drawn) {n : ℕ}
+    → andThen d x (drawAll s []) .refusal ≡ some n → andThen d x (drawAll s []) .drawing ≡ d
 unfolding andThen drawAll
 refused-keeps s d (drawn e) h = cc
 refused-keeps s d (refused m) h = refl
@@ -73,7 +74,8 @@ settled-keeps : (s : Setting) (r : Reading) {n : ℕ} → settled s r .refusal �
 unfolding settled closed drawAll
 settled-keeps s r = go (r .begun)
   where
-    go : (c : Option Begun) {n : ℕ} → drawAll s (closed c) (r .drawing) .refusal ≡ some n → drawAll s (closed c) (r .drawing) .drawing ≡ r .drawing
+    go : (c : Option Begun) {n : ℕ}
+        → drawAll s (closed c) (r .drawing) .refusal ≡ some n → drawAll s (closed c) (r .drawing) .drawing ≡ r .drawing
     go none h = refl
     go (some c) h = refused-keeps s (r .drawing) (drawCommand s (argued (c .kind) (c .argument)) (r .drawing)) h
 
@@ -84,12 +86,15 @@ declined-keeps s r {n} h = go (settled s r .refusal) refl
   where
     go : (o : Option ℕ) → settled s r .refusal ≡ o → settled s r .drawing ≡ r .drawing
     go none e =
-        let reports : meant.finish (r .parameters) (settled s r) ≡ meant.finished (meant.reportOf (r .parameters) (settled s r .drawing)) = outcome-reports (r .parameters) (settled s r) e in
+        let out = settled s r in
+        let report = meant.reportOf (r .parameters) (out .drawing) in
+        let reports : meant.finish (r .parameters) out ≡ meant.finished report = outcome-reports (r .parameters) out e in
         cc
     go (some m) e = settled-keeps s r e
 
 -- the code's finish and the definition's, whose drawing the canvas shows, whether it reports or not
-finishes-read : {shows l : List ℕ} {owner : Palette} {y : Finished × List ℕ} {z : meant.Finished} (s : Setting) (o : meant.Parameters) (opening : List ℕ) (out : Outcome)
+finishes-read : {shows l : List ℕ} {owner : Palette} {y : Finished × List ℕ} {z : meant.Finished}
+    (s : Setting) (o : meant.Parameters) (opening : List ℕ) (out : Outcome)
     → Finishes shows owner l y z → z ≡ meant.finish o out → shows ≡ calls.shown (s .stride) (some (out .drawing)) opening
     → ((n : ℕ) → z ≡ meant.turnedDown n → l ≡ calls.shown (s .stride) (some (out .drawing)) opening)
     → readMeant (y .0) (y .1) ≡ readOutcome s o owner opening out
@@ -97,11 +102,13 @@ unfolding readMeant finishMeant readOutcome paletteAfter reportMeant
 finishes-read {owner = owner} s o opening out (pictures {r} {p}) e shows keeps =
     ap₂ (λ (a : meant.Finished) (c : List ℕ). record { answer = a; palette = paletteAfter a owner; canvas = c }) e shows
 finishes-read {owner = owner} s o opening out (declines n) e shows keeps =
-    ap₂ (λ (a : meant.Finished) (c : List ℕ). record { answer = a; palette = paletteAfter a owner; canvas = c }) e (keeps (numberOf n) refl)
+    ap₂ (λ (a : meant.Finished) (c : List ℕ). record { answer = a; palette = paletteAfter a owner; canvas = c })
+    e (keeps (numberOf n) refl)
 
 -- ---- the finish of a session that has come to what its part comes to
 
-module _ (s : Setting) (o : meant.Parameters) (p : Palette) (opening part : List ℕ) {z : Session} {l : List ℕ} (c : Came opening s (readPayload s o p part) z l) where
+module _ (s : Setting) (o : meant.Parameters) (p : Palette) (opening part : List ℕ) {z : Session} {l : List ℕ}
+    (c : Came opening s (readPayload s o p part) z l) where
   -- the definition's session
   abbrev last : calls.Session Reading
   last = sessionIn opening s (readPayload s o p part .state) false
@@ -131,86 +138,148 @@ module _ (s : Setting) (o : meant.Parameters) (p : Palette) (opening part : List
   unfolding readPart painted-part
   finished-part k =
       ap (λ (y : Finished × List ℕ). readMeant (y .0) (y .1)) k
-      ∙ finishes-read s o opening _ (finish-stands (c .stands) p) (finishing ∙ reading-finish s o p part (c .fine)) pictured declined
+      ∙ finishes-read s o opening _ (finish-stands (c .stands) p)
+      (finishing ∙ reading-finish s o p part (c .fine)) pictured declined
 
 -- ---- a part
 
-module _ (l : Limits) (stride : ℕ) (o : Settings) (p : Palette) (opening : List ℕ) (pre : openable l stride (length opening) ≡ true) {y : Opened} {l₀ : List ℕ} (e : (y, l₀) ≡ openedBy l stride o p opening) where
+module _ (l : Limits) (stride : ℕ) (o : Settings) (p : Palette) (opening : List ℕ)
+    (pre : openable l stride (length opening) ≡ true) {y : Opened} {l₀ : List ℕ} (e : (y, l₀) ≡ openedBy l stride o p opening) where
+  -- the reading that the definition opens
+  abbrev first : Reading
+  first = opened (parametersMeant o) p
+
+  ready : _≡_ {A = Opened × List ℕ} (y, l₀) (
+    record { answer = openings.Ready; session = sessionFor l stride (length opening) o p life.Live },
+    painted (span 0 1) (backgroundFor p (o .p2)) opening,
+  )
+  unfolding openedBy
+  ready = e ∙ cond-yes _ _ pre
+
+  abbrev StandsOpened : Opened × List ℕ → Type 0
+  StandsOpened z = Stands opening (z .0 .session) (z .1) (sessionIn opening (settingMeant l stride (length opening)) first false)
+
+  first-lives : Lives opening (settingMeant l stride (length opening)) first (y .session) l₀
+  unfolding opened
+  first-lives =
+      record {
+        stands = subst StandsOpened (sym ready) (ready-stands l stride o p opening pre);
+        going = λ z. let never : _≡_ {A = ℕ} 0 1 = cc in omega arith;
+      }
+
+-- one turn of the loop: a session `y` was opened and fed `at` bytes of the part, which left `s` and the canvas `lc`;
+-- now it is fed one piece more, which answers `x` and leaves the canvas `l₁`
+pub record Turn (l : Limits) (stride : ℕ) (o : Settings) (p : Palette) (opening part : List ℕ) (a : ℕ)
+    (y : Opened) (l₀ : List ℕ) (s : Session) (lc : List ℕ) (at : ℕ) (x : Fed) (l₁ : List ℕ) : Type 0 where
+  pub opens : openable l stride (length opening) ≡ true
+  pub opened : (y, l₀) ≡ openedBy l stride o p opening
+  pub enough : 6 * l .width ≤ a
+  pub midway : Midway a (y .session) l₀ part lc s at
+  pub chunk : ℕ
+  pub end : ℕ
+  pub ends : end ≡ pieceEnd at (length part) chunk
+  pub fed : (x, l₁) ≡ fedBy s lc (take (end - at) (drop at part)) a
+
+module _ {l : Limits} {stride : ℕ} {o : Settings} {p : Palette} {opening part : List ℕ} {a : ℕ}
+    {y : Opened} {l₀ : List ℕ} {s : Session} {lc : List ℕ} {at : ℕ} {x : Fed} {l₁ : List ℕ}
+    (u : Turn l stride o p opening part a y l₀ s lc at x l₁) where
   abbrev setting : Setting
   setting = settingMeant l stride (length opening)
 
   abbrev given : meant.Parameters
   given = parametersMeant o
 
-  ready : _≡_ {A = Opened × List ℕ} (y, l₀)
-      (record { answer = openings.Ready; session = sessionFor l stride (length opening) o p life.Live }, painted (span 0 1) (backgroundFor p (o .p2)) opening)
-  unfolding openedBy
-  ready = e ∙ cond-yes _ _ pre
+  wide : 6 * setting .limits .width ≤ a
+  unfolding settingMeant limitsMeant calls.settingFor
+  wide = u .enough
 
-  -- the session that the definition opens
-  first-lives : Lives opening setting (opened given p) (y .session) l₀
-  unfolding opened
-  first-lives =
+  piece : Piece at (u .end) (length part)
+  piece = piece-end (u .chunk) (u .midway .within) (u .ends)
+
+  left : Left opening part setting (opened given p) lc s at
+  left = u .midway .left (first-lives l stride o p opening (u .opens) (u .opened)) wide
+
+  -- a stop goes on
+  pub stop-in : {n i : ℕ} → x .answer ≡ answers.Stopped n i → at + n ≤ length part
+  stop-in a = omega (arith, stop-within left wide piece (u .fed) a, piece .from, piece .to)
+
+  pub stop-less : {n i : ℕ} → x .answer ≡ answers.Stopped n i → length part - (at + n) < length part - at
+  stop-less a = omega (arith, stop-more left wide piece (u .fed) a, stop-in a)
+
+  pub stop-again : {n i : ℕ} → x .answer ≡ answers.Stopped n i → length l₁ ≡ length lc
+      → Midway a (y .session) l₀ part l₁ (x .session) (at + n)
+  stop-again a kept =
       record {
-        stands = subst (λ (z : Opened × List ℕ). Stands opening (z .0 .session) (z .1) (sessionIn opening setting (opened given p) false)) (sym ready) (ready-stands l stride o p opening pre);
-        going = λ z. let never : _≡_ {A = ℕ} 0 1 = cc in omega arith;
+        within = stop-in a;
+        kept = kept ∙ u .midway .kept;
+        left = λ {opening} {t} {first} h wide. stop-left (u .midway .left h wide) wide piece (u .fed) a;
       }
 
-  module _ {a : ℕ} (enough : 6 * l .width ≤ a) {part lc : List ℕ} {s : Session} {at : ℕ} (mid : Midway a (y .session) l₀ part lc s at) {end : ℕ} (chunk : ℕ) (g : end ≡ pieceEnd at (length part) chunk) {x : Fed} {l₁ : List ℕ} (f : (x, l₁) ≡ fedBy s lc (take (end - at) (drop at part)) a) where
-    wide : 6 * setting .limits .width ≤ a
-    unfolding settingMeant limitsMeant calls.settingFor
-    wide = enough
+  -- so does a piece that was all read, unless nothing is left
+  pub read-in : {n i : ℕ} → x .answer ≡ answers.More n i → at + n ≤ length part
+  read-in a = omega (arith, read-whole left wide piece (u .fed) a, piece .from, piece .to)
 
-    piece : Piece at end (length part)
-    piece = piece-end chunk (mid .within) g
+  pub read-less : {n i : ℕ} → x .answer ≡ answers.More n i → (at + n ≡ length part → ⊥)
+      → length part - (at + n) < length part - at
+  read-less a other =
+      let more : at < u .end = piece .filled (omega (arith, read-in a)) in
+      omega (arith, read-whole left wide piece (u .fed) a, read-in a)
 
-    left : Left opening part setting (opened given p) lc s at
-    left = mid .left first-lives wide
+  pub read-again : {n i : ℕ} → x .answer ≡ answers.More n i → length l₁ ≡ length lc
+      → Midway a (y .session) l₀ part l₁ (x .session) (at + n)
+  read-again a kept =
+      record {
+        within = read-in a;
+        kept = kept ∙ u .midway .kept;
+        left = λ {opening} {t} {first} h wide. read-left (u .midway .left h wide) wide piece (u .fed) a;
+      }
 
-    -- a stop goes on
-    pub stop-in : {n i : ℕ} → x .answer ≡ answers.Stopped n i → at + n ≤ length part
-    stop-in a = omega (arith, stop-within left wide piece f a, piece .from, piece .to)
+  -- a refusal is the part's
+  module _ {n : Refusal} (told : x .answer ≡ answers.Refused n) where
+    refused-how : run left wide piece (u .fed) .how ≡ refusedBy (numberOf n)
+    unfolding howTold answerMeant
+    refused-how = sym (feeds left wide piece (u .fed) .how) ∙ ap (λ (b : Answer). howTold (answerMeant b)) told
 
-    pub stop-less : {n i : ℕ} → x .answer ≡ answers.Stopped n i → length part - (at + n) < length part - at
-    stop-less a = omega (arith, stop-more left wide piece f a, stop-in a)
+    refused-came : readPayload setting given p part ≡ after (left .consumed) (left .ink) (run left wide piece (u .fed))
+    refused-came = whole left wide piece (u .fed) (refused-going refused-how) (refused-read refused-how)
 
-    pub stop-again : {n i : ℕ} → x .answer ≡ answers.Stopped n i → length l₁ ≡ length lc → Midway a (y .session) l₀ part l₁ (x .session) (at + n)
-    stop-again a kept =
-        record { within = stop-in a; kept = kept ∙ mid .kept; left = λ {opening} {t} {first} h wide. stop-left (mid .left h wide) wide piece f a }
+    -- what a reading drew
+    abbrev shown-by : Run Reading → List ℕ
+    shown-by q = calls.shown (setting .stride) (some (q .state .drawing)) opening
 
-    -- so does a piece that was all read, unless nothing is left
-    pub read-in : {n i : ℕ} → x .answer ≡ answers.More n i → at + n ≤ length part
-    read-in a = omega (arith, read-whole left wide piece f a, piece .from, piece .to)
+    refused-shows : l₁ ≡ shown-by (readPayload setting given p part)
+    unfolding after calls.payloadShown
+    refused-shows = stands-shows (feeds left wide piece (u .fed) .stands) ∙ ap shown-by (sym refused-came)
 
-    pub read-less : {n i : ℕ} → x .answer ≡ answers.More n i → (at + n ≡ length part → ⊥) → length part - (at + n) < length part - at
-    read-less a other =
-        let more : at < end = piece .filled (omega (arith, read-in a)) in
-        omega (arith, read-whole left wide piece f a, read-in a)
-
-    pub read-again : {n i : ℕ} → x .answer ≡ answers.More n i → length l₁ ≡ length lc → Midway a (y .session) l₀ part l₁ (x .session) (at + n)
-    read-again a kept =
-        record { within = read-in a; kept = kept ∙ mid .kept; left = λ {opening} {t} {first} h wide. read-left (mid .left h wide) wide piece f a }
-
-    -- a refusal is the part's
-    pub part-refused : {n : Refusal} {r : Finished} → x .answer ≡ answers.Refused n → r ≡ record { answer = finishes.Refused n; palette = p }
+    pub part-refused : {r : Finished} → r ≡ record { answer = finishes.Refused n; palette = p }
         → readMeant r l₁ ≡ readPart setting given p opening part
-    unfolding howTold answerMeant readMeant finishMeant readPart readOutcome paletteAfter meant.finish after calls.payloadShown
-    part-refused {n} a k =
-        let how : run left wide piece f .how ≡ refusedBy (numberOf n) = sym (feeds left wide piece f .how) ∙ ap (λ (b : Answer). howTold (answerMeant b)) a in
-        let came : readPayload setting given p part ≡ after (left .consumed) (left .ink) (run left wide piece f) = whole left wide piece f (refused-going how) (refused-read how) in
-        let shows : l₁ ≡ calls.shown (setting .stride) (some (readPayload setting given p part .state .drawing)) opening = stands-shows (feeds left wide piece f .stands) ∙ ap (λ (q : Run Reading). calls.shown (setting .stride) (some (q .state .drawing)) opening) (sym came) in
+    unfolding readMeant finishMeant readPart readOutcome paletteAfter meant.finish after
+    part-refused k =
         ap (λ (z : Finished). readMeant z l₁) k
-        ∙ ap (λ (c : List ℕ). record { answer = meant.turnedDown (numberOf n); palette = p; canvas = c }) shows
-        ∙ ap (readOutcome setting given p opening) (sym (reading-refused setting given p part (ap (λ (q : Run Reading). q .how) came ∙ how)))
+        ∙ ap (λ (c : List ℕ). record { answer = meant.turnedDown (numberOf n); palette = p; canvas = c }) refused-shows
+        ∙ ap (readOutcome setting given p opening)
+        (sym (reading-refused setting given p part (ap (λ (q : Run Reading). q .how) refused-came ∙ refused-how)))
 
-    -- after the last piece
-    pub part-read : {n i : ℕ} {r : Finished} {l₂ : List ℕ} → x .answer ≡ answers.More n i → at + n ≡ length part → (r, l₂) ≡ finishedBy (x .session) p l₁
-        → readMeant r l₂ ≡ readPart setting given p opening part
-    part-read a h = finished-part setting given p opening part (came-all (read-left left wide piece f a) h)
+  -- after the last piece
+  pub part-read : {n i : ℕ} {r : Finished} {l₂ : List ℕ} → x .answer ≡ answers.More n i → at + n ≡ length part
+      → (r, l₂) ≡ finishedBy (x .session) p l₁ → readMeant r l₂ ≡ readPart setting given p opening part
+  part-read a h = finished-part setting given p opening part (came-all (read-left left wide piece (u .fed) a) h)
 
-    -- after an end
-    pub part-ended : {r : Finished} {l₂ : List ℕ} → OneOf (2 ∷ []) (tagOf AnswerType.the-type (x .answer)) → (r, l₂) ≡ finishedBy (x .session) p l₁
-        → readMeant r l₂ ≡ readPart setting given p opening part
-    part-ended a = finished-part setting given p opening part (came-end left wide piece f (ended-told (x .answer) a))
+  -- after an end
+  pub part-ended : {r : Finished} {l₂ : List ℕ} → OneOf (2 ∷ []) (tagOf AnswerType.the-type (x .answer))
+      → (r, l₂) ≡ finishedBy (x .session) p l₁ → readMeant r l₂ ≡ readPart setting given p opening part
+  part-ended a =
+      finished-part setting given p opening part (came-end left wide piece (u .fed) (ended-told (x .answer) a))
 
-pub ruleset parts-read = (midway-start, stop-in, stop-less, stop-again, read-in, read-less, read-again, part-refused, part-read, part-ended)
+pub ruleset parts-read = (
+  midway-start,
+  stop-in,
+  stop-less,
+  stop-again,
+  read-in,
+  read-less,
+  read-again,
+  part-refused,
+  part-read,
+  part-ended,
+)

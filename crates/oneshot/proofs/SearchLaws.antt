@@ -16,7 +16,7 @@ use Rattle.numbers.proofs.Laws.{cond-yes, cond-no}
 use Rattle.frame.specs.declared.Refusal.{Refusal}
 use Rattle.frame.specs.declared.Refusal.the-variants.{Unfinished}
 use Rattle.payload.specs.declared.Settings.{Settings}
-use Rattle.payload.specs.Begin.{noSettings}
+use Rattle.payload.specs.Deferred.{noSettings}
 use Rattle.header.specs.declared.Lead.{Lead}
 use Rattle.header.specs.declared.Led.{Led}
 use Rattle.header.specs.declared.Led.the-variants as leds
@@ -125,7 +125,8 @@ module _ {h : Parameters} {x : Lead} (l : List ℕ) (n : ℕ) (e : h ≡ opened 
   led-on k = led k refl
 
   -- `q`
-  pub led-begins : {o : Settings} → x .led ≡ leds.Begins → o ≡ settingsFrom (x .header) → Payload (x .consumed) o ≡ headerFrom n (drop n l)
+  pub led-begins : {o : Settings} → x .led ≡ leds.Begins → o ≡ settingsFrom (x .header)
+      → Payload (x .consumed) o ≡ headerFrom n (drop n l)
   unfolding ledTo
   led-begins k o = led k (ap (Payload (x .consumed)) o)
 
@@ -138,7 +139,8 @@ pub ruleset headings = (led-on, led-begins, led-refused)
 
 -- ---- where the payload begins
 
-pub found-header : {s : Start} {r : Found} (l : List ℕ) (n : ℕ) → s ≡ startFrom 0 l → s ≡ At n → r ≡ headerFrom n (drop n l) → r ≡ foundIn l
+pub found-header : {s : Start} {r : Found} (l : List ℕ) (n : ℕ)
+    → s ≡ startFrom 0 l → s ≡ At n → r ≡ headerFrom n (drop n l) → r ≡ foundIn l
 unfolding foundIn foundAt
 found-header l n e k h = h ∙ ap (λ (x : Start). foundAt x l) (sym k ∙ e)
 

@@ -48,7 +48,8 @@ read-on e z = let never : _≡_ {A = ℕ} 0 1 = cc in omega arith
 pub stopped-on : {h : How} → h ≡ stopped → h ≡ halted → ⊥
 stopped-on e z = let never : _≡_ {A = ℕ} 0 1 = cc in omega arith
 
-module _ {opening : List ℕ} {t : Setting} {r : Reading} {s : Session} {l : List ℕ} (k : Lives opening t r s l) {a : ℕ} (enough : 6 * t .limits .width ≤ a) (bs : List ℕ) where
+module _ {opening : List ℕ} {t : Setting} {r : Reading} {s : Session} {l : List ℕ} (k : Lives opening t r s l)
+    {a : ℕ} (enough : 6 * t .limits .width ≤ a) (bs : List ℕ) where
   -- a caller that has fed nothing yet, of the code and of the definition
   code : Caller Held
   code = record { state = (s, l); unread = []; consumed = 0; ink = 0; how = readAll }
@@ -71,10 +72,14 @@ module _ {opening : List ℕ} {t : Setting} {r : Reading} {s : Session} {l : Lis
   unfolding code mayCall allowanceOf
   proper = proper-one (tellWith fedBy) a code (fresh bs a) (omega arith) refl
 
+  after-one : CallerStands opening t (r .parameters) (callsOf code (fresh bs a ∷ []))
+      (turns (payloadStep t) (rested t) meant (fresh bs a ∷ []))
+  after-one = calls-stand a enough before (fresh bs a ∷ []) proper .0
+
   pub ran : {x : Fed} {l₁ : List ℕ} → (x, l₁) ≡ fedBy s l bs a → Ran opening t (call (payloadStep t) (rested t) a r bs) x l₁
   unfolding code meant callers.callsOf callers.called afterFeed turns turn having pieceOf allowanceOf
   ran e =
-      let h : CallerStands opening t (r .parameters) (callsOf code (fresh bs a ∷ [])) (turns (payloadStep t) (rested t) meant (fresh bs a ∷ [])) = calls-stand a enough before (fresh bs a ∷ []) proper .0 in
+      let h = after-one in
       subst (λ (y : Fed × List ℕ). Ran opening t (call (payloadStep t) (rested t) a r bs) (y .0) (y .1)) (sym e)
       (record {
         how = h .learned .how;
@@ -84,16 +89,21 @@ module _ {opening : List ℕ} {t : Setting} {r : Reading} {s : Session} {l : Lis
       })
 
   -- a stop consumes at least one byte: no sixel's ink is above the allowance
-  pub stop-consumes : call (payloadStep t) (rested t) a r bs .how ≡ stopped → 0 < call (payloadStep t) (rested t) a r bs .consumed
+  pub stop-consumes : call (payloadStep t) (rested t) a r bs .how ≡ stopped
+      → 0 < call (payloadStep t) (rested t) a r bs .consumed
   stop-consumes = call-stop-reads (payloadStep t) (rested t) (6 * t .limits .width) (payload-caps t) a r bs enough
 
 -- ---- a finish is refused neither 9 nor 12
 
-module _ {opening : List ℕ} {t : Setting} {r : Reading} {s : Session} {l : List ℕ} (k : Stands opening s l (sessionIn opening t r false)) where
+module _ {opening : List ℕ} {t : Setting} {r : Reading} {s : Session} {l : List ℕ}
+    (k : Stands opening s l (sessionIn opening t r false)) where
   fitting : calls.misfits (λ (u : Reading). u .drawing .area) (sessionIn opening t r false) (length l) ≡ false
-  fitting = ap (calls.misfits (λ (u : Reading). u .drawing .area) (sessionIn opening t r false)) (stands-long k) ∙ stands-fit k
+  fitting =
+      ap (calls.misfits (λ (u : Reading). u .drawing .area) (sessionIn opening t r false)) (stands-long k)
+      ∙ stands-fit k
 
   -- so finishing finishes the reading
   pub finish-lives : calls.finishPayload (sessionIn opening t r false) (length l) ≡ finishReading t r
   unfolding calls.finishPayload
-  finish-lives = finish-answers (λ (u : Reading). u .drawing .area) finishReading (sessionIn opening t r false) (length l) refl fitting
+  finish-lives =
+      finish-answers (λ (u : Reading). u .drawing .area) finishReading (sessionIn opening t r false) (length l) refl fitting

@@ -23,7 +23,7 @@ use Rattle.payload.specs.declared.Finished.{Finished}
 use Rattle.payload.specs.declared.Finishing.the-variants as finishes
 use Rattle.payload.specs.declared.Settings.{Settings}
 use Rattle.payload.specs.Meant.{parametersMeant, limitsMeant, settingMeant, finishMeant}
-use Rattle.payload.specs.Judge.{openable}
+use Rattle.payload.specs.Refusals.{openable}
 use Rattle.payload.proofs.Openings.{opens-meant}
 use Rattle.oneshot.specs.declared.search.Found.{Found}
 use Rattle.oneshot.specs.declared.search.Found.the-variants.{Payload, Refused}
@@ -57,11 +57,13 @@ notOpened p canvas = record { answer = meant.turnedDown 11; palette = p; canvas 
 
 -- what it comes to, by whether a session can be opened
 module _ {t : Bool} (l : drawing.Limits) (stride : ℕ) (p : Palette) (canvas bytes : List ℕ) (e : opens l stride (length canvas) ≡ t) where
-  by-opening : cond t (foundRead (settingFor l stride (length canvas)) p canvas (meaning.findPayload bytes)) (notOpened p canvas) ≡ readWhole l stride p canvas bytes
+  by-opening : cond t (foundRead (settingFor l stride (length canvas)) p canvas (meaning.findPayload bytes)) (notOpened p canvas)
+      ≡ readWhole l stride p canvas bytes
   unfolding foundRead notOpened readWhole readOneShot oneShotShown meaning.oneShot settingFor paletteAfter
   by-opening =
       go t
-      ∙ ap (λ (u : Bool). readIn (cond u answered (meant.turnedDown 11)) (cond u (shown stride (drawingFound setting p found) canvas) canvas)) (sym e)
+      ∙ ap (λ (u : Bool). readIn (cond u answered (meant.turnedDown 11))
+      (cond u (shown stride (drawingFound setting p found) canvas) canvas)) (sym e)
     where
       setting : Setting
       setting = settingFor l stride (length canvas)
@@ -88,8 +90,10 @@ module _ {t : Bool} (l : drawing.Limits) (stride : ℕ) (p : Palette) (canvas by
 
 module _ (l : drawing.Limits) (stride : ℕ) (p : Palette) (canvas bytes : List ℕ) where
   -- where a payload is found, the part that is handed back is the part that is read, with its parameters
-  pub part-read : {o : meant.Parameters} {part : List ℕ} → opens l stride (length canvas) ≡ true → meaning.findPayload bytes ≡ meaning.found o part
-      → (partHandedBack l stride (length canvas) bytes ≡ part) × (readWhole l stride p canvas bytes ≡ readPart (settingFor l stride (length canvas)) o p canvas part)
+  pub part-read : {o : meant.Parameters} {part : List ℕ}
+      → opens l stride (length canvas) ≡ true → meaning.findPayload bytes ≡ meaning.found o part
+      → (partHandedBack l stride (length canvas) bytes ≡ part)
+      × (readWhole l stride p canvas bytes ≡ readPart (settingFor l stride (length canvas)) o p canvas part)
   unfolding foundRead readPart readOutcome meaning.answerOf meaning.partOf drawingFound
   part-read e f = (
     sym (handed l stride p canvas bytes e) ∙ ap meaning.partOf f,
@@ -98,7 +102,8 @@ module _ (l : drawing.Limits) (stride : ℕ) (p : Palette) (canvas bytes : List 
 
   -- where none is, or no session can be opened, the part is empty, the answer is the refusal, and palette and canvas are as they were
   pub part-lacking : opens l stride (length canvas) ≡ true → meaning.findPayload bytes ≡ meaning.lacking
-      → (partHandedBack l stride (length canvas) bytes ≡ []) × (readWhole l stride p canvas bytes ≡ record { answer = meant.turnedDown 8; palette = p; canvas = canvas })
+      → (partHandedBack l stride (length canvas) bytes ≡ [])
+      × (readWhole l stride p canvas bytes ≡ record { answer = meant.turnedDown 8; palette = p; canvas = canvas })
   unfolding foundRead paletteAfter shown meaning.answerOf meaning.partOf drawingFound
   part-lacking e f = (
     sym (handed l stride p canvas bytes e) ∙ ap meaning.partOf f,
@@ -106,7 +111,8 @@ module _ (l : drawing.Limits) (stride : ℕ) (p : Palette) (canvas bytes : List 
   )
 
   pub part-missing : {n : ℕ} → opens l stride (length canvas) ≡ true → meaning.findPayload bytes ≡ meaning.refusedWith n
-      → (partHandedBack l stride (length canvas) bytes ≡ []) × (readWhole l stride p canvas bytes ≡ record { answer = meant.turnedDown n; palette = p; canvas = canvas })
+      → (partHandedBack l stride (length canvas) bytes ≡ [])
+      × (readWhole l stride p canvas bytes ≡ record { answer = meant.turnedDown n; palette = p; canvas = canvas })
   unfolding foundRead paletteAfter shown meaning.answerOf meaning.partOf drawingFound
   part-missing e f = (
     sym (handed l stride p canvas bytes e) ∙ ap meaning.partOf f,
@@ -114,7 +120,8 @@ module _ (l : drawing.Limits) (stride : ℕ) (p : Palette) (canvas bytes : List 
   )
 
   pub part-unopened : opens l stride (length canvas) ≡ false
-      → (partHandedBack l stride (length canvas) bytes ≡ []) × (readWhole l stride p canvas bytes ≡ record { answer = meant.turnedDown 11; palette = p; canvas = canvas })
+      → (partHandedBack l stride (length canvas) bytes ≡ [])
+      × (readWhole l stride p canvas bytes ≡ record { answer = meant.turnedDown 11; palette = p; canvas = canvas })
   unfolding notOpened
   part-unopened e = (sym (handed l stride p canvas bytes e), sym (by-opening l stride p canvas bytes e))
 
@@ -124,7 +131,12 @@ module _ {t : Bool} (l : Limits) (stride : ℕ) (p : Palette) (canvas bytes : Li
   known : opens (limitsMeant l) stride (length canvas) ≡ t
   known = sym (e ∙ opens-meant l stride (length canvas))
 
-  coded : cond t (foundRead (settingMeant l stride (length canvas)) p canvas (meaning.findPayload bytes)) (notOpened p canvas) ≡ readWhole (limitsMeant l) stride p canvas bytes
+  -- the outcome, where a session can be opened and where it can't
+  abbrev whether : Bool → Read
+  whether u =
+      cond u (foundRead (settingMeant l stride (length canvas)) p canvas (meaning.findPayload bytes)) (notOpened p canvas)
+
+  coded : whether t ≡ readWhole (limitsMeant l) stride p canvas bytes
   unfolding settingMeant
   coded = by-opening (limitsMeant l) stride p canvas bytes known
 
@@ -142,14 +154,15 @@ module _ {t : Bool} (l : Limits) (stride : ℕ) (p : Palette) (canvas bytes : Li
   unfolding readMeant finishMeant numberOf notOpened
   whole-unopened h k =
       ap (λ (z : Finished). readMeant z canvas) k
-      ∙ ap (λ (u : Bool). cond u (foundRead (settingMeant l stride (length canvas)) p canvas (meaning.findPayload bytes)) (notOpened p canvas)) (sym h)
+      ∙ ap whether (sym h)
       ∙ coded
 
   module _ {f : Found} (h : t ≡ true) (g : f ≡ foundIn bytes) where
-    found-whole : foundRead (settingMeant l stride (length canvas)) p canvas (foundMeant bytes f) ≡ readWhole (limitsMeant l) stride p canvas bytes
+    found-whole : foundRead (settingMeant l stride (length canvas)) p canvas (foundMeant bytes f)
+        ≡ readWhole (limitsMeant l) stride p canvas bytes
     found-whole =
         ap (foundRead (settingMeant l stride (length canvas)) p canvas) (ap (foundMeant bytes) g ∙ found-meant bytes)
-        ∙ ap (λ (u : Bool). cond u (foundRead (settingMeant l stride (length canvas)) p canvas (meaning.findPayload bytes)) (notOpened p canvas)) (sym h)
+        ∙ ap whether (sym h)
         ∙ coded
 
     -- 2, 3 or 8
@@ -164,7 +177,8 @@ module _ {t : Bool} (l : Limits) (stride : ℕ) (p : Palette) (canvas bytes : Li
 
     -- a payload
     pub whole-found : {from : ℕ} {o : Settings} {x : Read} → f ≡ Payload from o
-        → x ≡ readPart (settingMeant l stride (length canvas)) (parametersMeant o) p canvas (take (length bytes - from) (drop from bytes))
+        → x ≡ readPart (settingMeant l stride (length canvas)) (parametersMeant o) p canvas
+        (take (length bytes - from) (drop from bytes))
         → x ≡ readWhole (limitsMeant l) stride p canvas bytes
     unfolding readPart readOutcome foundRead foundMeant meaning.answerOf drawingFound
     whole-found {from} {o} k m =

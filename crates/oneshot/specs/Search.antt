@@ -6,7 +6,7 @@ use lib.Dec.{ltb, eqb}
 use lib.ListN.{getD, drop}
 use Rattle.numbers.specs.Step.{opened}
 use Rattle.frame.specs.declared.Refusal.the-variants.{Unfinished}
-use Rattle.payload.specs.Begin.{noSettings}
+use Rattle.payload.specs.Deferred.{noSettings}
 use Rattle.header.specs.declared.Lead.{Lead}
 use Rattle.header.specs.declared.Led.{Led}
 use Rattle.header.specs.declared.Led.the-variants as leds

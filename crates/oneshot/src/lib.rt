@@ -8,7 +8,7 @@ ghost use Prim.Native.Nat.{_*_, _≤_};
 ghost use lib.ListN.{length};
 ghost use Rattle.meaning.specs.Calls.{partHandedBack};
 ghost use Rattle.payload.specs.Meant.{parametersMeant, limitsMeant, settingMeant};
-ghost use Rattle.payload.specs.Judge.{openable};
+ghost use Rattle.payload.specs.Refusals.{openable};
 ghost use Rattle.oneshot.specs.OneShot.{pieceEnd, readWhole, readPart, readMeant};
 use colours::Palette;
 use frame::Limits;
@@ -19,8 +19,8 @@ use payload::Finishing;
 use payload::Settings;
 use payload::feed;
 use payload::finish;
-use payload::judge::may_open;
 use payload::open;
+use payload::refusals::may_open;
 use search::Found;
 use search::find;
 
@@ -78,7 +78,9 @@ pub fn read_in_pieces(
 ) -> Finished
     requires { ⌜ openable limits stride (length (now canvas)) ≡ true ⌝ }
     requires { ⌜ 6 * limits .width ≤ allowance ⌝ }
-    ensures { λ r. ⌜ readMeant r (now (canvas .exit)) ≡ readPart (settingMeant limits stride (length (now (canvas .entry)))) (parametersMeant settings) palette (now (canvas .entry)) (now (part .entry)) ⌝ }
+    ensures { λ r. ⌜ readMeant r (now (canvas .exit))
+        ≡ readPart (settingMeant limits stride (length (now (canvas .entry)))) (parametersMeant settings) palette
+        (now (canvas .entry)) (now (part .entry)) ⌝ }
 {
     let opened = open(limits, stride, settings, palette, canvas);
     let mut session = opened.session;
@@ -115,7 +117,8 @@ pub fn read(
     canvas: &mut [u8],
     bytes: &[u8],
 ) -> Finished
-    ensures { λ r. ⌜ readMeant r (now (canvas .exit)) ≡ readWhole (limitsMeant limits) stride palette (now (canvas .entry)) (now (bytes .entry)) ⌝ }
+    ensures { λ r. ⌜ readMeant r (now (canvas .exit))
+        ≡ readWhole (limitsMeant limits) stride palette (now (canvas .entry)) (now (bytes .entry)) ⌝ }
 {
     if may_open(limits, stride, canvas.len()) {
         match find(bytes) {

@@ -12,7 +12,7 @@ use Rattle.frame.specs.declared.Limits.{Limits}
 use Rattle.frame.specs.declared.Refusal.{Refusal}
 use Rattle.frame.specs.Numbers.{numberOf}
 use Rattle.meaning.specs.Calls.{settingFor, opens}
-use Rattle.meaning.specs.Drawing.{houseLimits, Setting}
+use Rattle.meaning.specs.Drawing.{houseLimits, Setting, Outcome}
 use Rattle.meaning.specs.Payload as meant
 use Rattle.meaning.specs.Payload.{noParameters}
 use Rattle.meaning.specs.Sizes.{ReportFits}
@@ -22,9 +22,9 @@ use Rattle.payload.specs.declared.Finishing.{Finishing}
 use Rattle.payload.specs.declared.Finishing.the-variants.{Picture, Refused}
 use Rattle.payload.specs.declared.Report.{Report}
 use Rattle.payload.specs.declared.Settings.{Settings}
-use Rattle.payload.specs.Begin.{noSettings}
+use Rattle.payload.specs.Deferred.{noSettings}
 use Rattle.payload.specs.Meant.{limitsCoded, givenMeant, parametersMeant, limitsMeant, settingMeant, reportMeant, finishMeant}
-use Rattle.payload.specs.Judge.{openable}
+use Rattle.payload.specs.Refusals.{openable}
 use Rattle.oneshot.specs.OneShot.{Read, readOutcome, readPart, readMeant}
 use Rattle.oneshot.proofs.PartLaws.{opens-meant}
 use Rattle.owlgantry.specs.Bench.{sizeOrNumber, benchDecoded, SizeWithin}
@@ -38,11 +38,13 @@ module _ {a : Finishing} (fits : SizeWithin a) where
   pub height-fits : {r : Report} → a ≡ Picture r → r .height ≤ 768
   height-fits e = subst SizeWithin e fits .1
 
-pub picture-number : {a : Finishing} {r : Report} (p : Palette) → a ≡ Picture r → r .width * 4294967296 + r .height ≡ sizeOrNumber (finishMeant a p)
+pub picture-number : {a : Finishing} {r : Report} (p : Palette) → a ≡ Picture r
+    → r .width * 4294967296 + r .height ≡ sizeOrNumber (finishMeant a p)
 unfolding sizeOrNumber finishMeant reportMeant
 picture-number p e = ap (λ (b : Finishing). sizeOrNumber (finishMeant b p)) (sym e)
 
-pub refused-number : {a : Finishing} {n : Refusal} {x : ℕ} (p : Palette) → a ≡ Refused n → x ≡ numberOf n → x ≡ sizeOrNumber (finishMeant a p)
+pub refused-number : {a : Finishing} {n : Refusal} {x : ℕ} (p : Palette) → a ≡ Refused n → x ≡ numberOf n
+    → x ≡ sizeOrNumber (finishMeant a p)
 unfolding sizeOrNumber finishMeant
 refused-number p e k = k ∙ ap (λ (b : Finishing). sizeOrNumber (finishMeant b p)) (sym e)
 
@@ -52,15 +54,21 @@ pub ruleset numbered = (width-fits, height-fits, picture-number, refused-number)
 
 within-house : (s : Setting) (a : Finishing) (p : Palette) → s .limits ≡ houseLimits → ReportFits s (finishMeant a p) → SizeWithin a
 unfolding finishMeant reportMeant
-within-house s (Picture r) p e h = (subst (λ l. r .width ≤ l .width) e (h .width), subst (λ l. r .height ≤ l .height) e (h .height))
+within-house s (Picture r) p e h =
+    (subst (λ l. r .width ≤ l .width) e (h .width), subst (λ l. r .height ≤ l .height) e (h .height))
 within-house s (Refused n) p e h = tt
 
 -- ---- the reading
 
-module _ {t : Bool} (stride : ℕ) (canvas bytes : List ℕ) {l : Limits} (limits : l ≡ limitsCoded houseLimits) (e : t ≡ openable l stride (length canvas)) where
+module _ {t : Bool} (stride : ℕ) (canvas bytes : List ℕ) {l : Limits} (limits : l ≡ limitsCoded houseLimits)
+    (e : t ≡ openable l stride (length canvas)) where
   known : opens houseLimits stride (length canvas) ≡ t
   unfolding limitsMeant
-  known = sym (e ∙ ap (λ (k : Limits). openable k stride (length canvas)) limits ∙ opens-meant (limitsCoded houseLimits) stride (length canvas))
+  known =
+      sym
+      (e
+      ∙ ap (λ (k : Limits). openable k stride (length canvas)) limits
+      ∙ opens-meant (limitsCoded houseLimits) stride (length canvas))
 
   pub bench-open : t ≡ true → openable l stride (length canvas) ≡ true
   bench-open h = sym e ∙ h
@@ -70,7 +78,8 @@ module _ {t : Bool} (stride : ℕ) (canvas bytes : List ℕ) {l : Limits} (limit
   unfolding benchDecoded
   bench-closed h = sym (cond-no _ _ (known ∙ h))
 
-  module _ (h : t ≡ true) {o : Settings} (settings : o ≡ noSettings) {p : Palette} (palette : p ≡ standard) (x : Finished) (l₁ : List ℕ)
+  module _ (h : t ≡ true) {o : Settings} (settings : o ≡ noSettings) {p : Palette} (palette : p ≡ standard)
+      (x : Finished) (l₁ : List ℕ)
       (k : readMeant x l₁ ≡ readPart (settingMeant l stride (length canvas)) (parametersMeant o) p canvas bytes) where
     abbrev setting : Setting
     setting = settingFor houseLimits stride (length canvas)
@@ -83,7 +92,10 @@ module _ {t : Bool} (stride : ℕ) (canvas bytes : List ℕ) {l : Limits} (limit
         ∙ ap (λ (y : Limits). readPart (settingMeant y stride (length canvas)) noParameters p canvas bytes) limits
         ∙ ap (λ (y : Palette). readPart setting noParameters y canvas bytes) palette
 
-    answer : finishMeant (x .answer) (x .palette) ≡ meant.finish noParameters (meant.payload setting noParameters standard bytes)
+    abbrev outcome : Outcome
+    outcome = meant.payload setting noParameters standard bytes
+
+    answer : finishMeant (x .answer) (x .palette) ≡ meant.finish noParameters outcome
     unfolding readMeant readPart readOutcome
     answer = ap (λ (y : Read). y .answer) read
 
@@ -91,9 +103,12 @@ module _ {t : Bool} (stride : ℕ) (canvas bytes : List ℕ) {l : Limits} (limit
     unfolding settingFor
     bench-fits =
         within-house setting (x .answer) (x .palette) refl
-        (subst (ReportFits setting) (sym answer) (outcome-fits setting noParameters (meant.payload setting noParameters standard bytes) (payload-sound (opens-roomy houseLimits stride (length canvas) (known ∙ h)) noParameters standard bytes)))
+        (subst (ReportFits setting) (sym answer)
+        (outcome-fits setting noParameters outcome
+        (payload-sound (opens-roomy houseLimits stride (length canvas) (known ∙ h)) noParameters standard bytes)))
 
-    pub bench-read : {r : ℕ} → r ≡ sizeOrNumber (finishMeant (x .answer) (x .palette)) → (r, l₁) ≡ benchDecoded stride canvas bytes
+    pub bench-read : {r : ℕ} → r ≡ sizeOrNumber (finishMeant (x .answer) (x .palette))
+        → (r, l₁) ≡ benchDecoded stride canvas bytes
     unfolding benchDecoded readMeant readPart readOutcome settingFor
     bench-read m =
         ap (λ (n : ℕ). (n, l₁)) m

@@ -8,13 +8,13 @@ use lib.ListN.{length, length-drop}
 use mir.Val.{boolByte}
 use Rattle.canvas.specs.Copy as copy
 use Rattle.canvas.specs.declared.Copied.{Copied}
-use Rattle.canvas.specs.declared.Copied.the-variants.{Done, Misfit, Short}
 use Rattle.colours.specs.declared.Palette.{Palette}
 use Rattle.colours.specs.Palette.{ofTable, standard}
 use Rattle.frame.specs.declared.Limits.{Limits}
 use Rattle.meaning.specs.Calls.{opens, partHandedBack}
 use Rattle.meaning.specs.Drawing as drawing
 use Rattle.meaning.specs.OneShot as meaning
+use Rattle.meaning.specs.Payload as meant
 use Rattle.meaning.proofs.AreaLaws.{cond-case}
 use Rattle.payload.specs.declared.Finished.{Finished}
 use Rattle.payload.specs.declared.Finishing.{Finishing}
@@ -32,22 +32,14 @@ use Rattle.owlgantry.specs.Reading.{givenKind, givenNumber, ratioKind, r
 
 -- ---- by the cases of an enum
 
-pub kind-as : {r : ℕ} {g other : Given} → g ≡ other → r ≡ givenKind (givenMeant other) → r ≡ givenKind (givenMeant g)
-kind-as e k = k ∙ ap (λ (x : Given). givenKind (givenMeant x)) (sym e)
+-- what is told of a value is told of the case that it is: every number and every report is proved by this
+pub by-case : {A B : Type 0} (f : A → B) {r : B} {x other : A} → x ≡ other → r ≡ f other → r ≡ f x
+by-case f e k = k ∙ ap f (sym e)
 
-pub number-as : {r : ℕ} {g other : Given} → g ≡ other → r ≡ givenNumber (givenMeant other) → r ≡ givenNumber (givenMeant g)
-number-as e k = k ∙ ap (λ (x : Given). givenNumber (givenMeant x)) (sym e)
-
-pub ratio-kind-as : {r : ℕ} {g other : Ratio} → g ≡ other → r ≡ ratioKind (ratioMeant other) → r ≡ ratioKind (ratioMeant g)
-ratio-kind-as e k = k ∙ ap (λ (x : Ratio). ratioKind (ratioMeant x)) (sym e)
-
-pub ratio-number-as : {r : ℕ} {g other : Ratio} → g ≡ other → r ≡ ratioNumber (ratioMeant other) → r ≡ ratioNumber (ratioMeant g)
-ratio-number-as e k = k ∙ ap (λ (x : Ratio). ratioNumber (ratioMeant x)) (sym e)
-
-pub refusal-as : {r : ℕ} {a other : Finishing} (p : Palette) → a ≡ other → r ≡ refusalNumber (finishMeant other p) → r ≡ refusalNumber (finishMeant a p)
-refusal-as p e k = k ∙ ap (λ (x : Finishing). refusalNumber (finishMeant x p)) (sym e)
-
-pub ruleset as-numbers = (kind-as, number-as, ratio-kind-as, ratio-number-as, refusal-as)
+-- a finish's number, whatever the owner's palette
+pub refusal-as : {r : ℕ} {a other : Finishing} (p : Palette)
+    → a ≡ other → r ≡ refusalNumber (finishMeant other p) → r ≡ refusalNumber (finishMeant a p)
+refusal-as p = by-case (λ (x : Finishing). refusalNumber (finishMeant x p))
 
 -- ---- a report
 
@@ -55,36 +47,33 @@ as-number : (t : Bool) → boolByte t ≡ cond t 1 0
 as-number true = refl
 as-number false = refl
 
-pub report-picture : {a : Finishing} {x : Report} {k n : ℕ} (p : Palette) (place part : ℕ) → a ≡ Picture x → k ≡ ratioKind (ratioMeant (x .ratio)) → n ≡ ratioNumber (ratioMeant (x .ratio))
-    → x .width ∷ x .height ∷ x .right ∷ x .bottom ∷ k ∷ n ∷ boolByte (x .transparent) ∷ place ∷ part ∷ [] ≡ reportNumbers (finishMeant a p) place part
+-- a picture's nine numbers, by the ratio's two and the background's
+abbrev picture-numbers : Report → ℕ → ℕ → ℕ → ℕ → ℕ → List ℕ
+picture-numbers x kind number clear place part =
+    x .width ∷ x .height ∷ x .right ∷ x .bottom ∷ kind ∷ number ∷ clear ∷ place ∷ part ∷ []
+
+pub report-picture : {a : Finishing} {x : Report} {k n : ℕ} (p : Palette) (place part : ℕ)
+    → a ≡ Picture x → k ≡ ratioKind (ratioMeant (x .ratio)) → n ≡ ratioNumber (ratioMeant (x .ratio))
+    → picture-numbers x k n (boolByte (x .transparent)) place part ≡ reportNumbers (finishMeant a p) place part
 unfolding reportNumbers finishMeant reportMeant
 report-picture {x = x} p place part e k n =
-    ap₂ (λ (i j : ℕ). x .width ∷ x .height ∷ x .right ∷ x .bottom ∷ i ∷ j ∷ boolByte (x .transparent) ∷ place ∷ part ∷ []) k n
-    ∙ ap (λ (b : ℕ). x .width ∷ x .height ∷ x .right ∷ x .bottom ∷ ratioKind (ratioMeant (x .ratio)) ∷ ratioNumber (ratioMeant (x .ratio)) ∷ b ∷ place ∷ part ∷ []) (as-number (x .transparent))
+    ap₂ (λ (i j : ℕ). picture-numbers x i j (boolByte (x .transparent)) place part) k n
+    ∙ ap (λ (b : ℕ). picture-numbers x (ratioKind (ratioMeant (x .ratio))) (ratioNumber (ratioMeant (x .ratio))) b place part)
+    (as-number (x .transparent))
     ∙ ap (λ (y : Finishing). reportNumbers (finishMeant y p) place part) (sym e)
 
-pub report-as : {r : List ℕ} {a other : Finishing} (p : Palette) (place part : ℕ) → a ≡ other → r ≡ reportNumbers (finishMeant other p) place part
+pub report-as : {r : List ℕ} {a other : Finishing} (p : Palette) (place part : ℕ)
+    → a ≡ other → r ≡ reportNumbers (finishMeant other p) place part
     → r ≡ reportNumbers (finishMeant a p) place part
-report-as p place part e k = k ∙ ap (λ (x : Finishing). reportNumbers (finishMeant x p) place part) (sym e)
+report-as p place part = by-case (λ (x : Finishing). reportNumbers (finishMeant x p) place part)
 
 pub ruleset reported = (report-picture, report-as)
 
 -- ---- copying, and the standard palette
 
-module _ {x : Copied} {out : List ℕ} {z : ℕ × List ℕ} (k : (copy.numberOf x, out) ≡ z) where
-  pub copy-done : x ≡ Done → (0, out) ≡ z
-  unfolding copy.numberOf
-  copy-done e = ap (λ (y : Copied). (copy.numberOf y, out)) (sym e) ∙ k
-
-  pub copy-misfit : x ≡ Misfit → (12, out) ≡ z
-  unfolding copy.numberOf
-  copy-misfit e = ap (λ (y : Copied). (copy.numberOf y, out)) (sym e) ∙ k
-
-  pub copy-short : x ≡ Short → (14, out) ≡ z
-  unfolding copy.numberOf
-  copy-short e = ap (λ (y : Copied). (copy.numberOf y, out)) (sym e) ∙ k
-
-pub ruleset copies = (copy-done, copy-misfit, copy-short)
+pub copy-as : {x other : Copied} {out : List ℕ} {n : ℕ} {z : ℕ × List ℕ}
+    → (copy.numberOf x, out) ≡ z → x ≡ other → n ≡ copy.numberOf other → (n, out) ≡ z
+copy-as {out = out} k e h = ap (λ (i : ℕ). (i, out)) (by-case copy.numberOf e h) ∙ k
 
 pub standard-table : (t : List ℕ) {p : Palette} → ofTable t ≡ p → p ≡ standard → ofTable t ≡ standard
 standard-table t e k = e ∙ k
@@ -97,28 +86,36 @@ found-short bytes (founds.Payload from o) = rw (length-drop from bytes) (omega a
 found-short bytes (founds.Refused n) = rw (refused-part bytes n) (omega arith)
 
 -- the part is no longer than the bytes
-pub part-short : (l : Limits) (stride size : ℕ) (bytes : List ℕ) {part : List ℕ} → part ≡ partHandedBack (limitsMeant l) stride size bytes → length part ≤ length bytes
+pub part-short : (l : Limits) (stride size : ℕ) (bytes : List ℕ) {part : List ℕ}
+    → part ≡ partHandedBack (limitsMeant l) stride size bytes → length part ≤ length bytes
 unfolding partHandedBack
 part-short l stride size bytes e =
     subst (λ (us : List ℕ). length us ≤ length bytes) (sym e)
     (cond-case (λ (us : List ℕ). length us ≤ length bytes) (opens (limitsMeant l) stride size)
-    (λ _. subst (λ (f : meaning.Found). length (meaning.partOf f) ≤ length bytes) (found-meant bytes) (found-short bytes (foundIn bytes)))
+    (λ _. subst (λ (f : meaning.Found). length (meaning.partOf f) ≤ length bytes) (found-meant bytes)
+    (found-short bytes (foundIn bytes)))
     (λ _. omega arith))
 
-pub read-out : (w h m n stride : ℕ) (canvas bytes table : List ℕ) {part : List ℕ} {owner : Palette} (x : Finished) (l₁ after : List ℕ) {r : ℕ} {report : List ℕ}
+-- the limits that the caller gave as four numbers
+abbrev four : ℕ → ℕ → ℕ → ℕ → Limits
+four w h m n = record { width = w; height = h; repeats = m; pixels = n }
+
+pub read-out : (w h m n stride : ℕ) (canvas bytes table : List ℕ) {part : List ℕ} {owner : Palette}
+    (x : Finished) (l₁ after : List ℕ) {r : ℕ} {report : List ℕ}
     → owner ≡ ofTable table
-    → part ≡ partHandedBack (limitsMeant (record { width = w; height = h; repeats = m; pixels = n })) stride (length canvas) bytes
-    → readMeant x l₁ ≡ readWhole (limitsMeant (record { width = w; height = h; repeats = m; pixels = n })) stride owner canvas bytes
+    → part ≡ partHandedBack (limitsMeant (four w h m n)) stride (length canvas) bytes
+    → readMeant x l₁ ≡ readWhole (limitsMeant (four w h m n)) stride owner canvas bytes
     → ofTable after ≡ x .palette
     → report ≡ reportNumbers (finishMeant (x .answer) (x .palette)) (length bytes - length part) (length part)
     → r ≡ refusalNumber (finishMeant (x .answer) (x .palette))
-    → (r, l₁, ofTable after, report) ≡ sixelRead (record { width = w; height = h; repeats = m; pixels = n }) stride canvas bytes (ofTable table)
+    → (r, l₁, ofTable after, report)
+    ≡ sixelRead (record { width = w; height = h; repeats = m; pixels = n }) stride canvas bytes (ofTable table)
 unfolding sixelRead readMeant limitsMeant
 read-out w h m n stride canvas bytes table {part} {owner} x l₁ after {r} {report} own handed read palette reports answers =
     ap (λ (i : ℕ). (i, l₁, ofTable after, report)) answers
     ∙ ap₂ (λ (p : Palette) (us : List ℕ). (number, l₁, p, us)) palette reports
-    ∙ ap (λ (us : List ℕ). (number, l₁, x .palette, reportNumbers (finishMeant (x .answer) (x .palette)) (length bytes - length us) (length us))) handed
-    ∙ ap (λ (y : Read). (refusalNumber (y .answer), y .canvas, y .palette, reportNumbers (y .answer) (length bytes - length given) (length given)))
+    ∙ ap (λ (us : List ℕ). (number, l₁, x .palette, nine answer us)) handed
+    ∙ ap (λ (y : Read). (refusalNumber (y .answer), y .canvas, y .palette, nine (y .answer) given))
     (read ∙ ap (λ (p : Palette). readWhole limits stride p canvas bytes) own)
   where
     limits : drawing.Limits
@@ -127,7 +124,14 @@ read-out w h m n stride canvas bytes table {part} {owner} x l₁ after {r} {repo
     given : List ℕ
     given = partHandedBack limits stride (length canvas) bytes
 
+    answer : meant.Finished
+    answer = finishMeant (x .answer) (x .palette)
+
     number : ℕ
-    number = refusalNumber (finishMeant (x .answer) (x .palette))
+    number = refusalNumber answer
+
+    -- the report with a part, which reaches to the end of the bytes
+    nine : meant.Finished → List ℕ → List ℕ
+    nine y us = reportNumbers y (length bytes - length us) (length us)
 
 pub ruleset readings = (part-short, read-out)

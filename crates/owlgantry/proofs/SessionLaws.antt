@@ -1,5 +1,5 @@
--- A session in memory is the session: what the memory holds after a call is what the call by value hands back, so that histories over the exports
--- are the histories of `payload` and `dcs`. And 48 zeros are a failed session, which answers 9.
+-- A session in memory is the session: what the memory holds after a call is what the call by value hands back, so that
+-- histories over the exports are the histories of `payload` and `dcs`. And 48 zeros are a failed session, which answers 9.
 use Prim.Native.Nat.{ℕ}
 use mathlib.Core.List.{List}
 use mathlib.Core.Path.{_≡_, refl, ap, ap₂, _∙_}
@@ -10,7 +10,7 @@ use Rattle.frame.specs.Numbers.{numberOf}
 use Rattle.payload.specs.declared.Session as payloadSession
 use Rattle.payload.specs.declared.Settings.{Settings}
 use Rattle.payload.specs.Codes.{givenFrom, lifeFrom}
-use Rattle.payload.specs.Judge.{isFailed, feedJudged}
+use Rattle.payload.specs.Refusals.{isFailed, feedJudged}
 use Rattle.payload.specs.Memory as payloadMemory
 use Rattle.payload.specs.Ranges as payloadRanges
 use Rattle.payload.specs.Session as payload
@@ -44,22 +44,25 @@ payload-opens l stride p1 p2 palette canvas =
     record {
       numbers = refl;
       registers = refl;
-      ranged = payloadKept.opened-ranged-by l stride o (ofTable palette) canvas (record { p1 = payloadKept.given-ranged p1; p2 = payloadKept.given-ranged p2 });
+      ranged = payloadKept.opened-ranged-by l stride o (ofTable palette) canvas
+          (record { p1 = payloadKept.given-ranged p1; p2 = payloadKept.given-ranged p2 });
     }
 
 module _ (s : payloadSession.Session) (ns ts : List ℕ) (h : PayloadHeld s ns ts) where
   -- a feed over the memory is the feed of the session
-  pub payload-feeds : (canvas bytes : List ℕ) (allowance : ℕ) → payloadFed ns ts canvas bytes allowance ≡ payloadFedAs (payload.fedBy s canvas bytes allowance)
+  pub payload-feeds : (canvas bytes : List ℕ) (allowance : ℕ)
+      → payloadFed ns ts canvas bytes allowance ≡ payloadFedAs (payload.fedBy s canvas bytes allowance)
   unfolding payloadFed
   payload-feeds canvas bytes allowance =
       ap (λ (x : payloadSession.Session). payloadFedAs (payload.fedBy x canvas bytes allowance)) (payload-held h)
 
   -- and the memory then holds the session after it
   pub payload-feeds-on : (canvas bytes : List ℕ) (allowance : ℕ)
-      → PayloadHeld (payload.fedBy s canvas bytes allowance .0 .session) (payloadFed ns ts canvas bytes allowance .1) (payloadFed ns ts canvas bytes allowance .2)
+      → PayloadHeld (payload.fedBy s canvas bytes allowance .0 .session)
+      (payloadFed ns ts canvas bytes allowance .1) (payloadFed ns ts canvas bytes allowance .2)
   unfolding payloadFedAs
   payload-feeds-on canvas bytes allowance =
-      let e : payloadFed ns ts canvas bytes allowance ≡ payloadFedAs (payload.fedBy s canvas bytes allowance) = payload-feeds canvas bytes allowance in
+      let e = payload-feeds canvas bytes allowance in
       record {
         numbers = ap (λ (x : ℕ × List ℕ × List ℕ × List ℕ × List ℕ). x .1) e;
         registers = ap (λ (x : ℕ × List ℕ × List ℕ × List ℕ × List ℕ). x .2) e;
@@ -67,9 +70,11 @@ module _ (s : payloadSession.Session) (ns ts : List ℕ) (h : PayloadHeld s ns t
       }
 
   -- a finish over the memory is the finish of the session
-  pub payload-finishes : (palette canvas : List ℕ) → payloadFinished ns ts palette canvas ≡ finishedAs (payload.finishedBy s (ofTable palette) canvas)
+  pub payload-finishes : (palette canvas : List ℕ)
+      → payloadFinished ns ts palette canvas ≡ finishedAs (payload.finishedBy s (ofTable palette) canvas)
   unfolding payloadFinished
-  payload-finishes palette canvas = ap (λ (x : payloadSession.Session). finishedAs (payload.finishedBy x (ofTable palette) canvas)) (payload-held h)
+  payload-finishes palette canvas =
+      ap (λ (x : payloadSession.Session). finishedAs (payload.finishedBy x (ofTable palette) canvas)) (payload-held h)
 
 -- ---- a DCS session
 
@@ -82,30 +87,35 @@ dcs-held : {s : dcsSession.Session} {ns ts : List ℕ} → DcsHeld s ns ts → d
 dcs-held {s} h = ap₂ dcsMemory.sessionFrom (h .numbers) (h .registers) ∙ dcsLaws.from-memory s (h .ranged)
 
 pub dcs-opens : (l : Limits) (stride size : ℕ) (palette : List ℕ)
-    → DcsHeld (dcs.openedBy l stride (ofTable palette) size .session) (dcsOpened l stride size palette .1) (dcsOpened l stride size palette .2)
+    → DcsHeld (dcs.openedBy l stride (ofTable palette) size .session)
+    (dcsOpened l stride size palette .1) (dcsOpened l stride size palette .2)
 unfolding dcsOpened dcsOpenedAs
 dcs-opens l stride size palette =
     record { numbers = refl; registers = refl; ranged = dcsKept.opened-ranged-by l stride (ofTable palette) size }
 
 module _ (s : dcsSession.Session) (ns ts : List ℕ) (h : DcsHeld s ns ts) where
-  pub dcs-feeds : (canvas bytes : List ℕ) (allowance : ℕ) → dcsFed ns ts canvas bytes allowance ≡ dcsFedAs (dcs.fedBy s canvas bytes allowance)
+  pub dcs-feeds : (canvas bytes : List ℕ) (allowance : ℕ)
+      → dcsFed ns ts canvas bytes allowance ≡ dcsFedAs (dcs.fedBy s canvas bytes allowance)
   unfolding dcsFed
   dcs-feeds canvas bytes allowance = ap (λ (x : dcsSession.Session). dcsFedAs (dcs.fedBy x canvas bytes allowance)) (dcs-held h)
 
   pub dcs-feeds-on : (canvas bytes : List ℕ) (allowance : ℕ) → dcsKept.Bytes bytes
-      → DcsHeld (dcs.fedBy s canvas bytes allowance .0 .session) (dcsFed ns ts canvas bytes allowance .1) (dcsFed ns ts canvas bytes allowance .2)
+      → DcsHeld (dcs.fedBy s canvas bytes allowance .0 .session)
+      (dcsFed ns ts canvas bytes allowance .1) (dcsFed ns ts canvas bytes allowance .2)
   unfolding dcsFedAs
   dcs-feeds-on canvas bytes allowance k =
-      let e : dcsFed ns ts canvas bytes allowance ≡ dcsFedAs (dcs.fedBy s canvas bytes allowance) = dcs-feeds canvas bytes allowance in
+      let e = dcs-feeds canvas bytes allowance in
       record {
         numbers = ap (λ (x : ℕ × List ℕ × List ℕ × List ℕ × List ℕ). x .1) e;
         registers = ap (λ (x : ℕ × List ℕ × List ℕ × List ℕ × List ℕ). x .2) e;
         ranged = dcsKept.fed-ranged-by s (h .ranged) canvas bytes allowance k;
       }
 
-  pub dcs-finishes : (palette canvas : List ℕ) → dcsFinished ns ts palette canvas ≡ finishedAs (dcs.finishedBy s (ofTable palette) canvas)
+  pub dcs-finishes : (palette canvas : List ℕ)
+      → dcsFinished ns ts palette canvas ≡ finishedAs (dcs.finishedBy s (ofTable palette) canvas)
   unfolding dcsFinished
-  dcs-finishes palette canvas = ap (λ (x : dcsSession.Session). finishedAs (dcs.finishedBy x (ofTable palette) canvas)) (dcs-held h)
+  dcs-finishes palette canvas =
+      ap (λ (x : dcsSession.Session). finishedAs (dcs.finishedBy x (ofTable palette) canvas)) (dcs-held h)
 
 -- ---- zeros
 

@@ -22,7 +22,9 @@ unfolding sizeOrNumber
 benchDecoded stride canvas bytes =
     let s : Setting = settingFor houseLimits stride (length canvas) in
     let out : Outcome = payload s noParameters standard bytes in
-    cond (opens houseLimits stride (length canvas)) (sizeOrNumber (finish noParameters out), shown stride (some (out .drawing)) canvas) (11, canvas)
+    cond (opens houseLimits stride (length canvas))
+    (sizeOrNumber (finish noParameters out), shown stride (some (out .drawing)) canvas)
+    (11, canvas)
 
 -- a picture of the code no larger than the house's limits
 abbrev pub SizeWithin : Finishing → Type 0

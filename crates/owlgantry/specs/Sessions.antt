@@ -1,5 +1,5 @@
--- What the calls over a session in the caller's memory come to: the number that is answered, the session's numbers and registers, the canvas
--- and the report after it. Each is the call by value on the session that the memory holds.
+-- What the calls over a session in the caller's memory come to: the number that is answered, the session's numbers and
+-- registers, the canvas and the report after it. Each is the call by value on the session that the memory holds.
 use Prim.Native.Nat.{ℕ}
 use mathlib.Core.List.{List, [], _∷_}
 use lib.ListN.{replicate, take}
@@ -91,8 +91,13 @@ payloadOpened l stride p1 p2 palette canvas =
 -- a feed's
 unfoldable pub payloadFedAs : payloadFedRecord.Fed × List ℕ → ℕ × List ℕ × List ℕ × List ℕ × List ℕ
 unfolding payloadNumber payloadReport
-payloadFedAs x =
-    (payloadNumber (x .0 .answer), payloadMemory.numbersOf (x .0 .session), payloadMemory.tableOf (x .0 .session), x .1, payloadReport (x .0 .answer))
+payloadFedAs x = (
+  payloadNumber (x .0 .answer),
+  payloadMemory.numbersOf (x .0 .session),
+  payloadMemory.tableOf (x .0 .session),
+  x .1,
+  payloadReport (x .0 .answer),
+)
 
 unfoldable pub payloadFed : List ℕ → List ℕ → List ℕ → List ℕ → ℕ → ℕ × List ℕ × List ℕ × List ℕ × List ℕ
 unfolding payloadFedAs
@@ -122,8 +127,13 @@ dcsOpened l stride size palette = dcsOpenedAs (dcs.openedBy l stride (ofTable pa
 
 unfoldable pub dcsFedAs : dcsFedRecord.Fed × List ℕ → ℕ × List ℕ × List ℕ × List ℕ × List ℕ
 unfolding dcsNumber dcsReport
-dcsFedAs x =
-    (dcsNumber (x .0 .answer), dcsMemory.numbersOf (x .0 .session), dcsMemory.tableOf (x .0 .session), x .1, dcsReport (x .0 .answer))
+dcsFedAs x = (
+  dcsNumber (x .0 .answer),
+  dcsMemory.numbersOf (x .0 .session),
+  dcsMemory.tableOf (x .0 .session),
+  x .1,
+  dcsReport (x .0 .answer),
+)
 
 unfoldable pub dcsFed : List ℕ → List ℕ → List ℕ → List ℕ → ℕ → ℕ × List ℕ × List ℕ × List ℕ × List ℕ
 unfolding dcsFedAs

@@ -28,7 +28,8 @@ pub extern "C" fn owlgantry_raw_dcs_open(
     session: &mut [u64; 48],
     registers: &mut [u32; 256],
 ) -> u64
-    ensures { λ r. ⌜ (r, now (session .exit), now (registers .exit)) ≡ dcsOpened (record { width = width; height = height; repeats = repeats; pixels = pixels }) stride length (now (palette .entry)) ⌝ }
+    ensures { λ r. ⌜ (r, now (session .exit), now (registers .exit))
+        ≡ dcsOpened (record { width = width; height = height; repeats = repeats; pixels = pixels }) stride length (now (palette .entry)) ⌝ }
 {
     let limits = Limits {
         width,
@@ -57,7 +58,8 @@ pub extern "C" fn owlgantry_raw_dcs_feed(
     allowance: usize,
     report: &mut [u64; 4],
 ) -> u64
-    ensures { λ r. ⌜ (r, now (session .exit), now (registers .exit), now (canvas .exit), now (report .exit)) ≡ dcsFed (now (session .entry)) (now (registers .entry)) (now (canvas .entry)) (now (bytes .entry)) allowance ⌝ }
+    ensures { λ r. ⌜ (r, now (session .exit), now (registers .exit), now (canvas .exit), now (report .exit))
+        ≡ dcsFed (now (session .entry)) (now (registers .entry)) (now (canvas .entry)) (now (bytes .entry)) allowance ⌝ }
 {
     let before = session_from(session, registers);
     let fed = feed(before, canvas, bytes, allowance);
@@ -78,7 +80,8 @@ pub extern "C" fn owlgantry_raw_dcs_finish(
     palette: &mut [u32; 256],
     report: &mut [u64; 7],
 ) -> u64
-    ensures { λ r. ⌜ (r, now (session .exit), now (palette .exit), now (canvas .exit), now (report .exit)) ≡ dcsFinished (now (session .entry)) (now (registers .entry)) (now (palette .entry)) (now (canvas .entry)) ⌝ }
+    ensures { λ r. ⌜ (r, now (session .exit), now (palette .exit), now (canvas .exit), now (report .exit))
+        ≡ dcsFinished (now (session .entry)) (now (registers .entry)) (now (palette .entry)) (now (canvas .entry)) ⌝ }
 {
     let before = session_from(session, registers);
     let owner = Palette::of_table(*palette);

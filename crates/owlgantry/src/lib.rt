@@ -19,8 +19,8 @@ use oneshot::payload_part;
 use oneshot::read;
 use oneshot::read_in_pieces;
 use payload::house_limits;
-use payload::judge::may_open;
 use payload::no_settings;
+use payload::refusals::may_open;
 use report::refusal_number;
 use report::report_numbers;
 use report::size_or_number;
@@ -74,7 +74,9 @@ pub extern "C" fn owlgantry_raw_read(
     palette: &mut [u32; 256],
     report: &mut [u64; 9],
 ) -> u64
-    ensures { λ r. ⌜ (r, now (canvas .exit), ofTable (now (palette .exit)), now (report .exit)) ≡ sixelRead (record { width = width; height = height; repeats = repeats; pixels = pixels }) stride (now (canvas .entry)) (now (bytes .entry)) (ofTable (now (palette .entry))) ⌝ }
+    ensures { λ r. ⌜ (r, now (canvas .exit), ofTable (now (palette .exit)), now (report .exit))
+        ≡ sixelRead (record { width = width; height = height; repeats = repeats; pixels = pixels }) stride
+        (now (canvas .entry)) (now (bytes .entry)) (ofTable (now (palette .entry))) ⌝ }
 {
     let limits = Limits {
         width,

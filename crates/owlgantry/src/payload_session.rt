@@ -33,7 +33,9 @@ pub extern "C" fn owlgantry_raw_payload_open(
     session: &mut [u64; 48],
     registers: &mut [u32; 256],
 ) -> u64
-    ensures { λ r. ⌜ (r, now (session .exit), now (registers .exit), now (canvas .exit)) ≡ payloadOpened (record { width = width; height = height; repeats = repeats; pixels = pixels }) stride p1 p2 (now (palette .entry)) (now (canvas .entry)) ⌝ }
+    ensures { λ r. ⌜ (r, now (session .exit), now (registers .exit), now (canvas .exit))
+        ≡ payloadOpened (record { width = width; height = height; repeats = repeats; pixels = pixels }) stride p1 p2
+        (now (palette .entry)) (now (canvas .entry)) ⌝ }
 {
     let limits = Limits {
         width,
@@ -65,7 +67,8 @@ pub extern "C" fn owlgantry_raw_payload_feed(
     allowance: usize,
     report: &mut [u64; 4],
 ) -> u64
-    ensures { λ r. ⌜ (r, now (session .exit), now (registers .exit), now (canvas .exit), now (report .exit)) ≡ payloadFed (now (session .entry)) (now (registers .entry)) (now (canvas .entry)) (now (bytes .entry)) allowance ⌝ }
+    ensures { λ r. ⌜ (r, now (session .exit), now (registers .exit), now (canvas .exit), now (report .exit))
+        ≡ payloadFed (now (session .entry)) (now (registers .entry)) (now (canvas .entry)) (now (bytes .entry)) allowance ⌝ }
 {
     let before = session_from(session, registers);
     let fed = feed(before, canvas, bytes, allowance);
@@ -89,7 +92,8 @@ pub extern "C" fn owlgantry_raw_payload_finish(
     palette: &mut [u32; 256],
     report: &mut [u64; 7],
 ) -> u64
-    ensures { λ r. ⌜ (r, now (session .exit), now (palette .exit), now (canvas .exit), now (report .exit)) ≡ payloadFinished (now (session .entry)) (now (registers .entry)) (now (palette .entry)) (now (canvas .entry)) ⌝ }
+    ensures { λ r. ⌜ (r, now (session .exit), now (palette .exit), now (canvas .exit), now (report .exit))
+        ≡ payloadFinished (now (session .entry)) (now (registers .entry)) (now (palette .entry)) (now (canvas .entry)) ⌝ }
 {
     let before = session_from(session, registers);
     let owner = Palette::of_table(*palette);

@@ -7,7 +7,7 @@ use mathlib.Core.List.{List, _++_}
 use mathlib.Core.Path.{_≡_, refl, sym, ap, _∙_, subst}
 use lib.ListN.{length}
 use Rattle.frame.specs.declared.Ground.{Ground}
-use Rattle.bytewise.specs.Feed.{Reached}
+use Rattle.reference.specs.Step.{Reached}
 use Rattle.meaning.specs.Calls as calls
 use Rattle.meaning.specs.Callers as callers
 use Rattle.meaning.specs.Callers.{statusTold, afterFeed}
@@ -105,13 +105,16 @@ module _ {opening : List ℕ} {s : Setting} {o : Parameters} {c : Caller Held} {
   fed-feeds : Feeds opening fed (calls.answered (λ (r : Reading). r .over) m run)
   unfolding m run presented calls.feedPayload
   fed-feeds =
-      subst (λ (us : List ℕ). Feeds opening (fedBy (c .state .0) (c .state .1) (us ++ z) a) (calls.answered (λ (r : Reading). r .over) m run)) (sym (h .learned .unread live))
+      subst (λ (us : List ℕ). Feeds opening (fedBy (c .state .0) (c .state .1) (us ++ z) a) (calls.answered (λ (r : Reading). r .over) m run))
+      (sym (h .learned .unread live))
       (subst (Feeds opening (fedBy (c .state .0) (c .state .1) presented a))
-      (feed-answers (λ (r : Reading). r .drawing .area) payloadStep rested (λ (r : Reading). r .over) m (length opening) a live (stands-fit (h .session)) enough presented)
+      (feed-answers (λ (r : Reading). r .drawing .area) payloadStep rested (λ (r : Reading). r .over) m (length opening) a live
+      (stands-fit (h .session)) enough presented)
       (subst (λ (n : ℕ). Feeds opening (fedBy (c .state .0) (c .state .1) presented a) (calls.feedPayload m n a presented)) (stands-long (h .session))
       (feed-stands (h .session) presented a)))
 
-  after-stands : CallerStands opening s o (afterFeed c (c .unread ++ z) (fed .0 .session, fed .1) (answerMeant (fed .0 .answer))) (having (payloadStep s) (rested s) k presented run)
+  after-stands : CallerStands opening s o (afterFeed c (c .unread ++ z) (fed .0 .session, fed .1) (answerMeant (fed .0 .answer)))
+      (having (payloadStep s) (rested s) k presented run)
   unfolding afterFeed having calls.sessionAfter run m presented
   after-stands =
       let f : Feeds opening fed (calls.answered (λ (r : Reading). r .over) m run) = fed-feeds in
@@ -122,7 +125,9 @@ module _ {opening : List ℕ} {s : Setting} {o : Parameters} {c : Caller Held} {
         learned =
             learned-more (payloadStep s) (rested s) (h .learned) live z (fed .0 .session, fed .1)
             (subst (λ (x : calls.Answer ℕ). Tells (run .how) run x) (sym (f .answer))
-            (subst (λ (said : How). Tells said run (calls.answered (λ (r : Reading). r .over) m run .answer)) (over-told (run .how) (run .state .over) run-over) tells));
+            (subst (λ (said : How). Tells said run (calls.answered (λ (r : Reading). r .over) m run .answer))
+            (over-told (run .how) (run .state .over) run-over)
+            tells));
         over = λ e fine. over-halted (run .how) (run .state .over) run-over e fine;
         stays = halts-again (payloadStep s) (rested s) (payload-halts s) (callLaws.called (payloadStep s) (rested s) a (k .state) presented);
       }
@@ -147,7 +152,8 @@ module _ {opening : List ℕ} {s : Setting} {o : Parameters} (A : ℕ) (enough :
       toldLaws.calls-stand (tellWith fedBy) (payloadStep s) (rested s) (CallerStands opening s o) A may-there turn-stands
 
   -- a call that neither stopped nor was refused tells whether the end has come
-  turn-tells : (c : Caller Held) (k : Caller Reading) → CallerStands opening s o c k → (t : Turn) → A ≤ allowanceOf t → mayCall t (k .how) ≡ true → (x : calls.Status ℕ)
+  turn-tells : (c : Caller Held) (k : Caller Reading) → CallerStands opening s o c k → (t : Turn) → A ≤ allowanceOf t
+      → mayCall t (k .how) ≡ true → (x : calls.Status ℕ)
       → (called c t .how ≡ stopped → ⊥) → isRefused (called c t .how) ≡ false
       → statusTold x (tellWith fedBy (c .state) (c .unread ++ pieceOf t) (allowanceOf t) .1) ≡ calls.atEnd (turn (payloadStep s) (rested s) k t .state .over)
   unfolding callers.called afterFeed turn having run presented
@@ -162,4 +168,5 @@ module _ {opening : List ℕ} {s : Setting} {o : Parameters} (A : ℕ) (enough :
       → (ts : List Turn) → properCalls A c ts ≡ true → (callsOf c ts .how ≡ stopped → ⊥) → isRefused (callsOf c ts .how) ≡ false
       → callers.lastStatus (tellWith fedBy) x c ts ≡ calls.atEnd (turns (payloadStep s) (rested s) k ts .state .over)
   status-stands =
-      toldLaws.status-stands (tellWith fedBy) (payloadStep s) (rested s) (CallerStands opening s o) A may-there turn-stands (λ (r : Reading). r .over) turn-tells
+      toldLaws.status-stands (tellWith fedBy) (payloadStep s) (rested s) (CallerStands opening s o) A may-there turn-stands
+      (λ (r : Reading). r .over) turn-tells

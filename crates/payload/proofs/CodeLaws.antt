@@ -8,17 +8,18 @@ use Rattle.numbers.specs.Memory as parameters
 use Rattle.colours.specs.declared.Palette.{Palette}
 use Rattle.colours.specs.Palette.{ofTable}
 use Rattle.frame.specs.declared.Command.{Command}
+use Rattle.frame.specs.declared.Extent.{Extent}
 use Rattle.frame.specs.declared.Ground.{Ground}
 use Rattle.frame.specs.declared.Kind.{Kind}
 use Rattle.frame.specs.declared.Pen.{Pen}
 use Rattle.frame.specs.declared.Raster.{Raster}
-use Rattle.frame.specs.declared.Sheet.{Sheet}
+use Rattle.frame.specs.declared.VisibleArea.{VisibleArea}
 use Rattle.payload.specs.declared.Given.{Given}
 use Rattle.payload.specs.declared.Life.{Life}
 use Rattle.payload.specs.declared.Session.{Session}
 use Rattle.payload.specs.declared.Settings.{Settings}
 use Rattle.payload.specs.Codes.{givenNumber, givenFrom, lifeNumber, lifeFrom, kindNumber, kindFrom, colorNumber, colorFrom}
-use Rattle.payload.specs.Memory.{groundNumbers, penNumbers, sheetNumbers, rasterNumbers, commandNumbers, frameNumbers, ownNumbers, numbersOf, tableOf, groundFrom, settingsFrom, penFrom, sheetFrom, rasterFrom, nineFrom, commandFrom, frameFrom, sessionFrom}
+use Rattle.payload.specs.Memory.{groundNumbers, penNumbers, areaNumbers, extentNumbers, rasterNumbers, commandNumbers, frameNumbers, ownNumbers, numbersOf, tableOf, groundFrom, settingsFrom, penFrom, areaFrom, extentFrom, rasterFrom, nineFrom, commandFrom, frameFrom, sessionFrom}
 
 -- ---- one number each
 
@@ -59,10 +60,10 @@ pub numbers-told : (s : Session) {vs : List ℕ} {background p1 p2 life color ki
     ∷ s .frame .pen .repeat
     ∷ s .frame .pen .register
     ∷ color
-    ∷ s .frame .sheet .width
-    ∷ s .frame .sheet .height
-    ∷ s .frame .sheet .right
-    ∷ s .frame .sheet .bottom
+    ∷ s .frame .area .width
+    ∷ s .frame .area .height
+    ∷ s .frame .extent .right
+    ∷ s .frame .extent .bottom
     ∷ s .frame .raster .ratio
     ∷ s .frame .raster .width
     ∷ s .frame .raster .height
@@ -79,7 +80,7 @@ pub numbers-told : (s : Session) {vs : List ℕ} {background p1 p2 life color ki
     ∷ getD vs 8 0
     ∷ 0 ∷ 0 ∷ 0 ∷ 0 ∷ 0 ∷ 0 ∷ 0 ∷ 0 ∷ 0 ∷ 0 ∷ 0 ∷ 0 ∷ 0 ∷ 0 ∷ []
     ≡ numbersOf s
-unfolding numbersOf ownNumbers groundNumbers frameNumbers penNumbers sheetNumbers rasterNumbers commandNumbers parameters.numbersOf
+unfolding numbersOf ownNumbers groundNumbers frameNumbers penNumbers areaNumbers extentNumbers rasterNumbers commandNumbers parameters.numbersOf
 numbers-told s ev eb e1 e2 el ec ek = rw (ev, eb, e1, e2, el, ec, ek) refl
 
 -- ---- parts read
@@ -96,7 +97,8 @@ pub ground-of : (ns : List ℕ) {px : List ℕ} → px ≡ colorFrom (getD ns 6 
 unfolding groundFrom
 ground-of ns e = rw e refl
 
-pub settings-of : (ns : List ℕ) {p q : Given} → p ≡ givenFrom (getD ns 8 0) → q ≡ givenFrom (getD ns 9 0) → _≡_ {A = Settings} (record { p1 = p; p2 = q }) (settingsFrom ns)
+pub settings-of : (ns : List ℕ) {p q : Given} → p ≡ givenFrom (getD ns 8 0) → q ≡ givenFrom (getD ns 9 0)
+    → _≡_ {A = Settings} (record { p1 = p; p2 = q }) (settingsFrom ns)
 unfolding settingsFrom
 settings-of ns e f = rw (e, f) refl
 
@@ -110,13 +112,21 @@ pub command-of : (ns : List ℕ) {k : Kind} {p : Parameters} → k ≡ kindFrom 
 unfolding commandFrom
 command-of ns e f = rw (e, f) refl
 
-pub session-of : (ns table : List ℕ) {g : Ground} {o : Settings} {x : Life} {p : Pen} {a : Sheet} {r : Raster} {c : Command} {q : Palette}
-    → g ≡ groundFrom ns → o ≡ settingsFrom ns → x ≡ lifeFrom (getD ns 10 0) → p ≡ penFrom ns → a ≡ sheetFrom ns → r ≡ rasterFrom ns → c ≡ commandFrom ns → q ≡ ofTable table
+pub session-of : (ns table : List ℕ) {g : Ground} {o : Settings} {x : Life} {p : Pen} {a : VisibleArea} {e : Extent} {r : Raster} {c : Command} {q : Palette}
+    → g ≡ groundFrom ns → o ≡ settingsFrom ns → x ≡ lifeFrom (getD ns 10 0) → p ≡ penFrom ns → a ≡ areaFrom ns → e ≡ extentFrom ns → r ≡ rasterFrom ns
+    → c ≡ commandFrom ns → q ≡ ofTable table
     → _≡_ {A = Session}
-    (record { ground = g; length = getD ns 7 0; settings = o; life = x; frame = record { pen = p; sheet = a; raster = r; command = c }; palette = q })
+    (record {
+      ground = g;
+      length = getD ns 7 0;
+      settings = o;
+      life = x;
+      frame = record { pen = p; area = a; extent = e; raster = r; command = c };
+      palette = q;
+    })
     (sessionFrom ns table)
 unfolding sessionFrom frameFrom
-session-of ns table eg eo ex ep ea er ec eq = rw (eg, eo, ex, ep, ea, er, ec, eq) refl
+session-of ns table eg eo ex ep ea ee er ec eq = rw (eg, eo, ex, ep, ea, ee, er, ec, eq) refl
 
 pub ruleset read-back = (ground-of, settings-of, pen-of, command-of, session-of)
 

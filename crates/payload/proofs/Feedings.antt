@@ -12,8 +12,8 @@ use Rattle.frame.specs.declared.Frame.{Frame}
 use Rattle.frame.specs.declared.Outcome.{Outcome}
 use Rattle.frame.specs.declared.Outcome.the-variants as outcomes
 use Rattle.frame.specs.declared.Refusal.the-variants as refusals
-use Rattle.frame.specs.Commands.{Ended, ended}
-use Rattle.bytewise.specs.Feed.{Reached, feedFrom}
+use Rattle.reference.specs.Step.{Reached}
+use Rattle.reference.specs.Feed.{feedFrom}
 use Rattle.meaning.specs.Calls as calls
 use Rattle.meaning.specs.Drawing as drawing
 use Rattle.meaning.specs.Reader.{Step, next, halt, refuse, How, readAll, stopped, halted, refusedBy, Run, still, after, follow, readFrom, call}
@@ -28,11 +28,11 @@ use Rattle.payload.specs.declared.Fed.{Fed}
 use Rattle.payload.specs.declared.Life.{Life}
 use Rattle.payload.specs.declared.Life.the-variants as lives
 use Rattle.payload.specs.declared.Session.{Session}
-use Rattle.payload.specs.declared.judge.Judged.{Judged}
-use Rattle.payload.specs.declared.judge.Judged.the-variants as judged
-use Rattle.payload.specs.Judge.{isFailed, feedJudged}
+use Rattle.payload.specs.declared.refusals.Verdict.{Verdict}
+use Rattle.payload.specs.declared.refusals.Verdict.the-variants as verdicts
+use Rattle.payload.specs.Refusals.{isFailed, feedJudged}
 use Rattle.payload.specs.Session.{sessionWith, answeredIn, answeredBy, fedLive, fedIn, fedAs, fedBy}
-use Rattle.payload.proofs.JudgeLaws.{passes}
+use Rattle.payload.proofs.RefusalLaws.{passes}
 use Rattle.payload.specs.History.{SameLife, Stands, Feeds}
 use Rattle.payload.specs.Meant.{answerMeant}
 use Rattle.payload.proofs.Judgements.{judgedMeant, feed-judged}
@@ -62,14 +62,16 @@ over-halts s r x e = ap (λ (o : Option ℕ). elim o as (λ _. Step Reading) [ n
 
 module _ {opening : List ℕ} {s : Session} {l : List ℕ} {m : calls.Session Reading} (k : Stands opening s l m) where
   -- the session after a call
-  after-stands : {f : Frame} {p : Palette} {l₁ : List ℕ} (life : Life) (u : Reading) (failed : Bool) → u .parameters ≡ m .state .parameters → SameLife life failed (u .over)
+  after-stands : {f : Frame} {p : Palette} {l₁ : List ℕ} (life : Life) (u : Reading) (failed : Bool)
+      → u .parameters ≡ m .state .parameters → SameLife life failed (u .over)
       → same.SameDrawing (m .setting) opening (u .drawing) (s .ground) f p l₁ → (failed ≡ false → same.SameBegun (u .begun) (f .command))
       → Stands opening (sessionWith s life f p) l₁ (calls.sessionAfter m u failed)
   unfolding sessionWith calls.sessionAfter
   after-stands life u failed e h d b =
       record { setting = k .setting; long = k .long; parameters = e ∙ k .parameters; life = h; drawing = d; begun = b }
 
-  module _ (q : Run Reading) (t : Reached) (kept : q .state .parameters ≡ m .state .parameters) (consumed : t .progress .consumed ≡ q .consumed) (ink : t .progress .ink ≡ q .ink) where
+  module _ (q : Run Reading) (t : Reached) (kept : q .state .parameters ≡ m .state .parameters)
+      (consumed : t .progress .consumed ≡ q .consumed) (ink : t .progress .ink ≡ q .ink) where
     -- the code's answer with an outcome, the definition's with a way that the call came to its end
     coded : Outcome → Fed × List ℕ
     coded o = (answeredIn o s (t .progress) (t .palette), t .canvas)
@@ -81,7 +83,8 @@ module _ {opening : List ℕ} {s : Session} {l : List ℕ} {m : calls.Session Re
     counted : (x : calls.Status ℕ) → calls.told (t .progress .consumed) (t .progress .ink) x ≡ calls.told (q .consumed) (q .ink) x
     counted x = ap₂ (λ (n i : ℕ). calls.told n i x) consumed ink
 
-    ends-feed : (how : How) → EndsAlike (m .setting) opening (s .ground) how (q .state) t → Feeds opening (coded (t .progress .outcome)) (defined how (q .state .over))
+    ends-feed : (how : How) → EndsAlike (m .setting) opening (s .ground) how (q .state) t
+        → Feeds opening (coded (t .progress .outcome)) (defined how (q .state .over))
     unfolding coded defined answeredIn answerMeant calls.answered calls.tells calls.atEnd
     ends-feed readAll (allRead over o d) =
         subst (λ (x : Outcome). Feeds opening (coded x) (defined readAll (q .state .over))) (sym o)
@@ -139,13 +142,18 @@ module _ {opening : List ℕ} {s : Session} {l : List ℕ} {m : calls.Session Re
       subst
       (λ (y : Step Reading).
       Feeds opening (record { answer = answers.Ended 0 0 b; session = s }, l)
-      (calls.answered (λ (r : Reading). r .over) m (follow y (λ (t : Reading) (i : ℕ). cond (leb i a) (after 1 i (call (payloadStep (m .setting)) (rested (m .setting)) (a - i) t bs)) (still (rested (m .setting) (m .state)) stopped)))))
+      (calls.answered (λ (r : Reading). r .over) m
+      (follow y
+      (λ (t : Reading) (i : ℕ).
+      cond (leb i a) (after 1 i (call (payloadStep (m .setting)) (rested (m .setting)) (a - i) t bs))
+      (still (rested (m .setting) (m .state)) stopped)))))
       (sym (over-halts (m .setting) (m .state) x over))
       (again-feeds h over)
 
   -- a session that passes 9, 12 and 13, whatever its life
-  passed-feeds : (a : ℕ) (bs : List ℕ) (size : ℕ) → feedJudged s size a ≡ judged.Fine → (life : Life) → s .life ≡ life
-      → Feeds opening (fedIn life s l bs a) (calls.answered (λ (r : Reading). r .over) m (call (payloadStep (m .setting)) (rested (m .setting)) a (m .state) bs))
+  passed-feeds : (a : ℕ) (bs : List ℕ) (size : ℕ) → feedJudged s size a ≡ verdicts.Fine → (life : Life) → s .life ≡ life
+      → Feeds opening (fedIn life s l bs a)
+      (calls.answered (λ (r : Reading). r .over) m (call (payloadStep (m .setting)) (rested (m .setting)) a (m .state) bs))
   unfolding fedIn feedJudged isFailed
   passed-feeds a bs size e lives.Live q =
       let h : SameLife lives.Live (m .failed) (m .state .over) = subst (λ (x : Life). SameLife x (m .failed) (m .state .over)) q (k .life) in
@@ -163,13 +171,13 @@ pub feed-stands : {opening : List ℕ} {s : Session} {l : List ℕ} {m : calls.S
 unfolding fedBy fedAs judgedMeant answerMeant calls.feedPayload
 feed-stands {opening} {s} {l} {m} k bs a = go (feedJudged s (length l) a) refl
   where
-    go : (j : Judged) → feedJudged s (length l) a ≡ j → Feeds opening (fedAs j s l bs a) (calls.feedPayload m (length l) a bs)
-    go judged.Fine e =
+    go : (j : Verdict) → feedJudged s (length l) a ≡ j → Feeds opening (fedAs j s l bs a) (calls.feedPayload m (length l) a bs)
+    go verdicts.Fine e =
         subst (Feeds opening (fedIn (s .life) s l bs a))
         (sym (fed-as (λ (r : Reading). r .drawing .area) payloadStep rested (λ (r : Reading). r .over) m (length l) a bs
         (sym (feed-judged k (length l) a) ∙ ap judgedMeant e)))
         (passed-feeds k a bs (length l) e (s .life) refl)
-    go (judged.Refused n) e =
+    go (verdicts.Refused n) e =
         subst (Feeds opening (record { answer = answers.Refused n; session = s }, l))
         (sym (fed-as (λ (r : Reading). r .drawing .area) payloadStep rested (λ (r : Reading). r .over) m (length l) a bs
         (sym (feed-judged k (length l) a) ∙ ap judgedMeant e))) (record { answer = refl; session = k })

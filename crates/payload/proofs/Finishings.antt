@@ -14,7 +14,7 @@ use Rattle.frame.specs.declared.Outcome.the-variants as outcomes
 use Rattle.frame.specs.declared.Raster.{Raster}
 use Rattle.frame.specs.declared.Refusal.the-variants as refusals
 use Rattle.frame.specs.Commands.{Ended, ended}
-use Rattle.bytewise.specs.Step.{settledStep}
+use Rattle.reference.specs.Step.{settledStep}
 use Rattle.meaning.specs.Calls as calls
 use Rattle.meaning.specs.Payload as meant
 use Rattle.meaning.specs.Sessions.{Reading, settled, finishReading}
@@ -27,11 +27,11 @@ use Rattle.payload.specs.declared.Finishing.the-variants as finishes
 use Rattle.payload.specs.declared.Given.{Given}
 use Rattle.payload.specs.declared.Session.{Session}
 use Rattle.payload.specs.declared.Settings.{Settings}
-use Rattle.payload.specs.declared.judge.Judged.{Judged}
-use Rattle.payload.specs.declared.judge.Judged.the-variants as judged
-use Rattle.payload.specs.Judge.{isFailed, finishJudged}
+use Rattle.payload.specs.declared.refusals.Verdict.{Verdict}
+use Rattle.payload.specs.declared.refusals.Verdict.the-variants as verdicts
+use Rattle.payload.specs.Refusals.{isFailed, finishJudged}
 use Rattle.payload.specs.Session.{ratioFor, reportedAs, turnedAway, pictured, finishedIn, finishedLive, finishedAs, finishedBy}
-use Rattle.payload.proofs.JudgeLaws.{passes}
+use Rattle.payload.proofs.RefusalLaws.{passes}
 use Rattle.payload.specs.History.{Stands, Finishes, pictures, declines}
 use Rattle.payload.specs.Meant.{givenMeant, parametersMeant, ratioMeant, reportMeant}
 use Rattle.payload.proofs.Openings.{clear-meant}
@@ -48,10 +48,10 @@ report-meant f o p =
     ap₂
     (λ (x : meant.Ratio) (t : Bool).
     record {
-      size = areaOf (f .sheet .width) (f .sheet .height);
+      size = areaOf (f .area .width) (f .area .height);
       ratio = x;
       clear = t;
-      extent = areaOf (f .sheet .right) (f .sheet .bottom);
+      extent = areaOf (f .extent .right) (f .extent .bottom);
       palette = p;
     })
     (ratio-meant (f .raster) (o .p1))
@@ -63,16 +63,16 @@ module _ {opening : List ℕ} {s : Session} {l : List ℕ} {m : calls.Session Re
   last = ended (s .frame) (s .ground) (s .palette)
 
   -- a report: the drawing with the pending command carried out is on the canvas
-  live-pictures : last .stepped .outcome ≡ outcomes.Settled
-      → same.SameDrawing (m .setting) opening (settled (m .setting) (m .state) .drawing) (s .ground) (last .stepped .frame) (last .palette)
+  live-pictures : last .progress .outcome ≡ outcomes.Read
+      → same.SameDrawing (m .setting) opening (settled (m .setting) (m .state) .drawing) (s .ground) (last .progress .frame) (last .palette)
       (settledStep (s .frame) (s .ground) (s .palette) l .canvas)
       → finishedLive s owner l
-      ≡ (record { answer = finishes.Picture (reportedAs (last .stepped .frame) (s .settings)); palette = last .palette }, calls.payloadShownAtFinish m opening)
+      ≡ (record { answer = finishes.Picture (reportedAs (last .progress .frame) (s .settings)); palette = last .palette }, calls.payloadShownAtFinish m opening)
   unfolding last finishedLive finishedIn pictured settledStep calls.payloadShownAtFinish calls.shown same.canvasOf
   live-pictures e d =
-      ap (λ (o : Outcome). finishedIn o s owner (last .stepped .frame) (last .palette) l) e
+      ap (λ (o : Outcome). finishedIn o s owner (last .progress .frame) (last .palette) l) e
       ∙ ap
-      (λ (c : List ℕ). (record { answer = finishes.Picture (reportedAs (last .stepped .frame) (s .settings)); palette = last .palette }, c))
+      (λ (c : List ℕ). (record { answer = finishes.Picture (reportedAs (last .progress .frame) (s .settings)); palette = last .palette }, c))
       (d .canvas)
 
   live-finishes : {x : meant.Finished} → Finishing (m .setting) opening (m .state) (s .ground) x (settledStep (s .frame) (s .ground) (s .palette) l)
@@ -83,16 +83,21 @@ module _ {opening : List ℕ} {s : Session} {l : List ℕ} {m : calls.Session Re
       (subst
       (λ (r : meant.Report).
       Finishes (calls.payloadShownAtFinish m opening) owner l
-      (record { answer = finishes.Picture (reportedAs (last .stepped .frame) (s .settings)); palette = last .palette }, calls.payloadShownAtFinish m opening)
+      (record { answer = finishes.Picture (reportedAs (last .progress .frame) (s .settings)); palette = last .palette }, calls.payloadShownAtFinish m opening)
       (meant.finished r))
-      (report-meant (last .stepped .frame) (s .settings) (last .palette)
-      ∙ ap (λ (o : meant.Parameters). same.reportFrom o (last .stepped .frame) (last .palette)) (sym (k .parameters))
+      (report-meant (last .progress .frame) (s .settings) (last .palette)
+      ∙ ap (λ (o : meant.Parameters). same.reportFrom o (last .progress .frame) (last .palette)) (sym (k .parameters))
       ∙ sym rep)
       pictures)
   live-finishes (declining {n = n} why number e kept d) =
       subst (λ (y : Finished × List ℕ). Finishes (calls.payloadShownAtFinish m opening) owner l y (meant.turnedDown n))
-      (ap (λ (o : Outcome). finishedIn o s owner (last .stepped .frame) (last .palette) l) (sym e))
-      (subst (λ (i : ℕ). Finishes (calls.payloadShownAtFinish m opening) owner l (record { answer = finishes.Refused why; palette = owner }, l) (meant.turnedDown i)) number (declines why))
+      (ap (λ (o : Outcome). finishedIn o s owner (last .progress .frame) (last .palette) l) (sym e))
+      (subst
+      (λ (i : ℕ).
+      Finishes (calls.payloadShownAtFinish m opening) owner l (record { answer = finishes.Refused why; palette = owner }, l)
+      (meant.turnedDown i))
+      number
+      (declines why))
 
 -- a finish of the code is the definition's
 pub finish-stands : {opening : List ℕ} {s : Session} {l : List ℕ} {m : calls.Session Reading} → Stands opening s l m → (owner : Palette)
@@ -100,12 +105,13 @@ pub finish-stands : {opening : List ℕ} {s : Session} {l : List ℕ} {m : calls
 unfolding finishedBy finishedAs turnedAway judgedMeant misfit finishJudged calls.finishPayload
 finish-stands {opening} {s} {l} {m} k owner = go (finishJudged s (length l)) refl
   where
-    go : (j : Judged) → finishJudged s (length l) ≡ j → Finishes (calls.payloadShownAtFinish m opening) owner l (finishedAs j s owner l) (calls.finishPayload m (length l))
-    go judged.Fine e =
+    go : (j : Verdict) → finishJudged s (length l) ≡ j
+        → Finishes (calls.payloadShownAtFinish m opening) owner l (finishedAs j s owner l) (calls.finishPayload m (length l))
+    go verdicts.Fine e =
         let live : m .failed ≡ false = sym (failed-test k (length l)) ∙ passes refusals.Failed (isFailed (s .life)) _ e .0 in
         subst (Finishes (calls.payloadShownAtFinish m opening) owner l (finishedLive s owner l))
         (sym (finished-as (λ (r : Reading). r .drawing .area) finishReading m (length l) (sym (finish-judged k (length l)) ∙ ap judgedMeant e)))
         (live-finishes k owner (finish-agrees (record { drawing = k .drawing; begun = k .begun live })))
-    go (judged.Refused n) e =
+    go (verdicts.Refused n) e =
         subst (Finishes (calls.payloadShownAtFinish m opening) owner l (record { answer = finishes.Refused n; palette = owner }, l))
         (sym (finished-as (λ (r : Reading). r .drawing .area) finishReading m (length l) (sym (finish-judged k (length l)) ∙ ap judgedMeant e))) (declines n)

@@ -24,7 +24,7 @@ use Rattle.meaning.proofs.ToldLaws.{all-pass}
 use Rattle.meaning.proofs.WholeLaws.{reading-drawn, reading-refusal}
 use Rattle.payload.specs.declared.Session.{Session}
 use Rattle.payload.specs.declared.Settings.{Settings}
-use Rattle.payload.specs.Judge.{openable}
+use Rattle.payload.specs.Refusals.{openable}
 use Rattle.payload.specs.Session.{openedBy, fedBy, finishedBy}
 use Rattle.payload.specs.History.{Stands, Feeds, Finishes, Held, feedWith, tellWith, feedMeant, Past, fedAll, PastMeant, fedAllMeant, callsOf, properCalls}
 use Rattle.payload.specs.Meant.{parametersMeant, limitsMeant, settingMeant, answerMeant}
@@ -235,6 +235,7 @@ module _ (l : Limits) (stride : ℕ) (o : Settings) (p : Palette) (opening : Lis
         → lastStatus (tellWith fedBy) calls.needsMore atStart ts ≡ calls.atEnd (endOf (stream ts))
     unfolding ranBy ready opened calls.atEnd
     whole-status going fine =
-        let unrefused : isRefused (readPayload setting given p (stream ts) .how) ≡ false = ap (λ (q : Run Reading). isRefused (q .how)) (all-read going) ∙ fine-there fine in
+        let unrefused : isRefused (readPayload setting given p (stream ts) .how) ≡ false =
+        ap (λ (q : Run Reading). isRefused (q .how)) (all-read going) ∙ fine-there fine in
         status-stands A roomy start-stands calls.needsMore (λ g f. refl) ts ok going fine
         ∙ ap calls.atEnd (sym (ap (λ (q : Run Reading). q .state .over) (all-read going)) ∙ reading-over setting given p (stream ts) unrefused)

@@ -14,7 +14,6 @@ use Rattle.frame.specs.declared.Frame.{Frame}
 use Rattle.frame.specs.declared.Ground.{Ground}
 use Rattle.frame.specs.declared.Refusal.{Refusal}
 use Rattle.frame.specs.declared.Refusal.the-variants as refusals
-use Rattle.frame.specs.Commands.{Ended}
 use Rattle.frame.specs.Numbers.{numberOf}
 use Rattle.meaning.specs.Calls as calls
 use Rattle.meaning.specs.Drawing as drawing
@@ -23,9 +22,9 @@ use Rattle.agreement.specs.Same as same
 use Rattle.payload.specs.declared.Life.{Life}
 use Rattle.payload.specs.declared.Life.the-variants as lives
 use Rattle.payload.specs.declared.Session.{Session}
-use Rattle.payload.specs.declared.judge.Judged.{Judged}
-use Rattle.payload.specs.declared.judge.Judged.the-variants as judged
-use Rattle.payload.specs.Judge.{isFailed, fitting, misfitting, feedJudged, finishJudged}
+use Rattle.payload.specs.declared.refusals.Verdict.{Verdict}
+use Rattle.payload.specs.declared.refusals.Verdict.the-variants as verdicts
+use Rattle.payload.specs.Refusals.{isFailed, fitting, misfitting, feedJudged, finishJudged}
 use Rattle.payload.specs.History.{SameLife, Stands}
 use Rattle.payload.specs.Meant.{settingMeant}
 
@@ -50,7 +49,12 @@ module _ {opening : List ℕ} {s : Session} {l : List ℕ} {m : calls.Session Re
       ap (λ (x : drawing.Setting). x .rows) (k .setting)
       ∙ ap₂ rowsOf (sym (k .long)) (sym (ap (λ (x : drawing.Setting). x .stride) (k .setting))) in
       let room = k .drawing .sound .fits in
-      rw (eq-eqb (m .length) (m .length) refl, le-leb (m .state .drawing .area .width) (m .setting .stride) (room .stride), ← rows, le-leb (m .state .drawing .area .height) (m .setting .rows) (room .rows))
+      rw (
+        eq-eqb (m .length) (m .length) refl,
+        le-leb (m .state .drawing .area .width) (m .setting .stride) (room .stride),
+        ← rows,
+        le-leb (m .state .drawing .area .height) (m .setting .rows) (room .rows),
+      )
       refl
 
 -- ---- the refusals before a byte is read
@@ -63,7 +67,8 @@ failed-meant lives.Failed failed over h = sym h
 
 -- the code judges the canvas's rows besides its length, which comes to the same
 misfit-at : (size long rows stride w h : ℕ) → rows ≡ rowsOf long stride
-    → not (eqb size long && (eqb rows (rowsOf size stride) && (leb w stride && leb h rows))) ≡ (not (eqb size long) || not (leb w stride && leb h (rowsOf size stride)))
+    → not (eqb size long && (eqb rows (rowsOf size stride) && (leb w stride && leb h rows)))
+    ≡ (not (eqb size long) || not (leb w stride && leb h (rowsOf size stride)))
 misfit-at size long rows stride w h e =
     by-test (eqb size long)
     (λ t.
@@ -84,26 +89,27 @@ module _ {opening : List ℕ} {s : Session} {l : List ℕ} {m : calls.Session Re
   unfolding same.groundOf
   same-limit = ap (λ (g : Ground). g .limits .width) (k .drawing .ground)
 
-  same-width : s .frame .sheet .width ≡ m .state .drawing .area .width
-  unfolding same.frameOf same.sheetOf
-  same-width = ap (λ (f : Frame). f .sheet .width) (k .drawing .frame)
+  same-width : s .frame .area .width ≡ m .state .drawing .area .width
+  unfolding same.frameOf same.codeArea
+  same-width = ap (λ (f : Frame). f .area .width) (k .drawing .frame)
 
-  same-height : s .frame .sheet .height ≡ m .state .drawing .area .height
-  unfolding same.frameOf same.sheetOf
-  same-height = ap (λ (f : Frame). f .sheet .height) (k .drawing .frame)
+  same-height : s .frame .area .height ≡ m .state .drawing .area .height
+  unfolding same.frameOf same.codeArea
+  same-height = ap (λ (f : Frame). f .area .height) (k .drawing .frame)
 
   misfit-meant : (size : ℕ) → misfitting s size ≡ calls.misfits (λ (r : Reading). r .drawing .area) m size
   unfolding misfitting fitting calls.misfits fits
   misfit-meant size =
-      misfit-at size (s .length) (s .ground .rows) (s .ground .stride) (s .frame .sheet .width) (s .frame .sheet .height) same-rows
+      misfit-at size (s .length) (s .ground .rows) (s .ground .stride) (s .frame .area .width) (s .frame .area .height) same-rows
       ∙ rw (same-stride, same-width, same-height, ← k .long) refl
 
 -- a refusal as the definition has it
-unfoldable pub judgedMeant : Judged → Option ℕ
-judgedMeant judged.Fine = none
-judgedMeant (judged.Refused n) = some (numberOf n)
+unfoldable pub judgedMeant : Verdict → Option ℕ
+judgedMeant verdicts.Fine = none
+judgedMeant (verdicts.Refused n) = some (numberOf n)
 
-judged-by : (t u : Bool) (n : Refusal) (j : Judged) (o : Option ℕ) → t ≡ u → judgedMeant j ≡ o → judgedMeant (cond t (judged.Refused n) j) ≡ cond u (some (numberOf n)) o
+judged-by : (t u : Bool) (n : Refusal) (j : Verdict) (o : Option ℕ) → t ≡ u → judgedMeant j ≡ o
+    → judgedMeant (cond t (verdicts.Refused n) j) ≡ cond u (some (numberOf n)) o
 unfolding judgedMeant
 judged-by true u n j o e k = subst (λ (v : Bool). some (numberOf n) ≡ cond v (some (numberOf n)) o) e refl
 judged-by false u n j o e k = subst (λ (v : Bool). judgedMeant j ≡ cond v (some (numberOf n)) o) e k
@@ -119,17 +125,17 @@ module _ {opening : List ℕ} {s : Session} {l : List ℕ} {m : calls.Session Re
   pub finish-judged : judgedMeant (finishJudged s size) ≡ calls.firstOf (record { holds = m .failed; number = 9 } ∷ record { holds = misfit; number = 12 } ∷ [])
   unfolding finishJudged calls.firstOf numberOf judgedMeant misfit
   finish-judged =
-      judged-by (isFailed (s .life)) (m .failed) refusals.Failed (cond (misfitting s size) (judged.Refused refusals.Canvas) judged.Fine)
+      judged-by (isFailed (s .life)) (m .failed) refusals.Failed (cond (misfitting s size) (verdicts.Refused refusals.Canvas) verdicts.Fine)
       (cond misfit (some 12) none) failed-test
-      (judged-by (misfitting s size) misfit refusals.Canvas judged.Fine none (misfit-meant k size) refl)
+      (judged-by (misfitting s size) misfit refusals.Canvas verdicts.Fine none (misfit-meant k size) refl)
 
   pub feed-judged : (allowance : ℕ) → judgedMeant (feedJudged s size allowance) ≡ calls.feedRefusal (λ (r : Reading). r .drawing .area) m size allowance
   unfolding feedJudged calls.feedRefusal calls.firstOf numberOf judgedMeant misfit
   feed-judged a =
-      let low : Judged = cond (ltb a (6 * s .ground .limits .width)) (judged.Refused refusals.Allowance) judged.Fine in
+      let low : Verdict = cond (ltb a (6 * s .ground .limits .width)) (verdicts.Refused refusals.Allowance) verdicts.Fine in
       let few : Option ℕ = cond (ltb a (6 * m .setting .limits .width)) (some 13) none in
-      judged-by (isFailed (s .life)) (m .failed) refusals.Failed (cond (misfitting s size) (judged.Refused refusals.Canvas) low)
+      judged-by (isFailed (s .life)) (m .failed) refusals.Failed (cond (misfitting s size) (verdicts.Refused refusals.Canvas) low)
       (cond misfit (some 12) few) failed-test
       (judged-by (misfitting s size) misfit refusals.Canvas low few (misfit-meant k size)
-      (judged-by (ltb a (6 * s .ground .limits .width)) (ltb a (6 * m .setting .limits .width)) refusals.Allowance judged.Fine none
+      (judged-by (ltb a (6 * s .ground .limits .width)) (ltb a (6 * m .setting .limits .width)) refusals.Allowance verdicts.Fine none
       (ap (λ (w : ℕ). ltb a (6 * w)) (same-limit k)) refl))

@@ -1,6 +1,7 @@
-pub mod JudgeLaws
+pub mod RefusalLaws
+pub mod PendingLaws
 pub mod SessionLaws
-pub mod BeginLaws
+pub mod DeferredLaws
 pub mod Openings
 pub mod Judgements
 pub mod Feedings

@@ -19,7 +19,7 @@ use Rattle.payload.specs.declared.Life.{Life}
 use Rattle.payload.specs.declared.Life.the-variants as lives
 use Rattle.payload.specs.declared.Session.{Session}
 use Rattle.payload.specs.Codes.{givenNumber, givenFrom, lifeNumber, lifeFrom, kindNumber, kindFrom, colorNumber, colorFrom}
-use Rattle.payload.specs.Memory.{groundNumbers, penNumbers, sheetNumbers, rasterNumbers, commandNumbers, frameNumbers, ownNumbers, numbersOf, tableOf, groundFrom, settingsFrom, penFrom, sheetFrom, rasterFrom, nineFrom, commandFrom, frameFrom, sessionFrom}
+use Rattle.payload.specs.Memory.{groundNumbers, penNumbers, areaNumbers, extentNumbers, rasterNumbers, commandNumbers, frameNumbers, ownNumbers, numbersOf, tableOf, groundFrom, settingsFrom, penFrom, areaFrom, extentFrom, rasterFrom, nineFrom, commandFrom, frameFrom, sessionFrom}
 use Rattle.payload.specs.Ranges.{ColorRanged, GivenRanged, LifeRanged, Ranged}
 
 -- ---- one number each
@@ -71,7 +71,8 @@ color-back px h = unpacked _ _ _ _ (h .red) (h .green) (h .blue) (h .alpha) _ re
 
 -- whatever stands after its 34 numbers
 pub session-back : (s : Session) (rest : List ℕ) → Ranged s → sessionFrom (ownNumbers s ++ rest) (tableOf s) ≡ s
-unfolding sessionFrom groundFrom settingsFrom frameFrom penFrom sheetFrom rasterFrom commandFrom nineFrom ofTable ownNumbers groundNumbers frameNumbers penNumbers sheetNumbers rasterNumbers commandNumbers parameters.numbersOf
+unfolding sessionFrom groundFrom settingsFrom frameFrom penFrom areaFrom extentFrom rasterFrom commandFrom nineFrom ofTable
+    ownNumbers groundNumbers frameNumbers penNumbers areaNumbers extentNumbers rasterNumbers commandNumbers parameters.numbersOf
 session-back s rest h =
     rw (
       color-back (s .ground .background) (h .background),

@@ -28,7 +28,7 @@ use Rattle.payload.specs.declared.Opened.{Opened}
 use Rattle.payload.specs.declared.Opening.{Opening}
 use Rattle.payload.specs.declared.Opening.the-variants as openings
 use Rattle.payload.specs.declared.Settings.{Settings}
-use Rattle.payload.specs.Judge.{inRange, limitsFit, openable}
+use Rattle.payload.specs.Refusals.{inRange, limitsFit, openable}
 use Rattle.payload.specs.Session.{clearFor, backgroundFor, blankFrame, groundFor, sessionFor, openedBy}
 use Rattle.payload.specs.History.{Stands, Opens, isReady, isRefused}
 use Rattle.payload.specs.Meant.{givenMeant, parametersMeant, limitsMeant, settingMeant}
@@ -88,7 +88,9 @@ module _ (l : Limits) (stride : ℕ) (o : Settings) (p : Palette) (opening : Lis
   -- it is 11 exactly when it may not be opened
   pub open-refused : (openedBy l stride o p opening .0 .answer ≡ openings.Refused refusals.Opening) ↔ (openable l stride (length opening) ≡ false)
   unfolding openedBy
-  open-refused = refused-exactly (openable l stride (length opening)) (cond-map (λ (x : Opened × List ℕ). x .0 .answer) (openable l stride (length opening)) _ _)
+  open-refused =
+      refused-exactly (openable l stride (length opening))
+      (cond-map (λ (x : Opened × List ℕ). x .0 .answer) (openable l stride (length opening)) _ _)
 
   -- the session of one that succeeds stands for the definition's
   pub opened-stands : openable l stride (length opening) ≡ true

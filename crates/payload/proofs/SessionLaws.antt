@@ -15,20 +15,18 @@ use Rattle.numbers.specs.Step as numbers
 use Rattle.colours.specs.declared.Palette.{Palette}
 use Rattle.colours.specs.Palette.{registerOf}
 use Rattle.canvas.proofs.Covers.{and-right}
-use Rattle.canvas.specs.Picture.{areaOf, rowsOf, span}
-use Rattle.canvas.specs.Paint.{painted, grown}
+use Rattle.canvas.specs.Picture.{rowsOf, span}
+use Rattle.canvas.specs.Paint.{painted}
 use Rattle.frame.specs.declared.Frame.{Frame}
 use Rattle.frame.specs.declared.Kind.the-variants as kinds
 use Rattle.frame.specs.declared.Limits.{Limits}
 use Rattle.frame.specs.declared.Outcome.{Outcome}
-use Rattle.frame.specs.declared.Outcome.the-variants as outcomes
 use Rattle.frame.specs.declared.Progress.{Progress}
 use Rattle.frame.specs.declared.Raster.{Raster}
 use Rattle.frame.specs.declared.Refusal.{Refusal}
 use Rattle.frame.specs.declared.Refusal.the-variants as refusals
-use Rattle.frame.specs.declared.Stepped.{Stepped}
-use Rattle.frame.specs.Commands.{Ended, ended}
-use Rattle.bytewise.specs.Feed.{Reached, feedFrom}
+use Rattle.reference.specs.Step.{Reached}
+use Rattle.reference.specs.Feed.{feedFrom}
 use Rattle.payload.specs.declared.Answer.{Answer}
 use Rattle.payload.specs.declared.Answer.the-variants as answers
 use Rattle.payload.specs.declared.Fed.{Fed}
@@ -45,13 +43,13 @@ use Rattle.payload.specs.declared.Ratio.the-variants as ratios
 use Rattle.payload.specs.declared.Report.{Report}
 use Rattle.payload.specs.declared.Session.{Session}
 use Rattle.payload.specs.declared.Settings.{Settings}
-use Rattle.payload.specs.declared.judge.Judged.{Judged}
-use Rattle.payload.specs.declared.judge.Judged.the-variants as judged
-use Rattle.payload.specs.Judge.{limitsFit, inRange, openable, feedJudged, finishJudged}
-use Rattle.payload.specs.Session.{clearFor, backgroundFor, blankFrame, groundFor, sessionFor, openingFor, firstLife, openedIf, firstPainted, openedBy, sessionWith, answerOf, lifeAfter, answeredIn, answeredBy, fedLive, fedIn, fedAs, fedBy, ratioFor, reportedAs, turnedAway, pictured, finishedIn, finishedLive, finishedAs, finishedBy}
-use Rattle.frame.proofs.Outcome as OutcomeType
+use Rattle.payload.specs.declared.refusals.Verdict.{Verdict}
+use Rattle.payload.specs.declared.refusals.Verdict.the-variants as verdicts
+use Rattle.payload.specs.Refusals.{limitsFit, inRange, openable, feedJudged, finishJudged}
+use Rattle.payload.specs.Session.{clearFor, backgroundFor, blankFrame, groundFor, sessionFor, openingFor, firstLife, openedIf, firstPainted, openedBy, sessionWith, answerOf, lifeAfter, answeredIn, answeredBy, fedLive, fedIn, fedAs, fedBy, ratioFor, reportedAs, turnedAway, finishedLive, finishedAs, finishedBy}
 use Rattle.payload.proofs.Life as LifeType
-use Rattle.payload.proofs.JudgeLaws.{feed-fits, finish-fits}
+use Rattle.payload.proofs.RefusalLaws.{feed-fits, finish-fits}
+use Rattle.payload.proofs.PendingLaws.{finish-last, finish-pictured}
 
 -- ---- opening
 
@@ -70,7 +68,8 @@ pub blank-as : {px : List ℕ} {q : Parameters} (p : Palette) → px ≡ registe
     → _≡_ {A = Frame}
     (record {
       pen = record { column = 0; row = 0; repeat = 1; register = 0; color = px };
-      sheet = record { width = 1; height = 1; right = 1; bottom = 1 };
+      area = record { width = 1; height = 1 };
+      extent = record { right = 1; bottom = 1 };
       raster = record { ratio = 0; width = 0; height = 0 };
       command = record { kind = kinds.Data; number = 0; parameters = q };
     })
@@ -198,25 +197,26 @@ module _ (s : Session) (canvas bytes : List ℕ) (allowance : ℕ) where
       ∙ ap (λ (r : Reached). (answeredBy s (r .progress) (r .palette), r .canvas))
       (e ∙ ap (λ (p : Palette). feedFrom (s .ground) allowance bytes 0 0 (s .frame) p canvas) t)
 
-  module _ {j : Judged} (e : j ≡ feedJudged s (length canvas) allowance) where
-    pub fed-refused : {n : Refusal} → j ≡ judged.Refused n → _≡_ {A = Fed × List ℕ} (record { answer = answers.Refused n; session = s }, canvas) (fedBy s canvas bytes allowance)
+  module _ {j : Verdict} (e : j ≡ feedJudged s (length canvas) allowance) where
+    pub fed-refused : {n : Refusal} → j ≡ verdicts.Refused n
+        → _≡_ {A = Fed × List ℕ} (record { answer = answers.Refused n; session = s }, canvas) (fedBy s canvas bytes allowance)
     unfolding fedBy fedAs
-    fed-refused h = ap (λ (k : Judged). fedAs k s canvas bytes allowance) (sym h ∙ e)
+    fed-refused h = ap (λ (k : Verdict). fedAs k s canvas bytes allowance) (sym h ∙ e)
 
-    pub fed-ended : {b : ℕ} → j ≡ judged.Fine → s .life ≡ lives.Ended b
+    pub fed-ended : {b : ℕ} → j ≡ verdicts.Fine → s .life ≡ lives.Ended b
         → _≡_ {A = Fed × List ℕ} (record { answer = answers.Ended 0 0 b; session = s }, canvas) (fedBy s canvas bytes allowance)
     unfolding fedBy fedAs fedIn
     fed-ended h l =
         ap (λ (k : Life). fedIn k s canvas bytes allowance) (sym l)
-        ∙ ap (λ (k : Judged). fedAs k s canvas bytes allowance) (sym h ∙ e)
+        ∙ ap (λ (k : Verdict). fedAs k s canvas bytes allowance) (sym h ∙ e)
 
-    pub fed-on : {x : Fed} {later : List ℕ} → j ≡ judged.Fine → OneOf (0 ∷ 2 ∷ []) (tagOf LifeType.the-type (s .life)) → (x, later) ≡ fedLive s canvas bytes allowance
-        → (x, later) ≡ fedBy s canvas bytes allowance
+    pub fed-on : {x : Fed} {later : List ℕ} → j ≡ verdicts.Fine → OneOf (0 ∷ 2 ∷ []) (tagOf LifeType.the-type (s .life))
+        → (x, later) ≡ fedLive s canvas bytes allowance → (x, later) ≡ fedBy s canvas bytes allowance
     unfolding fedBy fedAs
     fed-on h l k =
         k
         ∙ not-ended s canvas bytes allowance (s .life) l
-        ∙ ap (λ (k : Judged). fedAs k s canvas bytes allowance) (sym h ∙ e)
+        ∙ ap (λ (k : Verdict). fedAs k s canvas bytes allowance) (sym h ∙ e)
 
 pub ruleset feedings = (answered-as, fed-live, feed-fits, fed-refused, fed-ended, fed-on)
 
@@ -232,52 +232,27 @@ ratio-raster r p1 e = sym (cond-no _ _ (ne-eqb _ _ e))
 
 pub reported-as : {r : Ratio} {t : Bool} (f : Frame) (o : Settings) → r ≡ ratioFor (f .raster) (o .p1) → t ≡ clearFor (o .p2)
     → _≡_ {A = Report}
-    (record { width = f .sheet .width; height = f .sheet .height; right = f .sheet .right; bottom = f .sheet .bottom; ratio = r; transparent = t })
+    (record {
+      width = f .area .width;
+      height = f .area .height;
+      right = f .extent .right;
+      bottom = f .extent .bottom;
+      ratio = r;
+      transparent = t;
+    })
     (reportedAs f o)
 unfolding reportedAs
 reported-as f o e k = rw (e, k) refl
 
--- an outcome that is no refusal comes to a picture
-not-refused : (s : Session) (owner : Palette) (last : Frame) (p : Palette) (canvas : List ℕ) (o : Outcome)
-    → OneOf (0 ∷ 1 ∷ 2 ∷ 3 ∷ []) (tagOf OutcomeType.the-type o) → pictured s last p canvas ≡ finishedIn o s owner last p canvas
-unfolding finishedIn
-not-refused s owner last p canvas outcomes.Read h = refl
-not-refused s owner last p canvas outcomes.Settled h = refl
-not-refused s owner last p canvas outcomes.Stopped h = refl
-not-refused s owner last p canvas (outcomes.Ended b) h = refl
-not-refused s owner last p canvas (outcomes.Refused n) h = absurd (miss (0 ∷ 1 ∷ 2 ∷ 3 ∷ []) 4 tt h)
-
-module _ (s : Session) (owner : Palette) (canvas : List ℕ) {lent after : Palette} {st : Stepped} (e : _≡_ {A = Ended} (record { stepped = st; palette = after }) (ended (s .frame) (s .ground) lent)) (t : lent ≡ s .palette) where
-  finish-in : finishedIn (st .outcome) s owner (st .frame) after canvas ≡ finishedLive s owner canvas
-  unfolding finishedLive
-  finish-in =
-      ap (λ (d : Ended). finishedIn (d .stepped .outcome) s owner (d .stepped .frame) (d .palette) canvas)
-      (e ∙ ap (ended (s .frame) (s .ground)) t)
-
-  pub finish-last : {n : Refusal} {x : Finished} → st .outcome ≡ outcomes.Refused n → x ≡ record { answer = finishes.Refused n; palette = owner }
-      → (x, canvas) ≡ finishedLive s owner canvas
-  unfolding finishedIn turnedAway
-  finish-last h y =
-      ap (λ (z : Finished). (z, canvas)) y
-      ∙ ap (λ (o : Outcome). finishedIn o s owner (st .frame) after canvas) (sym h)
-      ∙ finish-in
-
-  pub finish-pictured : {later : List ℕ} {rep : Report} {q : Palette} → OneOf (0 ∷ 1 ∷ 2 ∷ 3 ∷ []) (tagOf OutcomeType.the-type (st .outcome))
-      → later ≡ grown (s .ground .stride) (areaOf (s .frame .sheet .width) (s .frame .sheet .height)) (areaOf (st .frame .sheet .width) (st .frame .sheet .height)) (s .ground .background) canvas
-      → rep ≡ reportedAs (st .frame) (s .settings) → q ≡ after
-      → _≡_ {A = Finished × List ℕ} (record { answer = finishes.Picture rep; palette = q }, later) (finishedLive s owner canvas)
-  unfolding pictured
-  finish-pictured h l r q = rw (l, r, q) refl ∙ not-refused s owner (st .frame) after canvas (st .outcome) h ∙ finish-in
-
-module _ (s : Session) (owner : Palette) (canvas : List ℕ) {j : Judged} (e : j ≡ finishJudged s (length canvas)) where
-  pub finish-refused : {n : Refusal} {x : Finished} → j ≡ judged.Refused n → x ≡ record { answer = finishes.Refused n; palette = owner }
+module _ (s : Session) (owner : Palette) (canvas : List ℕ) {j : Verdict} (e : j ≡ finishJudged s (length canvas)) where
+  pub finish-refused : {n : Refusal} {x : Finished} → j ≡ verdicts.Refused n → x ≡ record { answer = finishes.Refused n; palette = owner }
       → (x, canvas) ≡ finishedBy s owner canvas
   unfolding finishedBy finishedAs turnedAway
-  finish-refused h y = ap (λ (z : Finished). (z, canvas)) y ∙ ap (λ (i : Judged). finishedAs i s owner canvas) (sym h ∙ e)
+  finish-refused h y = ap (λ (z : Finished). (z, canvas)) y ∙ ap (λ (i : Verdict). finishedAs i s owner canvas) (sym h ∙ e)
 
-  pub finish-on : {x : Finished} {later : List ℕ} → j ≡ judged.Fine → (x, later) ≡ finishedLive s owner canvas → (x, later) ≡ finishedBy s owner canvas
+  pub finish-on : {x : Finished} {later : List ℕ} → j ≡ verdicts.Fine → (x, later) ≡ finishedLive s owner canvas → (x, later) ≡ finishedBy s owner canvas
   unfolding finishedBy finishedAs
-  finish-on h y = y ∙ ap (λ (i : Judged). finishedAs i s owner canvas) (sym h ∙ e)
+  finish-on h y = y ∙ ap (λ (i : Verdict). finishedAs i s owner canvas) (sym h ∙ e)
 
 pub ruleset finishings =
     (ratio-left, ratio-raster, reported-as, finish-last, finish-pictured, finish-fits, finish-refused, finish-on)

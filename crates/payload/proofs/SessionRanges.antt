@@ -13,18 +13,19 @@ use Rattle.frame.specs.declared.Limits.{Limits}
 use Rattle.frame.specs.declared.Outcome.{Outcome}
 use Rattle.frame.specs.declared.Outcome.the-variants as outcomes
 use Rattle.frame.specs.declared.Progress.{Progress}
-use Rattle.bytewise.specs.Feed.{Reached, feedFrom}
+use Rattle.reference.specs.Step.{Reached}
+use Rattle.reference.specs.Feed.{feedFrom}
 use Rattle.payload.specs.declared.Given.{Given}
 use Rattle.payload.specs.declared.Life.{Life}
 use Rattle.payload.specs.declared.Life.the-variants as lives
 use Rattle.payload.specs.declared.Opened.{Opened}
 use Rattle.payload.specs.declared.Session.{Session}
 use Rattle.payload.specs.declared.Settings.{Settings}
-use Rattle.payload.specs.declared.judge.Judged.{Judged}
-use Rattle.payload.specs.declared.judge.Judged.the-variants as judged
-use Rattle.payload.specs.Begin.{noSettings, reservedBy, withBackground, begunSession, begunBy, failedOf}
+use Rattle.payload.specs.declared.refusals.Verdict.{Verdict}
+use Rattle.payload.specs.declared.refusals.Verdict.the-variants as verdicts
+use Rattle.payload.specs.Deferred.{noSettings, reservedBy, withBackground, begunSession, begunBy, failedOf}
 use Rattle.payload.specs.Codes.{givenFrom}
-use Rattle.payload.specs.Judge.{openable, feedJudged}
+use Rattle.payload.specs.Refusals.{openable, feedJudged}
 use Rattle.payload.specs.Ranges.{ColorRanged, GivenRanged, SettingsRanged, LifeRanged, FrameRanged, Ranged}
 use Rattle.payload.specs.Session.{clearFor, backgroundFor, blankFrame, groundFor, sessionFor, openedBy, sessionWith, answeredIn, answeredBy, fedLive, fedIn, fedAs, fedBy}
 use Rattle.payload.proofs.RangeLaws.{register-ranged, OutcomeRanged, ReachedRanged, feed-ranged}
@@ -46,7 +47,8 @@ new-ranged : (l : Limits) (stride size : ℕ) (o : Settings) (p : Palette) (x : 
 unfolding sessionFor groundFor
 new-ranged l stride size o p x h k = record { background = background-ranged p (o .p2); settings = h; life = k; frame = blank-ranged p }
 
-pub opened-ranged-by : (l : Limits) (stride : ℕ) (o : Settings) (p : Palette) (canvas : List ℕ) → SettingsRanged o → Ranged (openedBy l stride o p canvas .0 .session)
+pub opened-ranged-by : (l : Limits) (stride : ℕ) (o : Settings) (p : Palette) (canvas : List ℕ) → SettingsRanged o
+    → Ranged (openedBy l stride o p canvas .0 .session)
 unfolding openedBy
 opened-ranged-by l stride o p canvas h =
     cond-case (λ (x : Opened × List ℕ). Ranged (x .0 .session)) (openable l stride _) (λ _. new-ranged l stride _ o p lives.Live h tt)
@@ -63,10 +65,10 @@ with-ranged : (s : Session) (x : Life) (f : Frame) (p : Palette) → Ranged s �
 unfolding sessionWith
 with-ranged s x f p h k j = record { background = h .background; settings = h .settings; life = k; frame = j }
 
-answered-ranged : (o : Outcome) (s : Session) (r : Progress) (p : Palette) → Ranged s → FrameRanged (r .frame) → OutcomeRanged o → Ranged (answeredIn o s r p .session)
+answered-ranged : (o : Outcome) (s : Session) (r : Progress) (p : Palette) → Ranged s → FrameRanged (r .frame) → OutcomeRanged o
+    → Ranged (answeredIn o s r p .session)
 unfolding answeredIn
 answered-ranged outcomes.Read s r p h k j = with-ranged s lives.Live (r .frame) p h tt k
-answered-ranged outcomes.Settled s r p h k j = with-ranged s lives.Live (r .frame) p h tt k
 answered-ranged outcomes.Stopped s r p h k j = with-ranged s lives.Live (r .frame) p h tt k
 answered-ranged (outcomes.Ended b) s r p h k j = with-ranged s (lives.Ended b) (r .frame) p h j k
 answered-ranged (outcomes.Refused n) s r p h k j = with-ranged s lives.Failed (r .frame) p h tt k
@@ -85,10 +87,10 @@ module _ (s : Session) (h : Ranged s) (canvas bytes : List ℕ) (allowance : ℕ
   in-ranged (lives.Ended b) = h
   in-ranged lives.Failed = live-ranged
 
-  as-ranged : (j : Judged) → Ranged (fedAs j s canvas bytes allowance .0 .session)
+  as-ranged : (j : Verdict) → Ranged (fedAs j s canvas bytes allowance .0 .session)
   unfolding fedAs
-  as-ranged judged.Fine = in-ranged (s .life)
-  as-ranged (judged.Refused n) = h
+  as-ranged verdicts.Fine = in-ranged (s .life)
+  as-ranged (verdicts.Refused n) = h
 
   pub fed-ranged : Ranged (fedBy s canvas bytes allowance .0 .session)
   unfolding fedBy

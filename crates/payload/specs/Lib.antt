@@ -1,8 +1,8 @@
-pub mod Judge
+pub mod Refusals
 pub mod Session
 pub mod Meant
 pub mod History
-pub mod Begin
+pub mod Deferred
 pub mod Codes
 pub mod Memory
 pub mod Ranges

@@ -6,11 +6,12 @@ use lib.ListN.{getD}
 use Rattle.numbers.specs.Memory as parameters
 use Rattle.colours.specs.Palette.{ofTable}
 use Rattle.frame.specs.declared.Command.{Command}
+use Rattle.frame.specs.declared.Extent.{Extent}
 use Rattle.frame.specs.declared.Frame.{Frame}
 use Rattle.frame.specs.declared.Ground.{Ground}
 use Rattle.frame.specs.declared.Pen.{Pen}
 use Rattle.frame.specs.declared.Raster.{Raster}
-use Rattle.frame.specs.declared.Sheet.{Sheet}
+use Rattle.frame.specs.declared.VisibleArea.{VisibleArea}
 use Rattle.payload.specs.declared.Session.{Session}
 use Rattle.payload.specs.declared.Settings.{Settings}
 use Rattle.payload.specs.Codes.{givenNumber, givenFrom, lifeNumber, lifeFrom, kindNumber, kindFrom, colorNumber, colorFrom}
@@ -33,8 +34,11 @@ unfoldable pub penNumbers : Pen → List ℕ
 unfolding colorNumber
 penNumbers p = p .column ∷ p .row ∷ p .repeat ∷ p .register ∷ colorNumber (p .color) ∷ []
 
-unfoldable pub sheetNumbers : Sheet → List ℕ
-sheetNumbers a = a .width ∷ a .height ∷ a .right ∷ a .bottom ∷ []
+unfoldable pub areaNumbers : VisibleArea → List ℕ
+areaNumbers a = a .width ∷ a .height ∷ []
+
+unfoldable pub extentNumbers : Extent → List ℕ
+extentNumbers e = e .right ∷ e .bottom ∷ []
 
 unfoldable pub rasterNumbers : Raster → List ℕ
 rasterNumbers r = r .ratio ∷ r .width ∷ r .height ∷ []
@@ -44,8 +48,10 @@ unfolding kindNumber
 commandNumbers c = kindNumber (c .kind) ∷ c .number ∷ parameters.numbersOf (c .parameters)
 
 unfoldable pub frameNumbers : Frame → List ℕ
-unfolding penNumbers sheetNumbers rasterNumbers commandNumbers
-frameNumbers f = penNumbers (f .pen) ++ (sheetNumbers (f .sheet) ++ (rasterNumbers (f .raster) ++ commandNumbers (f .command)))
+unfolding penNumbers areaNumbers extentNumbers rasterNumbers commandNumbers
+frameNumbers f =
+    penNumbers (f .pen)
+    ++ (areaNumbers (f .area) ++ (extentNumbers (f .extent) ++ (rasterNumbers (f .raster) ++ commandNumbers (f .command))))
 
 -- the 34 of a payload session
 unfoldable pub ownNumbers : Session → List ℕ
@@ -89,8 +95,11 @@ penFrom ns =
       color = colorFrom (getD ns 15 0);
     }
 
-unfoldable pub sheetFrom : List ℕ → Sheet
-sheetFrom ns = record { width = getD ns 16 0; height = getD ns 17 0; right = getD ns 18 0; bottom = getD ns 19 0 }
+unfoldable pub areaFrom : List ℕ → VisibleArea
+areaFrom ns = record { width = getD ns 16 0; height = getD ns 17 0 }
+
+unfoldable pub extentFrom : List ℕ → Extent
+extentFrom ns = record { right = getD ns 18 0; bottom = getD ns 19 0 }
 
 unfoldable pub rasterFrom : List ℕ → Raster
 rasterFrom ns = record { ratio = getD ns 20 0 % 256; width = getD ns 21 0; height = getD ns 22 0 }
@@ -115,8 +124,15 @@ commandFrom ns =
     record { kind = kindFrom (getD ns 23 0); number = getD ns 24 0; parameters = parameters.parametersFrom (nineFrom ns 25) }
 
 unfoldable pub frameFrom : List ℕ → Frame
-unfolding penFrom sheetFrom rasterFrom commandFrom
-frameFrom ns = record { pen = penFrom ns; sheet = sheetFrom ns; raster = rasterFrom ns; command = commandFrom ns }
+unfolding penFrom areaFrom extentFrom rasterFrom commandFrom
+frameFrom ns =
+    record {
+      pen = penFrom ns;
+      area = areaFrom ns;
+      extent = extentFrom ns;
+      raster = rasterFrom ns;
+      command = commandFrom ns;
+    }
 
 unfoldable pub sessionFrom : List ℕ → List ℕ → Session
 unfolding groundFrom settingsFrom lifeFrom frameFrom

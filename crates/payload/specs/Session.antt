@@ -6,11 +6,12 @@ use lib.Dec.{eqb}
 use lib.ListN.{length}
 use Rattle.numbers.specs.Step as numbers
 use Rattle.colours.specs.declared.Palette.{Palette}
-use Rattle.colours.specs.Palette.{registerOf}
-use Rattle.canvas.specs.Picture.{areaOf, rowsOf, span}
-use Rattle.canvas.specs.Paint.{painted, grown}
+use Rattle.colours.specs.Palette.{ofTable, registerOf}
+use Rattle.canvas.specs.Picture.{rowsOf, span}
+use Rattle.canvas.specs.Paint.{painted}
 use Rattle.frame.specs.declared.Frame.{Frame}
 use Rattle.frame.specs.declared.Ground.{Ground}
+use Rattle.frame.specs.declared.Kind.{Kind}
 use Rattle.frame.specs.declared.Kind.the-variants as kinds
 use Rattle.frame.specs.declared.Limits.{Limits}
 use Rattle.frame.specs.declared.Outcome.{Outcome}
@@ -19,8 +20,9 @@ use Rattle.frame.specs.declared.Progress.{Progress}
 use Rattle.frame.specs.declared.Raster.{Raster}
 use Rattle.frame.specs.declared.Refusal.{Refusal}
 use Rattle.frame.specs.declared.Refusal.the-variants as refusals
-use Rattle.frame.specs.Commands.{Ended, ended}
-use Rattle.bytewise.specs.Feed.{Reached, feedFrom}
+use Rattle.frame.specs.Commands.{unreadAs, Ended, ended}
+use Rattle.reference.specs.Step.{Reached, areaGrown, settledStep}
+use Rattle.reference.specs.Feed.{feedFrom}
 use Rattle.payload.specs.declared.Answer.{Answer}
 use Rattle.payload.specs.declared.Answer.the-variants as answers
 use Rattle.payload.specs.declared.Fed.{Fed}
@@ -38,9 +40,9 @@ use Rattle.payload.specs.declared.Ratio.the-variants as ratios
 use Rattle.payload.specs.declared.Report.{Report}
 use Rattle.payload.specs.declared.Session.{Session}
 use Rattle.payload.specs.declared.Settings.{Settings}
-use Rattle.payload.specs.declared.judge.Judged.{Judged}
-use Rattle.payload.specs.declared.judge.Judged.the-variants as judged
-use Rattle.payload.specs.Judge.{openable, feedJudged, finishJudged}
+use Rattle.payload.specs.declared.refusals.Verdict.{Verdict}
+use Rattle.payload.specs.declared.refusals.Verdict.the-variants as verdicts
+use Rattle.payload.specs.Refusals.{openable, feedJudged, finishJudged}
 
 -- ---- opening
 
@@ -58,7 +60,8 @@ unfoldable pub blankFrame : Palette → Frame
 blankFrame p =
     record {
       pen = record { column = 0; row = 0; repeat = 1; register = 0; color = registerOf p 0 };
-      sheet = record { width = 1; height = 1; right = 1; bottom = 1 };
+      area = record { width = 1; height = 1 };
+      extent = record { right = 1; bottom = 1 };
       raster = record { ratio = 0; width = 0; height = 0 };
       command = record { kind = kinds.Data; number = 0; parameters = numbers.opened 0 };
     }
@@ -109,7 +112,6 @@ sessionWith s life f p =
 -- what reading came to, as an answer
 unfoldable pub answerOf : Outcome → ℕ → ℕ → Answer
 answerOf outcomes.Read n i = answers.More n i
-answerOf outcomes.Settled n i = answers.More n i
 answerOf outcomes.Stopped n i = answers.Stopped n i
 answerOf (outcomes.Ended b) n i = answers.Ended n i b
 answerOf (outcomes.Refused r) n i = answers.Refused r
@@ -117,7 +119,6 @@ answerOf (outcomes.Refused r) n i = answers.Refused r
 -- the session's life then: a refusal fails it
 unfoldable pub lifeAfter : Outcome → Life
 lifeAfter outcomes.Read = lives.Live
-lifeAfter outcomes.Settled = lives.Live
 lifeAfter outcomes.Stopped = lives.Live
 lifeAfter (outcomes.Ended b) = lives.Ended b
 lifeAfter (outcomes.Refused r) = lives.Failed
@@ -147,10 +148,10 @@ fedIn (lives.Ended b) s canvas bytes allowance = (record { answer = answers.Ende
 fedIn lives.Failed s canvas bytes allowance = fedLive s canvas bytes allowance
 
 -- 9, 12, 13 leave all as it is
-unfoldable pub fedAs : Judged → Session → List ℕ → List ℕ → ℕ → Fed × List ℕ
+unfoldable pub fedAs : Verdict → Session → List ℕ → List ℕ → ℕ → Fed × List ℕ
 unfolding fedIn
-fedAs judged.Fine s canvas bytes allowance = fedIn (s .life) s canvas bytes allowance
-fedAs (judged.Refused n) s canvas bytes allowance = (record { answer = answers.Refused n; session = s }, canvas)
+fedAs verdicts.Fine s canvas bytes allowance = fedIn (s .life) s canvas bytes allowance
+fedAs (verdicts.Refused n) s canvas bytes allowance = (record { answer = answers.Refused n; session = s }, canvas)
 
 unfoldable pub fedBy : Session → List ℕ → List ℕ → ℕ → Fed × List ℕ
 unfolding fedAs
@@ -165,13 +166,44 @@ unfoldable pub reportedAs : Frame → Settings → Report
 unfolding ratioFor clearFor
 reportedAs f o =
     record {
-      width = f .sheet .width;
-      height = f .sheet .height;
-      right = f .sheet .right;
-      bottom = f .sheet .bottom;
+      width = f .area .width;
+      height = f .area .height;
+      right = f .extent .right;
+      bottom = f .extent .bottom;
       ratio = ratioFor (f .raster) (o .p1);
       transparent = clearFor (o .p2);
     }
+
+-- where a call led: its answer, the palette and the canvas
+abbrev pub reachedBy : Progress → Palette → List ℕ → Reached
+reachedBy r p canvas = record { progress = r; palette = p; canvas = canvas }
+
+-- the palette lent as a table
+abbrev pub reachedOn : Progress → List ℕ → List ℕ → Reached
+reachedOn r colors canvas = reachedBy r (ofTable colors) canvas
+
+-- the byte 1B ends the pending command, and then the payload
+unfoldable pub thenEnded : Outcome → Outcome
+thenEnded outcomes.Read = outcomes.Ended 0x1B
+thenEnded outcomes.Stopped = outcomes.Stopped
+thenEnded (outcomes.Ended b) = outcomes.Ended b
+thenEnded (outcomes.Refused n) = outcomes.Refused n
+
+unfoldable pub closedBy : Reached → Reached
+unfolding thenEnded
+closedBy t = reachedBy (unreadAs (t .progress .frame) (thenEnded (t .progress .outcome))) (t .palette) (t .canvas)
+
+-- the pending command carried out; where none is pending all is as it was
+unfoldable pub carriedOutIn : Kind → Frame → Ground → Palette → List ℕ → Reached
+unfolding closedBy
+carriedOutIn kinds.Data f g p canvas = reachedBy (unreadAs f outcomes.Read) p canvas
+carriedOutIn kinds.Repeat f g p canvas = closedBy (settledStep f g p canvas)
+carriedOutIn kinds.Color f g p canvas = closedBy (settledStep f g p canvas)
+carriedOutIn kinds.Raster f g p canvas = closedBy (settledStep f g p canvas)
+
+unfoldable pub carriedOut : Frame → Ground → Palette → List ℕ → Reached
+unfolding carriedOutIn
+carriedOut f g p canvas = carriedOutIn (f .command .kind) f g p canvas
 
 unfoldable pub turnedAway : Palette → Refusal → List ℕ → Finished × List ℕ
 turnedAway owner n canvas = (record { answer = finishes.Refused n; palette = owner }, canvas)
@@ -181,15 +213,13 @@ unfoldable pub pictured : Session → Frame → Palette → List ℕ → Finishe
 unfolding reportedAs
 pictured s last p canvas = (
   record { answer = finishes.Picture (reportedAs last (s .settings)); palette = p },
-  grown (s .ground .stride) (areaOf (s .frame .sheet .width) (s .frame .sheet .height)) (areaOf (last .sheet .width) (last .sheet .height))
-      (s .ground .background) canvas,
+  areaGrown (s .frame) (s .ground) (last .area .width) (last .area .height) canvas,
 )
 
 -- the pending command's refusal
 unfoldable pub finishedIn : Outcome → Session → Palette → Frame → Palette → List ℕ → Finished × List ℕ
 unfolding turnedAway pictured
 finishedIn outcomes.Read s owner last p canvas = pictured s last p canvas
-finishedIn outcomes.Settled s owner last p canvas = pictured s last p canvas
 finishedIn outcomes.Stopped s owner last p canvas = pictured s last p canvas
 finishedIn (outcomes.Ended b) s owner last p canvas = pictured s last p canvas
 finishedIn (outcomes.Refused n) s owner last p canvas = turnedAway owner n canvas
@@ -198,12 +228,12 @@ unfoldable pub finishedLive : Session → Palette → List ℕ → Finished × L
 unfolding finishedIn
 finishedLive s owner canvas =
     let e : Ended = ended (s .frame) (s .ground) (s .palette) in
-    finishedIn (e .stepped .outcome) s owner (e .stepped .frame) (e .palette) canvas
+    finishedIn (e .progress .outcome) s owner (e .progress .frame) (e .palette) canvas
 
-unfoldable pub finishedAs : Judged → Session → Palette → List ℕ → Finished × List ℕ
+unfoldable pub finishedAs : Verdict → Session → Palette → List ℕ → Finished × List ℕ
 unfolding finishedLive turnedAway
-finishedAs judged.Fine s owner canvas = finishedLive s owner canvas
-finishedAs (judged.Refused n) s owner canvas = turnedAway owner n canvas
+finishedAs verdicts.Fine s owner canvas = finishedLive s owner canvas
+finishedAs (verdicts.Refused n) s owner canvas = turnedAway owner n canvas
 
 -- 9, 12, the pending command's refusal
 unfoldable pub finishedBy : Session → Palette → List ℕ → Finished × List ℕ

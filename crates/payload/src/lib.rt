@@ -1,24 +1,25 @@
 // A payload session: the Rust's SixelStreamDecoder. It goes in by value and comes back by value, its palette inside, over a lent
 // canvas. A palette has an owner, who hands a copy to each session and gets one back at finish: the session's where the finish
 // succeeds, else the owner's own.
-pub mod begin;
 pub mod codes;
-pub mod judge;
+pub mod deferred;
 pub mod memory;
+pub mod places;
+pub mod refusals;
 
 ghost use mathlib.Core.Path.{_≡_};
 ghost use mathlib.Core.Bool.{true};
 ghost use Prim.Native.Nat.{_≤_};
 ghost use lib.ListN.{length};
 ghost use Rattle.colours.specs.Palette.{ofTable};
-ghost use Rattle.bytewise.specs.Step.{Fits};
-ghost use Rattle.bytewise.specs.Feed.{Reached};
+ghost use Rattle.reference.specs.Step.{Fits};
 ghost use Rattle.meaning.specs.Drawing.{houseLimits, crateLimits};
-ghost use Rattle.payload.specs.Begin.{noSettings};
+ghost use Rattle.payload.specs.Deferred.{noSettings};
 ghost use Rattle.payload.specs.Meant.{limitsCoded};
-ghost use Rattle.payload.specs.Session.{clearFor, backgroundFor, blankFrame, sessionFor, openingFor, firstLife, openedIf, firstPainted, openedBy, sessionWith, answerOf, lifeAfter, answeredBy, fedLive, fedBy, ratioFor, reportedAs, finishedLive, finishedBy};
+ghost use Rattle.payload.specs.Session.{clearFor, backgroundFor, blankFrame, sessionFor, openingFor, firstLife, openedIf, firstPainted, openedBy, sessionWith, answerOf, lifeAfter, answeredBy, fedLive, fedBy, ratioFor, reportedAs, reachedOn, carriedOut, finishedLive, finishedBy};
 use colours::Palette;
 use frame::Command;
+use frame::Extent;
 use frame::Frame;
 use frame::Ground;
 use frame::Kind;
@@ -28,15 +29,13 @@ use frame::Pen;
 use frame::Progress;
 use frame::Raster;
 use frame::Refusal;
-use frame::Sheet;
-use frame::Stepped;
-use frame::commands::end_command;
-use judge::Judged;
-use judge::feed_refusal;
-use judge::finish_refusal;
-use judge::may_open;
+use frame::VisibleArea;
 use numbers::Parameters;
 use reading::process;
+use refusals::Verdict;
+use refusals::feed_refusal;
+use refusals::finish_refusal;
+use refusals::may_open;
 
 // A parameter of a DCS header: a 16-bit number, or none.
 pub enum Given {
@@ -190,9 +189,11 @@ fn blank_frame(palette: Palette) -> Frame
             register: 0,
             color,
         },
-        sheet: Sheet {
+        area: VisibleArea {
             width: 1,
             height: 1,
+        },
+        extent: Extent {
             right: 1,
             bottom: 1,
         },
@@ -326,7 +327,6 @@ fn answer_of(outcome: Outcome, consumed: usize, ink: usize) -> Answer
 {
     match outcome {
         Outcome::Read => Answer::More { consumed, ink },
-        Outcome::Settled => Answer::More { consumed, ink },
         Outcome::Stopped => Answer::Stopped { consumed, ink },
         Outcome::Ended(byte) => Answer::Ended {
             consumed,
@@ -343,7 +343,6 @@ fn life_after(outcome: Outcome) -> Life
 {
     match outcome {
         Outcome::Read => Life::Live,
-        Outcome::Settled => Life::Live,
         Outcome::Stopped => Life::Live,
         Outcome::Ended(byte) => Life::Ended(byte),
         Outcome::Refused(_) => Life::Failed,
@@ -379,7 +378,7 @@ fn feed_live(session: Session, canvas: &mut [u8], bytes: &[u8], allowance: usize
 pub fn feed(session: Session, canvas: &mut [u8], bytes: &[u8], allowance: usize) -> Fed
     ensures { λ r. ⌜ (r, now (canvas .exit)) ≡ fedBy session (now (canvas .entry)) (now (bytes .entry)) allowance ⌝ }
 {
-    if let Judged::Refused(refusal) = feed_refusal(session, canvas.len(), allowance) {
+    if let Verdict::Refused(refusal) = feed_refusal(session, canvas.len(), allowance) {
         return Fed {
             answer: Answer::Refused(refusal),
             session,
@@ -411,14 +410,15 @@ fn ratio_for(raster: Raster, p1: Given) -> Ratio
 fn report_for(frame: Frame, settings: Settings) -> Report
     ensures { λ r. ⌜ r ≡ reportedAs frame settings ⌝ }
 {
-    let sheet = frame.sheet;
+    let area = frame.area;
+    let extent = frame.extent;
     let p1 = settings.p1;
     let p2 = settings.p2;
     Report {
-        width: sheet.width,
-        height: sheet.height,
-        right: sheet.right,
-        bottom: sheet.bottom,
+        width: area.width,
+        height: area.height,
+        right: extent.right,
+        bottom: extent.bottom,
         ratio: ratio_for(frame.raster, p1),
         transparent: is_transparent(p2),
     }
@@ -433,6 +433,27 @@ fn refuse_finish(owner: Palette, refusal: Refusal) -> Finished
     }
 }
 
+// A byte that ends a payload.
+const ENDING: u8 = 0x1B;
+
+// Carries the pending command out as any is: by a byte that ends it.
+fn end_pending(frame: Frame, ground: Ground, colors: &mut [u32; 256], canvas: &mut [u8]) -> Progress
+    requires { ⌜ Fits frame ground (length (now canvas)) ⌝ }
+    ensures { λ r. ⌜ reachedOn r (now (colors .exit)) (now (canvas .exit)) ≡ carriedOut frame ground (ofTable (now (colors .entry))) (now (canvas .entry)) ⌝ }
+{
+    let command = frame.command;
+    let kind = command.kind;
+    if let Kind::Data = kind {
+        return Progress {
+            frame,
+            consumed: 0,
+            ink: 0,
+            outcome: Outcome::Read,
+        };
+    }
+    process(frame, ground, colors, canvas, &[ENDING], 0)
+}
+
 // Finishes a session that has passed 9 and 12.
 fn finish_live(session: Session, owner: Palette, canvas: &mut [u8]) -> Finished
     requires { ⌜ Fits (session .frame) (session .ground) (length (now canvas)) ⌝ }
@@ -443,26 +464,13 @@ fn finish_live(session: Session, owner: Palette, canvas: &mut [u8]) -> Finished
     let ground = session.ground;
     let settings = session.settings;
     let mut colors = palette.table();
-    let ended = end_command(frame, ground, &mut colors);
-    let outcome = ended.outcome;
-    let last = ended.frame;
+    let last = end_pending(frame, ground, &mut colors, canvas);
+    let outcome = last.outcome;
     if let Outcome::Refused(refusal) = outcome {
         return refuse_finish(owner, refusal);
     }
-    let old = frame.sheet;
-    let new = last.sheet;
-    let background = ground.background;
-    canvas::grow(
-        canvas,
-        ground.stride,
-        old.width,
-        old.height,
-        new.width,
-        new.height,
-        background,
-    );
     Finished {
-        answer: Finishing::Picture(report_for(last, settings)),
+        answer: Finishing::Picture(report_for(last.frame, settings)),
         palette: Palette::of_table(colors),
     }
 }
@@ -471,7 +479,7 @@ fn finish_live(session: Session, owner: Palette, canvas: &mut [u8]) -> Finished
 pub fn finish(session: Session, owner: Palette, canvas: &mut [u8]) -> Finished
     ensures { λ r. ⌜ (r, now (canvas .exit)) ≡ finishedBy session owner (now (canvas .entry)) ⌝ }
 {
-    if let Judged::Refused(refusal) = finish_refusal(session, canvas.len()) {
+    if let Verdict::Refused(refusal) = finish_refusal(session, canvas.len()) {
         return refuse_finish(owner, refusal);
     }
     finish_live(session, owner, canvas)

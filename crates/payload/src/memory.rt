@@ -1,7 +1,7 @@
 // A session as 48 numbers and 256 registers, for a caller that keeps it in its own memory. Any numbers are a session: one that was
 // never opened here answers as its fields say, and 48 zeros are a failed one. The numbers from 34 on are those of a DCS session.
 ghost use mathlib.Core.Path.{_≡_};
-ghost use Rattle.payload.specs.Memory.{groundFrom, settingsFrom, penFrom, sheetFrom, rasterFrom, commandFrom, numbersOf, sessionFrom, tableOf};
+ghost use Rattle.payload.specs.Memory.{groundFrom, settingsFrom, penFrom, areaFrom, extentFrom, rasterFrom, commandFrom, numbersOf, sessionFrom, tableOf};
 use crate::Session;
 use crate::Settings;
 use crate::codes::color_from;
@@ -12,14 +12,16 @@ use crate::codes::kind_from;
 use crate::codes::kind_number;
 use crate::codes::life_from;
 use crate::codes::life_number;
+use crate::places;
 use colours::Palette;
 use frame::Command;
+use frame::Extent;
 use frame::Frame;
 use frame::Ground;
 use frame::Limits;
 use frame::Pen;
 use frame::Raster;
-use frame::Sheet;
+use frame::VisibleArea;
 use numbers::memory::numbers_of as parameters_numbers;
 use numbers::memory::parameters_from;
 
@@ -29,16 +31,16 @@ fn ground_from(numbers: &[u64; 48]) -> Ground
     ensures { λ r. ⌜ r ≡ groundFrom (now (numbers .entry)) ⌝ }
 {
     let limits = Limits {
-        width: numbers[0] as usize,
-        height: numbers[1] as usize,
-        repeats: numbers[2] as usize,
-        pixels: numbers[3] as usize,
+        width: numbers[places::LIMIT_WIDTH] as usize,
+        height: numbers[places::LIMIT_HEIGHT] as usize,
+        repeats: numbers[places::LIMIT_REPEATS] as usize,
+        pixels: numbers[places::LIMIT_PIXELS] as usize,
     };
-    let background = color_from(numbers[6]);
+    let background = color_from(numbers[places::BACKGROUND]);
     Ground {
         limits,
-        stride: numbers[4] as usize,
-        rows: numbers[5] as usize,
+        stride: numbers[places::STRIDE] as usize,
+        rows: numbers[places::ROWS] as usize,
         background,
     }
 }
@@ -47,32 +49,39 @@ fn settings_from(numbers: &[u64; 48]) -> Settings
     ensures { λ r. ⌜ r ≡ settingsFrom (now (numbers .entry)) ⌝ }
 {
     Settings {
-        p1: given_from(numbers[8]),
-        p2: given_from(numbers[9]),
+        p1: given_from(numbers[places::P1]),
+        p2: given_from(numbers[places::P2]),
     }
 }
 
 fn pen_from(numbers: &[u64; 48]) -> Pen
     ensures { λ r. ⌜ r ≡ penFrom (now (numbers .entry)) ⌝ }
 {
-    let color = color_from(numbers[15]);
+    let color = color_from(numbers[places::PEN_COLOR]);
     Pen {
-        column: numbers[11] as usize,
-        row: numbers[12] as usize,
-        repeat: numbers[13] as usize,
-        register: numbers[14] as usize,
+        column: numbers[places::PEN_COLUMN] as usize,
+        row: numbers[places::PEN_ROW] as usize,
+        repeat: numbers[places::PEN_REPEAT] as usize,
+        register: numbers[places::PEN_REGISTER] as usize,
         color,
     }
 }
 
-fn sheet_from(numbers: &[u64; 48]) -> Sheet
-    ensures { λ r. ⌜ r ≡ sheetFrom (now (numbers .entry)) ⌝ }
+fn area_from(numbers: &[u64; 48]) -> VisibleArea
+    ensures { λ r. ⌜ r ≡ areaFrom (now (numbers .entry)) ⌝ }
 {
-    Sheet {
-        width: numbers[16] as usize,
-        height: numbers[17] as usize,
-        right: numbers[18] as usize,
-        bottom: numbers[19] as usize,
+    VisibleArea {
+        width: numbers[places::AREA_WIDTH] as usize,
+        height: numbers[places::AREA_HEIGHT] as usize,
+    }
+}
+
+fn extent_from(numbers: &[u64; 48]) -> Extent
+    ensures { λ r. ⌜ r ≡ extentFrom (now (numbers .entry)) ⌝ }
+{
+    Extent {
+        right: numbers[places::EXTENT_RIGHT] as usize,
+        bottom: numbers[places::EXTENT_BOTTOM] as usize,
     }
 }
 
@@ -80,9 +89,9 @@ fn raster_from(numbers: &[u64; 48]) -> Raster
     ensures { λ r. ⌜ r ≡ rasterFrom (now (numbers .entry)) ⌝ }
 {
     Raster {
-        ratio: (numbers[20] % 256) as u8,
-        width: numbers[21] as usize,
-        height: numbers[22] as usize,
+        ratio: (numbers[places::RATIO] % 256) as u8,
+        width: numbers[places::RASTER_WIDTH] as usize,
+        height: numbers[places::RASTER_HEIGHT] as usize,
     }
 }
 
@@ -90,21 +99,21 @@ fn command_from(numbers: &[u64; 48]) -> Command
     ensures { λ r. ⌜ r ≡ commandFrom (now (numbers .entry)) ⌝ }
 {
     let values = [
-        numbers[25],
-        numbers[26],
-        numbers[27],
-        numbers[28],
-        numbers[29],
-        numbers[30],
-        numbers[31],
-        numbers[32],
-        numbers[33],
+        numbers[places::VALUE_0],
+        numbers[places::VALUE_1],
+        numbers[places::VALUE_2],
+        numbers[places::VALUE_3],
+        numbers[places::VALUE_4],
+        numbers[places::VALUE_5],
+        numbers[places::VALUE_6],
+        numbers[places::VALUE_7],
+        numbers[places::VALUE_8],
     ];
     let parameters = parameters_from(values);
-    let kind = kind_from(numbers[23]);
+    let kind = kind_from(numbers[places::KIND]);
     Command {
         kind,
-        number: numbers[24],
+        number: numbers[places::NUMBER],
         parameters,
     }
 }
@@ -144,10 +153,10 @@ pub fn numbers_of(session: Session) -> [u64; 48]
         pen.repeat as u64,
         pen.register as u64,
         color_number(color),
-        frame.sheet.width as u64,
-        frame.sheet.height as u64,
-        frame.sheet.right as u64,
-        frame.sheet.bottom as u64,
+        frame.area.width as u64,
+        frame.area.height as u64,
+        frame.extent.right as u64,
+        frame.extent.bottom as u64,
         frame.raster.ratio as u64,
         frame.raster.width as u64,
         frame.raster.height as u64,
@@ -184,15 +193,16 @@ pub fn session_from(numbers: &[u64; 48], registers: &[u32; 256]) -> Session
 {
     let frame = Frame {
         pen: pen_from(numbers),
-        sheet: sheet_from(numbers),
+        area: area_from(numbers),
+        extent: extent_from(numbers),
         raster: raster_from(numbers),
         command: command_from(numbers),
     };
     Session {
         ground: ground_from(numbers),
-        length: numbers[7] as usize,
+        length: numbers[places::LENGTH] as usize,
         settings: settings_from(numbers),
-        life: life_from(numbers[10]),
+        life: life_from(numbers[places::LIFE]),
         frame,
         palette: Palette::of_table(*registers),
     }

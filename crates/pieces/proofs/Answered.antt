@@ -28,7 +28,9 @@ turns-append step rest c (u ∷ ts) t = turns-append step rest (turn step rest c
 pub stream-append : (ts us : List Turn) → stream (ts ++ us) ≡ stream ts ++ stream us
 unfolding stream
 stream-append [] us = refl
-stream-append (t ∷ ts) us = ap (λ (bs : List ℕ). pieceOf t ++ bs) (stream-append ts us) ∙ sym (append-assoc (pieceOf t) (stream ts) (stream us))
+stream-append (t ∷ ts) us =
+    ap (λ (bs : List ℕ). pieceOf t ++ bs) (stream-append ts us)
+    ∙ sym (append-assoc (pieceOf t) (stream ts) (stream us))
 
 pub pieces-append : (ts us : List Turn) → pieces (ts ++ us) ≡ pieces ts + pieces us
 unfolding pieces
@@ -68,7 +70,8 @@ answered-reader (answers.Ended c i e) s r = refl
 answered-reader (answers.Refused n) s r = refl
 
 -- a call that is a piece's last says how it came to its end; any other is a stop, after which the rest is unread
-pub last-how : (a : Answer) (s : Session) (r : Reader) → calledAs a s r .stopped ≡ 0 → (howTold (answerMeant a) ≡ stopped → 0 < consumedTold (answerMeant a))
+pub last-how : (a : Answer) (s : Session) (r : Reader) → calledAs a s r .stopped ≡ 0
+    → (howTold (answerMeant a) ≡ stopped → 0 < consumedTold (answerMeant a))
     → howTold (answerMeant a) ≡ howStood (stoodAt a)
 unfolding calledAs stoodAt howTold consumedTold answerMeant howStood
 last-how (answers.More c i) s r e pos = refl

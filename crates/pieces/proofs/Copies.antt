@@ -32,7 +32,8 @@ pub record Declined (lent : List ℕ) (owner : Palette) (number : ℕ) (y : Fini
   pub numbered : numberOf refusal ≡ number
   pub answers : y ≡ (record { answer = finishes.Refused refusal; palette = owner }, lent)
 
-pub declined : {picture lent : List ℕ} {owner : Palette} {y : Finished × List ℕ} {number : ℕ} → Finishes picture owner lent y (meant.turnedDown number)
+pub declined : {picture lent : List ℕ} {owner : Palette} {y : Finished × List ℕ} {number : ℕ}
+    → Finishes picture owner lent y (meant.turnedDown number)
     → Declined lent owner number y
 declined (declines n) = record { refusal = n; numbered = refl; answers = refl }
 
@@ -44,17 +45,20 @@ pub record Reported (picture : List ℕ) (y : Finished × List ℕ) (z : meant.F
   pub means : z ≡ meant.finished (reportMeant report palette)
 
 -- so is every finish where the definition reports
-pub reported : {picture lent : List ℕ} {owner : Palette} {y : Finished × List ℕ} {z : meant.Finished} {r : meant.Report} → Finishes picture owner lent y z
+pub reported : {picture lent : List ℕ} {owner : Palette} {y : Finished × List ℕ} {z : meant.Finished} {r : meant.Report}
+    → Finishes picture owner lent y z
     → z ≡ meant.finished r → Reported picture y z
 reported (pictures {r} {p}) e = record { report = r; palette = p; answers = refl; means = refl }
 reported (declines n) e = absurd (let never : _≡_ {A = ℕ} 0 1 = cc in omega arith)
 
 -- a size that is reported has room
-pub report-fits : (s : Setting) (p : Palette) (bs : List ℕ) {r : meant.Report} → Roomy s → oneShot s p bs ≡ meant.finished r → Fits s (r .size)
+pub report-fits : (s : Setting) (p : Palette) (bs : List ℕ) {r : meant.Report}
+    → Roomy s → oneShot s p bs ≡ meant.finished r → Fits s (r .size)
 report-fits s p bs roomy e = subst (ReportFits s) e (one-shot-reported roomy p bs)
 
 -- and so it is copied without gaps, where the other buffer has room
-pub copy-rows : (s : Setting) {a : Area} (canvas : List ℕ) → Roomy s → Fits s a → s .rows ≡ calls.settingFor (s .limits) (s .stride) (length canvas) .rows
+pub copy-rows : (s : Setting) {a : Area} (canvas : List ℕ)
+    → Roomy s → Fits s a → s .rows ≡ calls.settingFor (s .limits) (s .stride) (length canvas) .rows
     → (out : List ℕ) → sizeOf a ≤ length out
     → copied (s .stride) a canvas out ≡ (0, packed (s .stride) (a .width) (a .height) canvas ++ drop (sizeOf a) out)
 unfolding copied hasPicture fits calls.settingFor

@@ -1,5 +1,5 @@
--- The promise of a reader that takes its stream in pieces, from the promises of the DCS session: at the end the picture is the definition's, and the
--- calls are at most the pieces and the ink.
+-- The promise of a reader that takes its stream in pieces, from the promises of the DCS session: at the end the picture is
+-- the definition's, and the calls are at most the pieces and the ink.
 use Prim.Native.Nat.{ℕ, _+_, _*_, _-_, _/_, _≤_}
 use native.Mathlib.Nat.{div-one}
 use native.Mathlib.Omega.{arith}
@@ -29,7 +29,7 @@ use Rattle.payload.specs.declared.Finished.{Finished}
 use Rattle.payload.specs.declared.Report.{Report}
 use Rattle.payload.specs.History.{Finishes}
 use Rattle.payload.specs.Meant.{settingMeant, limitsMeant, reportMeant}
-use Rattle.payload.specs.Judge.{openable}
+use Rattle.payload.specs.Refusals.{openable}
 use Rattle.payload.specs.Session.{turnedAway}
 use Rattle.payload.proofs.Openings.{opens-meant}
 use Rattle.dcs.specs.declared.Ending.{Ending}
@@ -51,7 +51,8 @@ use Rattle.pieces.proofs.Taking.{joined-append, length-append, start-fo
 use Rattle.pieces.proofs.Turns.{now, Follows}
 
 -- Any pieces, taken one after the other from an opening that succeeds.
-module _ (l : Limits) (stride : ℕ) (p : Palette) (opening : List ℕ) (opens : openable l stride (length opening) ≡ true) (zs : List (List ℕ)) where
+module _ (l : Limits) (stride : ℕ) (p : Palette) (opening : List ℕ) (opens : openable l stride (length opening) ≡ true)
+    (zs : List (List ℕ)) where
   abbrev pub setting : Setting
   setting = settingMeant l stride (length opening)
 
@@ -114,17 +115,21 @@ module _ (l : Limits) (stride : ℕ) (p : Palette) (opening : List ℕ) (opens :
 
   -- reading what was taken at once comes to where the caller stands
   ran : readFrom (dcsStep setting p) start taken ≡ ranBy there
-  ran = ap (readFrom (dcsStep setting p) start) (sym whole) ∙ history.whole-state l stride p opening opens (6 * l .width) turns enough ok going
+  ran =
+      ap (readFrom (dcsStep setting p) start) (sym whole)
+      ∙ history.whole-state l stride p opening opens (6 * l .width) turns enough ok going
 
   all-taken : reader .standing ≡ standings.Reading → bytes ≡ taken
   unfolding joined
   all-taken e = split ∙ ap (λ (ys : List (List ℕ)). taken ++ joined ys) (all .last e) ∙ append-nil taken
 
-  end-taken : {e : Ending} → reader .standing ≡ standings.Ended e → calls.dcsEnd (readFrom (dcsStep setting p) start taken .state) ≡ some (endMeant e)
+  end-taken : {e : Ending} → reader .standing ≡ standings.Ended e
+      → calls.dcsEnd (readFrom (dcsStep setting p) start taken .state) ≡ some (endMeant e)
   unfolding ranBy
   end-taken {e} h = ap (λ (q : Run Phase). calls.dcsEnd (q .state)) ran ∙ follows .end e h
 
-  refusal-taken : {n : Refusal} → reader .standing ≡ standings.Refused n → readFrom (dcsStep setting p) start taken .how ≡ refusedBy (numberOf n)
+  refusal-taken : {n : Refusal} → reader .standing ≡ standings.Refused n
+      → readFrom (dcsStep setting p) start taken .how ≡ refusedBy (numberOf n)
   unfolding ranBy howStood
   refusal-taken h =
       ap (λ (q : Run Phase). q .how) ran
@@ -136,8 +141,10 @@ module _ (l : Limits) (stride : ℕ) (p : Palette) (opening : List ℕ) (opens :
     where
       go : (t : Standing) → reader .standing ≡ t → sequenceInk setting p taken ≡ sequenceInk setting p bytes
       go standings.Reading h = ap (sequenceInk setting p) (sym (all-taken h))
-      go (standings.Ended e) h = sym (ap (sequenceInk setting p) split ∙ ended-ink setting p taken (joined (all .later)) (end-taken h))
-      go (standings.Refused n) h = sym (ap (sequenceInk setting p) split ∙ refused-ink setting p taken (joined (all .later)) (refusal-taken h))
+      go (standings.Ended e) h =
+          sym (ap (sequenceInk setting p) split ∙ ended-ink setting p taken (joined (all .later)) (end-taken h))
+      go (standings.Refused n) h =
+          sym (ap (sequenceInk setting p) split ∙ refused-ink setting p taken (joined (all .later)) (refusal-taken h))
 
   -- nor lead elsewhere
   state-taken : readFrom (dcsStep setting p) start taken .state ≡ readFrom (dcsStep setting p) start bytes .state
@@ -159,7 +166,8 @@ module _ (l : Limits) (stride : ℕ) (p : Palette) (opening : List ℕ) (opens :
   canvas-whole =
       follows .keeps .canvas
       ∙ history.canvas-shows l stride p opening opens (6 * l .width) turns enough ok
-      ∙ ap (λ (t : Phase). calls.shown stride (calls.drawingOf t) opening) (sym (ap (λ (q : Run Phase). q .state) ran) ∙ state-taken)
+      ∙ ap (λ (t : Phase). calls.shown stride (calls.drawingOf t) opening)
+      (sym (ap (λ (q : Run Phase). q .state) ran) ∙ state-taken)
 
   -- Demand 3, its first sentence: the calls are at most the pieces and I, the ink of the whole stream.
   pub calls-bounded : made ≤ length zs + sequenceInk setting p bytes
@@ -170,7 +178,8 @@ module _ (l : Limits) (stride : ℕ) (p : Palette) (opening : List ℕ) (opens :
       history.calls-bounded l stride p opening opens (6 * l .width) turns enough ok in
       let ink : sequenceInk setting p (stream turns) / (6 * l .width - 6 * l .width + 1) ≡ sequenceInk setting p bytes =
       ap (λ (n : ℕ). sequenceInk setting p (stream turns) / n) one ∙ div-one _ ∙ ap (sequenceInk setting p) whole ∙ ink-taken in
-      let some-taken : length zs ≡ length (all .taken) + length (all .later) = ap length (all .split) ∙ length-append (all .taken) (all .later) in
+      let some-taken : length zs ≡ length (all .taken) + length (all .later) =
+      ap length (all .split) ∙ length-append (all .taken) (all .later) in
       omega (arith, all .calls, all .count)
 
   -- The reader's count is the number of calls, saturated.
@@ -186,18 +195,24 @@ module _ (l : Limits) (stride : ℕ) (p : Palette) (opening : List ℕ) (opens :
   pub ink-whole : isRefused (howStood (reader .standing)) ≡ false → reader .counts .ink ≡ held (sequenceInk setting p bytes)
   ink-whole h =
       follows .keeps .ink
-      ∙ ap held (history.whole-ink l stride p opening opens (6 * l .width) turns enough ok going (fine h) ∙ ap (sequenceInk setting p) whole ∙ ink-taken)
+      ∙ ap held
+      (history.whole-ink l stride p opening opens (6 * l .width) turns enough ok going (fine h)
+      ∙ ap (sequenceInk setting p) whole
+      ∙ ink-taken)
 
   -- A refusal is what introducer and header are refused with, or what reading the whole at once answers.
   pub refusal-whole : {n : Refusal} → reader .standing ≡ standings.Refused n
-      → (numberOf n ≤ 3 → sequencePayload bytes ≡ refusedWith (numberOf n)) × (2 ≤ numberOf n → oneShot setting p bytes ≡ meant.turnedDown (numberOf n))
+      → (numberOf n ≤ 3 → sequencePayload bytes ≡ refusedWith (numberOf n))
+      × (2 ≤ numberOf n → oneShot setting p bytes ≡ meant.turnedDown (numberOf n))
   refusal-whole {n} h =
       subst
-      (λ (bs : List ℕ). (numberOf n ≤ 3 → sequencePayload bs ≡ refusedWith (numberOf n)) × (2 ≤ numberOf n → oneShot setting p bs ≡ meant.turnedDown (numberOf n)))
+      (λ (bs : List ℕ). (numberOf n ≤ 3 → sequencePayload bs ≡ refusedWith (numberOf n))
+      × (2 ≤ numberOf n → oneShot setting p bs ≡ meant.turnedDown (numberOf n)))
       (sym split) (refused-answer setting p taken (joined (all .later)) (refusal-taken h))
 
   -- A finish repeats it, writes nothing and leaves the owner's palette.
-  pub refusal-repeated : {n : Refusal} → reader .standing ≡ standings.Refused n → (owner : Palette) → finishedBy reader owner canvas ≡ turnedAway owner n canvas
+  pub refusal-repeated : {n : Refusal} → reader .standing ≡ standings.Refused n
+      → (owner : Palette) → finishedBy reader owner canvas ≡ turnedAway owner n canvas
   unfolding finishedBy finishedAs
   refusal-repeated h owner = ap (λ (t : Standing). finishedAs t reader owner canvas) h
 
@@ -219,7 +234,9 @@ module _ (l : Limits) (stride : ℕ) (p : Palette) (opening : List ℕ) (opens :
     unfinished-whole owner =
         subst (λ (lent : List ℕ). Declined lent owner 8 (finishedBy reader owner lent)) (sym (follows .keeps .canvas))
         (subst (Declined (caller .state .1) owner 8)
-        (sym (ap (λ (t : Standing). finishedAs t reader owner (caller .state .1)) reads ∙ ap (λ (s : Session). dcs.finishedBy s owner (caller .state .1)) (follows .keeps .session)))
+        (sym
+        (ap (λ (t : Standing). finishedAs t reader owner (caller .state .1)) reads
+        ∙ ap (λ (s : Session). dcs.finishedBy s owner (caller .state .1)) (follows .keeps .session)))
         (declined (unfinished l stride p opening opens (6 * l .width) turns enough ok needs-more owner)))
 
   -- ---- at an end
@@ -257,9 +274,9 @@ module _ (l : Limits) (stride : ℕ) (p : Palette) (opening : List ℕ) (opens :
     picture-whole : calls.oneShotShown (limitsMeant l) stride (length opening) p (stream turns) opening ≡ picture
     unfolding calls.oneShotShown settingMeant
     picture-whole =
+        let drawn : List ℕ → Option Drawing = λ bs. calls.drawingFound setting p (findPayload bs) in
         ap (λ (d : Option Drawing). cond (calls.opens (limitsMeant l) stride (length opening)) (calls.shown stride d opening) opening)
-        (ap (λ (bs : List ℕ). calls.drawingFound setting p (findPayload bs)) whole
-        ∙ sym (ap (λ (bs : List ℕ). calls.drawingFound setting p (findPayload bs)) split ∙ ended-drawing setting p taken (joined (all .later)) (end-taken ended)))
+        (ap drawn whole ∙ sym (ap drawn split ∙ ended-drawing setting p taken (joined (all .later)) (end-taken ended)))
 
     finish-same : (owner : Palette) → finishedBy reader owner canvas ≡ dcs.finishedBy (caller .state .0) owner (caller .state .1)
     unfolding finishedBy finishedAs
@@ -273,16 +290,21 @@ module _ (l : Limits) (stride : ℕ) (p : Palette) (opening : List ℕ) (opens :
         ap (oneShot setting p) whole
         ∙ sym (ap (oneShot setting p) split ∙ ended-answer setting p taken (joined (all .later)) (end-taken ended))
 
-    -- Demand 2, and the second sentence of demand 3: a finish answers what reading the whole stream at once does, with its picture on the canvas.
+    -- Demand 2, and the second sentence of demand 3: a finish answers what reading the whole stream at once does, with its
+    -- picture on the canvas.
     finish-whole : (owner : Palette) → Finishes picture owner canvas (finishedBy reader owner canvas) (oneShot setting p bytes)
     finish-whole owner =
         let ends : Finished × List ℕ = dcs.finishedBy (caller .state .0) owner (caller .state .1) in
-        let answers : Finishes (calls.oneShotShown (limitsMeant l) stride (length opening) p (stream turns) opening) owner (caller .state .1) ends (oneShot setting p (stream turns)) =
+        let painted : List ℕ = calls.oneShotShown (limitsMeant l) stride (length opening) p (stream turns) opening in
+        let answers : Finishes painted owner (caller .state .1) ends (oneShot setting p (stream turns)) =
         history.stream-finishes l stride p opening opens (6 * l .width) turns enough ok told owner in
-        subst (λ (lent : List ℕ). Finishes picture owner lent (finishedBy reader owner canvas) (oneShot setting p bytes)) (sym (follows .keeps .canvas))
-        (subst (λ (y : Finished × List ℕ). Finishes picture owner (caller .state .1) y (oneShot setting p bytes)) (sym (finish-same owner))
+        subst (λ (lent : List ℕ). Finishes picture owner lent (finishedBy reader owner canvas) (oneShot setting p bytes))
+        (sym (follows .keeps .canvas))
+        (subst (λ (y : Finished × List ℕ). Finishes picture owner (caller .state .1) y (oneShot setting p bytes))
+        (sym (finish-same owner))
         (subst (λ (z : meant.Finished). Finishes picture owner (caller .state .1) ends z) answer-whole
-        (subst (λ (shows : List ℕ). Finishes shows owner (caller .state .1) ends (oneShot setting p (stream turns))) picture-whole answers)))
+        (subst (λ (shows : List ℕ). Finishes shows owner (caller .state .1) ends (oneShot setting p (stream turns)))
+        picture-whole answers)))
 
     roomy : Roomy setting
     unfolding settingMeant
@@ -305,7 +327,8 @@ module _ (l : Limits) (stride : ℕ) (p : Palette) (opening : List ℕ) (opens :
         ≡ (0, packed stride (r .width) (r .height) picture ++ drop (sizeOf (areaOf (r .width) (r .height))) out)
     unfolding settingMeant limitsMeant calls.settingFor reportMeant
     copy-whole r q means out room =
-        copy-rows setting picture roomy (report-fits setting p bytes roomy means) (ap (λ (n : ℕ). rowsOf n stride) (sym picture-long)) out room
+        copy-rows setting picture roomy (report-fits setting p bytes roomy means)
+        (ap (λ (n : ℕ). rowsOf n stride) (sym picture-long)) out room
 
     -- what is promised of a stream that was taken to its end, finished with an owner's palette and copied to another buffer
     pub record Kept (owner : Palette) (out : List ℕ) : Type 0 where
@@ -317,9 +340,14 @@ module _ (l : Limits) (stride : ℕ) (p : Palette) (opening : List ℕ) (opens :
       pub finish : Reported picture (finishedBy reader owner canvas) (oneShot setting p bytes)
       pub copy : sizeOf (areaOf (finish .report .width) (finish .report .height)) ≤ length out
           → copied stride (areaOf (finish .report .width) (finish .report .height)) picture out
-          ≡ (0, packed stride (finish .report .width) (finish .report .height) picture ++ drop (sizeOf (areaOf (finish .report .width) (finish .report .height))) out)
+          ≡ (
+            0,
+            packed stride (finish .report .width) (finish .report .height) picture
+                ++ drop (sizeOf (areaOf (finish .report .width) (finish .report .height))) out,
+          )
 
-    -- The promise: the calls are at most the pieces and the ink, the counts and the end are the definition's, and so are the answer and the picture.
+    -- The promise: the calls are at most the pieces and the ink, the counts and the end are the definition's, and so are the
+    -- answer and the picture.
     pub promise : (owner : Palette) (out : List ℕ) → Kept owner out
     promise owner out =
         record {
@@ -329,5 +357,5 @@ module _ (l : Limits) (stride : ℕ) (p : Palette) (opening : List ℕ) (opens :
           consumed = consumed-whole;
           end = end-whole;
           finish = picture-reported owner;
-          copy = copy-whole (picture-reported owner .report) (picture-reported owner .palette) (picture-reported owner .means) out;
+          copy = let told = picture-reported owner in copy-whole (told .report) (told .palette) (told .means) out;
         }

@@ -15,7 +15,7 @@ use Rattle.payload.specs.declared.Finishing.the-variants as finishes
 use Rattle.payload.specs.declared.Opening.{Opening}
 use Rattle.payload.specs.declared.Opening.the-variants as openings
 use Rattle.payload.specs.Meant.{limitsMeant}
-use Rattle.payload.specs.Judge.{openable}
+use Rattle.payload.specs.Refusals.{openable}
 use Rattle.payload.specs.Session.{turnedAway}
 use Rattle.payload.proofs.Openings.{opens-meant}
 use Rattle.dcs.specs.declared.Answer.{Answer}
@@ -37,7 +37,8 @@ use Rattle.pieces.proofs.Standing as StandingType
 
 -- ---- counts
 
-pub counted-as : {x y z : ℕ} (c : Counts) (consumed ink : ℕ) → x ≡ heldSum (c .consumed) consumed → y ≡ heldSum (c .ink) ink → z ≡ heldSum (c .calls) 1
+pub counted-as : {x y z : ℕ} (c : Counts) (consumed ink : ℕ)
+    → x ≡ heldSum (c .consumed) consumed → y ≡ heldSum (c .ink) ink → z ≡ heldSum (c .calls) 1
     → _≡_ {A = Counts} (record { consumed = x; ink = y; calls = z }) (countedAs c consumed ink)
 unfolding countedAs
 counted-as c consumed ink x y z = rw (x, y, z) refl
@@ -50,7 +51,8 @@ after-as r s t consumed ink e = ap (λ (k : Counts). record { session = s; stand
 -- ---- opening
 
 pub began-as : (s : Session) (t : Standing) (a : ℕ)
-    → _≡_ {A = Reader} (record { session = s; standing = t; allowance = a; counts = record { consumed = 0; ink = 0; calls = 0 } }) (beganAs s t a)
+    → _≡_ {A = Reader} (record { session = s; standing = t; allowance = a; counts = record { consumed = 0; ink = 0; calls = 0 } })
+    (beganAs s t a)
 unfolding beganAs
 began-as s t a = refl
 
@@ -70,11 +72,13 @@ module _ {o : Opened} (l : Limits) (stride : ℕ) (p : Palette) (size : ℕ) (e 
       ∙ ap (λ (a : Opening). openedAs a (o .session) (l .width)) (sym k)
       ∙ ap (λ (x : Opened). openedAs (x .answer) (x .session) (l .width)) e
 
-  pub opens-ready : {r : Reader} → o .answer ≡ openings.Ready → r ≡ beganAs (o .session) standings.Reading (6 * l .width) → r ≡ openedBy l stride p size
+  pub opens-ready : {r : Reader}
+      → o .answer ≡ openings.Ready → r ≡ beganAs (o .session) standings.Reading (6 * l .width) → r ≡ openedBy l stride p size
   unfolding openedAs
   opens-ready k h = opens-as k h
 
-  pub opens-refused : {n : Refusal} {r : Reader} → o .answer ≡ openings.Refused n → r ≡ beganAs (o .session) (standings.Refused n) 0 → r ≡ openedBy l stride p size
+  pub opens-refused : {n : Refusal} {r : Reader}
+      → o .answer ≡ openings.Refused n → r ≡ beganAs (o .session) (standings.Refused n) 0 → r ≡ openedBy l stride p size
   unfolding openedAs
   opens-refused k h = opens-as k h
 
@@ -82,24 +86,27 @@ pub ruleset openings-laws = (opens-ready, opens-refused)
 
 -- ---- one call
 
+-- what a standing and three counts are told as
+abbrev telling : Standing → ℕ → ℕ → ℕ → Told
+telling s consumed ink stopped = record { standing = s; consumed = consumed; ink = ink; stopped = stopped }
+
 module _ (a : Answer) {t : Told} where
   tells-as : {b : Answer} → a ≡ b → t ≡ toldBy b → t ≡ toldBy a
   tells-as k h = h ∙ ap toldBy (sym k)
 
-  pub tells-more : {n i : ℕ} → a ≡ answers.More n i → t ≡ record { standing = standings.Reading; consumed = n; ink = i; stopped = 0 } → t ≡ toldBy a
+  pub tells-more : {n i : ℕ} → a ≡ answers.More n i → t ≡ telling standings.Reading n i 0 → t ≡ toldBy a
   unfolding toldBy
   tells-more k h = tells-as k h
 
-  pub tells-stopped : {n i : ℕ} → a ≡ answers.Stopped n i → t ≡ record { standing = standings.Reading; consumed = n; ink = i; stopped = n } → t ≡ toldBy a
+  pub tells-stopped : {n i : ℕ} → a ≡ answers.Stopped n i → t ≡ telling standings.Reading n i n → t ≡ toldBy a
   unfolding toldBy
   tells-stopped k h = tells-as k h
 
-  pub tells-ended : {n i : ℕ} {d : Ending} → a ≡ answers.Ended n i d
-      → t ≡ record { standing = standings.Ended d; consumed = n; ink = i; stopped = 0 } → t ≡ toldBy a
+  pub tells-ended : {n i : ℕ} {d : Ending} → a ≡ answers.Ended n i d → t ≡ telling (standings.Ended d) n i 0 → t ≡ toldBy a
   unfolding toldBy
   tells-ended k h = tells-as k h
 
-  pub tells-refused : {n : Refusal} → a ≡ answers.Refused n → t ≡ record { standing = standings.Refused n; consumed = 0; ink = 0; stopped = 0 } → t ≡ toldBy a
+  pub tells-refused : {n : Refusal} → a ≡ answers.Refused n → t ≡ telling (standings.Refused n) 0 0 0 → t ≡ toldBy a
   unfolding toldBy
   tells-refused k h = tells-as k h
 
@@ -112,7 +119,9 @@ pub calls : (r : Reader) (canvas bytes : List ℕ) {f : Fed} {after : List ℕ} 
 unfolding calledBy calledAs
 calls r canvas bytes {f} {after} {t} fed told read =
     ap (λ (k : Reader). (record { reader = k; stopped = t .stopped }, after)) read
-    ∙ ap (λ (t : Told). (record { reader = afterCall r (f .session) (t .standing) (t .consumed) (t .ink); stopped = t .stopped }, after)) told
+    ∙ ap
+    (λ (t : Told). (record { reader = afterCall r (f .session) (t .standing) (t .consumed) (t .ink); stopped = t .stopped }, after))
+    told
     ∙ ap (λ (x : Fed × List ℕ). (calledAs (x .0 .answer) (x .0 .session) r, x .1)) fed
 
 -- ---- finishing

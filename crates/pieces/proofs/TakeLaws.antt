@@ -55,13 +55,15 @@ unfolding takenFor
 taken-again n r canvas bytes e = cond-no _ _ (ne-eqb _ _ e)
 
 -- and so many calls are made
-pub calls-last : (n : ℕ) (r : Reader) (canvas bytes : List ℕ) → calledBy r canvas bytes .0 .stopped ≡ 0 → callsFor (suc n) r canvas bytes ≡ 1
+pub calls-last : (n : ℕ) (r : Reader) (canvas bytes : List ℕ) → calledBy r canvas bytes .0 .stopped ≡ 0
+    → callsFor (suc n) r canvas bytes ≡ 1
 unfolding callsFor
 calls-last n r canvas bytes e = cond-yes _ _ (eq-eqb _ _ e)
 
 pub calls-again : (n : ℕ) (r : Reader) (canvas bytes : List ℕ) → (calledBy r canvas bytes .0 .stopped ≡ 0 → ⊥)
     → callsFor (suc n) r canvas bytes
-    ≡ suc (callsFor n (calledBy r canvas bytes .0 .reader) (calledBy r canvas bytes .1) (drop (calledBy r canvas bytes .0 .stopped) bytes))
+    ≡ suc (callsFor n (calledBy r canvas bytes .0 .reader) (calledBy r canvas bytes .1)
+    (drop (calledBy r canvas bytes .0 .stopped) bytes))
 unfolding callsFor
 calls-again n r canvas bytes e = cond-no _ _ (ne-eqb _ _ e)
 
@@ -104,7 +106,8 @@ midway-start r l piece =
 rest-all : (piece : List ℕ) (at : ℕ) → take (length piece - at) (drop at piece) ≡ drop at piece
 rest-all piece at = take-all (length piece - at) (drop at piece) (rw (length-drop at piece) (omega arith))
 
-module _ {r₀ r : Reader} {l₀ piece l l₁ : List ℕ} {at : ℕ} {x : Called} (mid : Midway r₀ l₀ piece l r at) (e : (x, l₁) ≡ calledBy r l (take (length piece - at) (drop at piece))) where
+module _ {r₀ r : Reader} {l₀ piece l l₁ : List ℕ} {at : ℕ} {x : Called}
+    (mid : Midway r₀ l₀ piece l r at) (e : (x, l₁) ≡ calledBy r l (take (length piece - at) (drop at piece))) where
   made : (x, l₁) ≡ calledBy r l (drop at piece)
   made = e ∙ ap (calledBy r l) (rest-all piece at)
 
@@ -126,15 +129,18 @@ module _ {r₀ r : Reader} {l₀ piece l l₁ : List ℕ} {at : ℕ} {x : Called
 
     pub midway-again : length l₁ ≡ length l → Midway r₀ l₀ piece l₁ (x .reader) (at + x .stopped)
     midway-again kept =
-        let left : length (drop (x .stopped) (drop at piece)) ≡ length piece - (at + x .stopped) = ap length (drop-drop (x .stopped) at piece) ∙ length-drop (at + x .stopped) piece in
+        let rest : List ℕ = drop (x .stopped) (drop at piece) in
+        let left : length rest ≡ length piece - (at + x .stopped) =
+        ap length (drop-drop (x .stopped) at piece) ∙ length-drop (at + x .stopped) piece in
         let less : length piece - (at + x .stopped) < length piece - at = again-less in
         record {
           within = again-within;
           kept = kept ∙ mid .kept;
           goes =
               ap (takenFor (suc (length piece - (at + x .stopped))) (x .reader) l₁) (sym (drop-drop (x .stopped) at piece))
-              ∙ taken-enough (suc (length piece - (at + x .stopped))) (length piece - at) (x .reader) l₁ (drop (x .stopped) (drop at piece)) (omega arith) (omega arith)
-              ∙ ap (λ (y : Called × List ℕ). takenFor (length piece - at) (y .0 .reader) (y .1) (drop (y .0 .stopped) (drop at piece))) made
+              ∙ taken-enough (suc (length piece - (at + x .stopped))) (length piece - at) (x .reader) l₁ rest (omega arith) (omega arith)
+              ∙ ap (λ (y : Called × List ℕ). takenFor (length piece - at) (y .0 .reader) (y .1)
+              (drop (y .0 .stopped) (drop at piece))) made
               ∙ sym (taken-again (length piece - at) r l (drop at piece) (λ z. h (count ∙ z)))
               ∙ mid .goes;
         }
@@ -143,7 +149,8 @@ pub ruleset loop-laws = (midway-start, again-within, midway-last, again-less, mi
 
 -- ---- a piece
 
-not-reading : (r : Reader) (l piece : List ℕ) (t : Standing) → OneOf (1 ∷ 2 ∷ []) (tagOf StandingType.the-type t) → (r, l) ≡ takenAs t r l piece
+not-reading : (r : Reader) (l piece : List ℕ) (t : Standing) → OneOf (1 ∷ 2 ∷ []) (tagOf StandingType.the-type t)
+    → (r, l) ≡ takenAs t r l piece
 unfolding takenAs
 not-reading r l piece standings.Reading h = absurd (miss (1 ∷ 2 ∷ []) 0 tt h)
 not-reading r l piece (standings.Ended e) h = refl
@@ -154,7 +161,8 @@ module _ (r : Reader) (l piece : List ℕ) where
   unfolding takenBy
   take-over h = not-reading r l piece (r .standing) h
 
-  pub take-reading : {x : Reader} {l₁ : List ℕ} → r .standing ≡ standings.Reading → (x, l₁) ≡ takenIn r l piece → (x, l₁) ≡ takenBy r l piece
+  pub take-reading : {x : Reader} {l₁ : List ℕ} → r .standing ≡ standings.Reading → (x, l₁) ≡ takenIn r l piece
+      → (x, l₁) ≡ takenBy r l piece
   unfolding takenBy takenAs
   take-reading e h = h ∙ ap (λ (t : Standing). takenAs t r l piece) (sym e)
 

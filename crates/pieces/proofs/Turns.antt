@@ -1,5 +1,5 @@
--- A reader that takes pieces is a caller of rule 6.7: it makes calls with the smallest allowance, presents what was left unread next, and adds up
--- what the answers told.
+-- A reader that takes pieces is a caller of rule 6.7: it makes calls with the smallest allowance, presents what was left
+-- unread next, and adds up what the answers told.
 use Prim.Native.Nat.{ℕ, zero, suc, _*_, _≤_, _<_}
 use native.Mathlib.Omega.{arith}
 use mathlib.Core.Bool.{Bool, true, false}
@@ -19,7 +19,7 @@ use Rattle.meaning.specs.Reader.{stopped, Turn, again, pieceOf, allowanceOf, st
 use Rattle.meaning.specs.Sessions.{Phase, dcsStep, dcsRested}
 use Rattle.meaning.proofs.ToldLaws.{calls-append, proper-append, proper-one}
 use Rattle.payload.specs.Meant.{settingMeant}
-use Rattle.payload.specs.Judge.{openable}
+use Rattle.payload.specs.Refusals.{openable}
 use Rattle.dcs.specs.declared.Answer.{Answer}
 use Rattle.dcs.specs.declared.Ending.{Ending}
 use Rattle.dcs.specs.declared.Fed.{Fed}
@@ -139,7 +139,8 @@ module _ (l : Limits) (stride : ℕ) (p : Palette) (opening : List ℕ) (opens :
         omega (arith, stop-consumes l stride p opening opens smallest ts (omega arith) (k .proper) t (omega (arith, exact)) may e)
 
     -- a piece's last call
-    pub last-follows : calledBy r canvas bytes .0 .stopped ≡ 0 → Follows more (calledBy r canvas bytes .0 .reader) (calledBy r canvas bytes .1)
+    pub last-follows : calledBy r canvas bytes .0 .stopped ≡ 0
+        → Follows more (calledBy r canvas bytes .0 .reader) (calledBy r canvas bytes .1)
     unfolding afterCall
     last-follows e =
         let stands : calledBy r canvas bytes .0 .reader .standing ≡ stoodAt answer = ap (λ (x : Reader). x .standing) reader-same in
@@ -206,7 +207,13 @@ module _ (l : Limits) (stride : ℕ) (p : Palette) (opening : List ℕ) (opens :
       go later true e =
           let last : count ≡ 0 = eqb-true count 0 e in
           subst (λ (x : Reader × List ℕ). Took ts t x made) (sym (taken-last n r canvas bytes last))
-          (record { others = []; calls = calls-last n r canvas bytes last; nothing = refl; none-fresh = refl; follows = last-follows k t exact may bytes same last })
+          (record {
+            others = [];
+            calls = calls-last n r canvas bytes last;
+            nothing = refl;
+            none-fresh = refl;
+            follows = last-follows k t exact may bytes same last;
+          })
       go later false e =
           let on : count ≡ 0 → ⊥ = eqb-false count 0 e in
           let s = stop-next k t exact may bytes same on in

@@ -217,7 +217,8 @@ pub fn finish(reader: Reader, owner: Palette, canvas: &mut [u8]) -> Finished
 
 // Copies the rows of the picture that a finish reported to the front of `out`, without gaps.
 pub fn copy(report: Report, canvas: &[u8], stride: usize, out: &mut [u8]) -> Copied
-    ensures { λ r. ⌜ (numberOf r, now (out .exit)) ≡ copied stride (areaOf (report .width) (report .height)) (now (canvas .entry)) (now (out .entry)) ⌝ }
+    ensures { λ r. ⌜ (numberOf r, now (out .exit))
+        ≡ copied stride (areaOf (report .width) (report .height)) (now (canvas .entry)) (now (out .entry)) ⌝ }
 {
     copy_picture(canvas, stride, report.width, report.height, out)
 }

@@ -1,5 +1,5 @@
--- Two readers that are alike keep the same demands: where each answer, the canvas and the finish are the same whenever what is held is alike,
--- what is promised of the one is promised of the other.
+-- Two readers that are alike keep the same demands: where each answer, the canvas and the finish are the same whenever what is held
+-- is alike, what is promised of the one is promised of the other.
 use Prim.Native.Nat.{ℕ, _+_, _*_, _<_}
 use mathlib.Core.Bool.{Bool, true, false, _&&_}
 use mathlib.Core.Option.{Option, some}
@@ -49,7 +49,8 @@ module _ {H K E : Type 0} (f : Feed H (Answer E)) (g : Feed K (Answer E)) (canva
     (finish : H → Palette → Concluded) (conclude : K → Palette → Concluded) where
   -- such bytes are fed to both alike, canvas and finish are the same; and such bytes may be joined and dropped
   pub record AlikeReaders (Alike : H → K → Type 0) (Good : List ℕ → Type 0) : Type 0 where
-    pub fed : {h : H} {k : K} → Alike h k → (bs : List ℕ) → Good bs → (a : ℕ) → (g k bs a .1 ≡ f h bs a .1) × Alike (f h bs a .0) (g k bs a .0)
+    pub fed : {h : H} {k : K} → Alike h k → (bs : List ℕ) → Good bs → (a : ℕ)
+        → (g k bs a .1 ≡ f h bs a .1) × Alike (f h bs a .0) (g k bs a .0)
     pub canvas : {h : H} {k : K} → Alike h k → canvasAt k ≡ canvasOf h
     pub finished : {h : H} {k : K} → Alike h k → (owner : Palette) → conclude k owner ≡ finish h owner
     pub good-nil : Good []
@@ -118,13 +119,15 @@ module _ {H K E : Type 0} {f : Feed H (Answer E)} {g : Feed K (Answer E)} {canva
           how = ap howTold (first .0);
         })
 
-  pub turns-alike : {c : Caller H} {d : Caller K} → CallersAlike c d → (ts : List Turn) → GoodPieces Good ts → CallersAlike (callsOf f c ts) (callsOf g d ts)
+  pub turns-alike : {c : Caller H} {d : Caller K} → CallersAlike c d → (ts : List Turn) → GoodPieces Good ts
+      → CallersAlike (callsOf f c ts) (callsOf g d ts)
   unfolding callsOf
   turns-alike l [] good = l
   turns-alike l (t ∷ ts) good = turns-alike (called-alike l t (good .0)) ts (good .1)
 
   -- the same status is told last
-  pub status-alike : {c : Caller H} {d : Caller K} → CallersAlike c d → (ts : List Turn) → GoodPieces Good ts → {was is : Status E} → is ≡ was
+  pub status-alike : {c : Caller H} {d : Caller K} → CallersAlike c d → (ts : List Turn) → GoodPieces Good ts → {was is : Status E}
+      → is ≡ was
       → lastStatus g is d ts ≡ lastStatus f was c ts
   unfolding lastStatus
   status-alike l [] good e = e
@@ -141,8 +144,8 @@ module _ {H K E : Type 0} {f : Feed H (Answer E)} {g : Feed K (Answer E)} {canva
 
   -- ---- the demands
 
-  module _ {M : Type 0} (feedMeant : Feed M (Answer E)) (shows settles : M → List ℕ) (finishMeant : M → Finished) {h : H} {k : K} (l : Alike h k) (m : M)
-      (cs : List Ask) (good : GoodCalls Good cs) where
+  module _ {M : Type 0} (feedMeant : Feed M (Answer E)) (shows settles : M → List ℕ) (finishMeant : M → Finished)
+      {h : H} {k : K} (l : Alike h k) (m : M) (cs : List Ask) (good : GoodCalls Good cs) where
     pub one-alike : DemandOne f canvasOf finish feedMeant shows settles finishMeant h m cs
         → DemandOne g canvasAt conclude feedMeant shows settles finishMeant k m cs
     one-alike x =
@@ -155,7 +158,8 @@ module _ {H K E : Type 0} {f : Feed H (Answer E)} {g : Feed K (Answer E)} {canva
               both .finished (past .1) owner
               ∙ x .finishes owner
               ∙ ap
-              (λ (lent : List ℕ). concluded (settles (fedAll feedMeant m cs .state)) owner lent (finishMeant (fedAll feedMeant m cs .state)))
+              (λ (lent : List ℕ).
+              concluded (settles (fedAll feedMeant m cs .state)) owner lent (finishMeant (fedAll feedMeant m cs .state)))
               (sym same);
         }
 
@@ -176,13 +180,16 @@ module _ {H K E : Type 0} {f : Feed H (Answer E)} {g : Feed K (Answer E)} {canva
     read-there : (here .how ≡ stopped → ⊥) → there .how ≡ stopped → ⊥
     read-there all e = all (after .how ∙ e)
 
-    through-there : (here .how ≡ stopped → ⊥) × (isRefused (here .how) ≡ false) → (there .how ≡ stopped → ⊥) × (isRefused (there .how) ≡ false)
+    through-there : (here .how ≡ stopped → ⊥) × (isRefused (here .how) ≡ false)
+        → (there .how ≡ stopped → ⊥) × (isRefused (there .how) ≡ false)
     through-there t = (read-there (t .0), sym (ap isRefused (after .how)) ∙ t .1)
 
     pub two-alike : DemandTwo f canvasOf finish meant h ts → DemandTwo g canvasAt conclude meant k ts
     two-alike x =
         record {
-          refusal = λ all n. exactly (λ (w : How). w ≡ refusedBy n) (λ (o : Option ℕ). o ≡ some n) (after .how) refl (x .refusal (read-there all) n);
+          refusal =
+              λ all n. exactly (λ (w : How). w ≡ refusedBy n) (λ (o : Option ℕ). o ≡ some n) (after .how) refl
+              (x .refusal (read-there all) n);
           status = λ t. status-alike (ready-alike l) ts good refl ∙ x .status (through-there t);
           consumed = λ t. after .consumed ∙ x .consumed (through-there t);
           canvas-read = λ all. same-canvas ∙ x .canvas-read (read-there all);
@@ -204,7 +211,8 @@ module _ {H K E : Type 0} {f : Feed H (Answer E)} {g : Feed K (Answer E)} {canva
   pub sizes-alike : {lend : H → List ℕ → H} {give : K → List ℕ → K} → AlikeLent lend give Alike → (s : Setting) {h : H} {k : K} → Alike h k
       → (cs : List Ask) → GoodCalls Good cs → SizesFit f lend finish s h cs → SizesFit g give conclude s k cs
   sizes-alike lends s l cs good x lent owner =
-      subst (ReportFits s) (sym (ap (λ (z : Concluded). z .answer) (both .finished (lends .lent (calls-alike l cs good .1) lent) owner))) (x lent owner)
+      subst (ReportFits s)
+      (sym (ap (λ (z : Concluded). z .answer) (both .finished (lends .lent (calls-alike l cs good .1) lent) owner))) (x lent owner)
 
   -- ---- the refusals that come first
 
@@ -217,23 +225,28 @@ module _ {H K E : Type 0} {f : Feed H (Answer E)} {g : Feed K (Answer E)} {canva
     lent-alike : Alike (lend (fedAll f h cs .state) canvas) (give (fedAll g k cs .state) canvas)
     lent-alike = lends .lent (calls-alike l cs good .1) canvas
 
-    pub feeds-alike : (W : ℕ) (bs : List ℕ) → Good bs → (a : ℕ) → FeedRefusals f lend size h cs canvas W bs a → FeedRefusals g give size k cs canvas W bs a
+    pub feeds-alike : (W : ℕ) (bs : List ℕ) → Good bs → (a : ℕ) → FeedRefusals f lend size h cs canvas W bs a
+        → FeedRefusals g give size k cs canvas W bs a
     feeds-alike W bs fine a x =
         let told = both .fed lent-alike bs fine a in
         record {
-          nine = exactly (λ (w : Answer E). w ≡ refused 9) (λ (ws : List (Answer E)). haveFailed ws ≡ true) (told .0) same-answers (x .nine);
+          nine =
+              exactly (λ (w : Answer E). w ≡ refused 9) (λ (ws : List (Answer E)). haveFailed ws ≡ true) (told .0) same-answers (x .nine);
           twelve =
               exactly (λ (w : Answer E). w ≡ refused 12) (λ (ws : List (Answer E)). (haveFailed ws ≡ false) × (¬ (length canvas ≡ size)))
               (told .0) same-answers (x .twelve);
           thirteen =
-              exactly (λ (w : Answer E). w ≡ refused 13) (λ (ws : List (Answer E)). (haveFailed ws ≡ false) × (length canvas ≡ size) × (a < 6 * W))
+              exactly (λ (w : Answer E). w ≡ refused 13)
+              (λ (ws : List (Answer E)). (haveFailed ws ≡ false) × (length canvas ≡ size) × (a < 6 * W))
               (told .0) same-answers (x .thirteen);
           keeps = λ n most e.
-              let stays : f (lend (fedAll f h cs .state) canvas) bs a .0 ≡ lend (fedAll f h cs .state) canvas = x .keeps n most (sym (told .0) ∙ e) in
+              let stays : f (lend (fedAll f h cs .state) canvas) bs a .0 ≡ lend (fedAll f h cs .state) canvas =
+              x .keeps n most (sym (told .0) ∙ e) in
               lends .known (subst (λ (w : H). Alike w (g (give (fedAll g k cs .state) canvas) bs a .0)) stays (told .1)) lent-alike;
         }
 
-    pub finish-alike : (owner : Palette) → FinishRefusals f lend size h cs canvas finish owner → FinishRefusals g give size k cs canvas conclude owner
+    pub finish-alike : (owner : Palette) → FinishRefusals f lend size h cs canvas finish owner
+        → FinishRefusals g give size k cs canvas conclude owner
     finish-alike owner x =
         let same = both .finished lent-alike owner in
         let told = ap (λ (z : Concluded). z .answer) same in
@@ -247,7 +260,8 @@ module _ {H K E : Type 0} {f : Feed H (Answer E)} {g : Feed K (Answer E)} {canva
               (ap (λ (z : Concluded). z .palette) same ∙ kept .0, ap (λ (z : Concluded). z .canvas) same ∙ kept .1);
         }
 
-    pub early-alike : (owner : Palette) → FinishedEarly f lend size h cs canvas finish owner → FinishedEarly g give size k cs canvas conclude owner
+    pub early-alike : (owner : Palette) → FinishedEarly f lend size h cs canvas finish owner
+        → FinishedEarly g give size k cs canvas conclude owner
     early-alike owner x =
         exactly (λ (w : Finished). w ≡ turnedDown 8)
         (λ (ws : List (Answer E)). (haveFailed ws ≡ false) × (length canvas ≡ size) × (haveEnded ws ≡ false))

@@ -1,5 +1,5 @@
--- What the bin reader tells of a picture that was read, from the promises alone: of any reader that keeps demand 2, and of a reading all at once.
--- No definition of the reader's code is unfolded.
+-- What the bin reader tells of a picture that was read, from the promises alone: of any reader that keeps demand 2, and of a
+-- reading all at once. No definition of the reader's code is unfolded.
 use Prim.Native.Nat.{ℕ, _+_, _≤_, _<_}
 use native.Mathlib.Omega.{arith}
 use mathlib.Core.Bool.{Bool, true, false, cond}
@@ -33,7 +33,8 @@ use Rattle.promises.proofs.FourBytes.{payload-strokes-four, payload-bac
 -- ---- a picture
 
 -- one of the strokes inside an area is inside
-one-inside : (a : Area) (before : List Stroke) (k : Stroke) (later : List Stroke) → allInside a (before ++ k ∷ later) ≡ true → k .row + 6 ≤ a .height
+one-inside : (a : Area) (before : List Stroke) (k : Stroke) (later : List Stroke) → allInside a (before ++ k ∷ later) ≡ true
+    → k .row + 6 ≤ a .height
 one-inside a List.[] k later t = inside-row a k (all-parts a k later t .0)
 one-inside a (j ∷ before) k later t = one-inside a before k later (all-parts a j (before ++ k ∷ later) t .1)
 
@@ -54,12 +55,14 @@ module _ (l : Limits) (stride : ℕ) (opening : List ℕ) (opening-holds : opens
     sound : Sound setting drawing
     sound = payload-sound roomy o p bs
 
-    top-told : (b : bins.Setting) (bin : ℕ) (colour : List ℕ) → settingFits b (drawing .area .width) ≡ true → bin < b .count → length colour ≡ 4
+    top-told : (b : bins.Setting) (bin : ℕ) (colour : List ℕ) → settingFits b (drawing .area .width) ≡ true → bin < b .count
+        → length colour ≡ 4
         → Tells (shownColour (drawing .background) (drawing .strokes)) (shapeOf stride (drawing .area)) canvas b bin colour
     unfolding settingFor
     top-told b bin colour f less four =
         top-tells stride (drawing .area) (drawing .background) (drawing .strokes) opening (sound .fits .stride) (sound .fits .rows)
-        (payload-background-four setting o p bs) (payload-strokes-four setting o p bs) b bin colour (sound .fits .wide) (sound .fits .tall) f less four
+        (payload-background-four setting o p bs) (payload-strokes-four setting o p bs) b bin colour (sound .fits .wide)
+        (sound .fits .tall) f less four
 
     -- of a stroke and those before and after it
     module _ (before : List Stroke) (k : Stroke) (later : List Stroke) (e : drawing .strokes ≡ before ++ k ∷ later) where
@@ -67,7 +70,8 @@ module _ (l : Limits) (stride : ℕ) (opening : List ℕ) (opening-holds : opens
       parts = before ++ k ∷ later
 
       in-height : k .row + 6 ≤ drawing .area .height
-      in-height = one-inside (drawing .area) before k later (subst (λ (ks : List Stroke). allInside (drawing .area) ks ≡ true) e (sound .strokes))
+      in-height =
+          one-inside (drawing .area) before k later (subst (λ (ks : List Stroke). allInside (drawing .area) ks ≡ true) e (sound .strokes))
 
       four-bytes : length (k .colour) ≡ 4
       four-bytes = stroke-four before k later (subst FourStrokes e (payload-strokes-four setting o p bs))
@@ -75,7 +79,9 @@ module _ (l : Limits) (stride : ℕ) (opening : List ℕ) (opening-holds : opens
       parts-told : (b : bins.Setting) (bin : ℕ) → settingFits b (drawing .area .width) ≡ true → bin < b .count
           → Tells (shownColour (drawing .background) parts) (shapeOf stride (drawing .area)) canvas b bin (k .colour)
       parts-told b bin f less =
-          subst (λ (ks : List Stroke). Tells (shownColour (drawing .background) ks) (shapeOf stride (drawing .area)) canvas b bin (k .colour)) e
+          subst
+          (λ (ks : List Stroke). Tells (shownColour (drawing .background) ks) (shapeOf stride (drawing .area)) canvas b bin (k .colour))
+          e
           (top-told b bin (k .colour) f less four-bytes)
 
     -- Of the picture of a payload's drawing.
@@ -96,7 +102,8 @@ finish-size : (o : Parameters) (out : Outcome) (r : Report) → finish o out ≡
 unfolding finish reportOf
 finish-size o out r = go (out .refusal)
   where
-    go : (n : Option ℕ) → elim n [ none ↦ finished (reportOf o (out .drawing)) | some n ↦ turnedDown n ] ≡ finished r → r .size ≡ out .drawing .area
+    go : (n : Option ℕ) → elim n [ none ↦ finished (reportOf o (out .drawing)) | some n ↦ turnedDown n ] ≡ finished r
+        → r .size ≡ out .drawing .area
     go none e = let same : reportOf o (out .drawing) ≡ r = cc in sym (ap (λ (x : Report). x .size) same)
     go (some n) e = let never : _≡_ {A = ℕ} 0 1 = cc in absurd (omega arith)
 
@@ -120,13 +127,15 @@ module _ (l : Limits) (stride : ℕ) (opening : List ℕ) (opening-holds : opens
 
   -- a payload's
   payload-told : (o : Parameters) (bs : List ℕ) (r : Report) (canvas : List ℕ) → finish o (payload under o p bs) ≡ finished r
-      → canvas ≡ shown stride (some (payload under o p bs .drawing)) opening → ToldByBins stride (r .size) canvas (payload under o p bs .drawing)
+      → canvas ≡ shown stride (some (payload under o p bs .drawing)) opening
+      → ToldByBins stride (r .size) canvas (payload under o p bs .drawing)
   unfolding shown
   payload-told o bs r canvas e c =
       rw (finish-size o (payload under o p bs) r e, c) (picture-told l stride opening opening-holds o p bs)
 
   -- of a payload that was found
-  found-told : (f : Found) (r : Report) (canvas : List ℕ) → answerOf under p f ≡ finished r → canvas ≡ shown stride (drawingFound under p f) opening
+  found-told : (f : Found) (r : Report) (canvas : List ℕ) → answerOf under p f ≡ finished r
+      → canvas ≡ shown stride (drawingFound under p f) opening
       → FoundByBins under p f (r .size) canvas
   unfolding answerOf drawingFound settingFor
   found-told (found o part) r canvas e c = record { parameters = o; part = part; is-found = refl; told = payload-told o part r canvas e c }

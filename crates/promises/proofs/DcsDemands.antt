@@ -11,7 +11,7 @@ use Rattle.meaning.specs.Callers.{fedAll, Ask}
 use Rattle.meaning.specs.Demands.{Whole, sequenceWhole, DemandOne, DemandTwo, DemandThree}
 use Rattle.meaning.specs.Reader.{isAll, isRefused, Turn, ready}
 use Rattle.meaning.specs.Sessions.{End, Phase, start}
-use Rattle.payload.specs.Judge.{openable}
+use Rattle.payload.specs.Refusals.{openable}
 use Rattle.payload.specs.Meant.{limitsMeant, settingMeant}
 use Rattle.dcs.specs.Session.{openedBy}
 use Rattle.dcs.specs.History.{heldAt, Held, feedHeld, feedMeant, properCalls}

@@ -14,8 +14,8 @@ use Rattle.meaning.specs.Callers.{fedAll, Ask}
 use Rattle.meaning.specs.Demands.{haveFailed, haveEnded, FeedRefusals, FinishRefusals, FinishedEarly}
 use Rattle.meaning.specs.Drawing.{Setting}
 use Rattle.meaning.specs.Payload as meant
-use Rattle.payload.specs.Begin.{reservedBy}
-use Rattle.payload.specs.Judge.{isFailed, feedJudged, finishJudged}
+use Rattle.payload.specs.Deferred.{reservedBy}
+use Rattle.payload.specs.Refusals.{isFailed, feedJudged, finishJudged}
 use Rattle.payload.specs.Session.{sessionFor, turnedAway}
 use Rattle.payload.specs.Meant.{limitsMeant, settingMeant, finishMeant}
 use Rattle.dcs.specs.Session.{openedBy, fedAs, fedBy, finishedAs, finishedBy}

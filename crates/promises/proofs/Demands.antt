@@ -12,7 +12,7 @@ use Rattle.meaning.specs.Demands.{Whole, payloadWhole, DemandOne, DemandTwo, De
 use Rattle.meaning.specs.Reader.{isAll, isRefused, Turn, ready}
 use Rattle.meaning.specs.Sessions.{Reading, opened}
 use Rattle.payload.specs.declared.Settings.{Settings}
-use Rattle.payload.specs.Judge.{openable}
+use Rattle.payload.specs.Refusals.{openable}
 use Rattle.payload.specs.Session.{openedBy, fedBy}
 use Rattle.payload.specs.History.{Held, feedWith, feedMeant, properCalls}
 use Rattle.payload.specs.Meant.{parametersMeant, limitsMeant, settingMeant, answerMeant}

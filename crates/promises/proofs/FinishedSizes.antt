@@ -15,7 +15,7 @@ use Rattle.frame.specs.declared.Frame.{Frame}
 use Rattle.frame.specs.declared.Limits.{Limits}
 use Rattle.frame.specs.declared.Outcome.{Outcome}
 use Rattle.frame.specs.declared.Outcome.the-variants as outcomes
-use Rattle.frame.specs.declared.Sheet.{Sheet}
+use Rattle.frame.specs.declared.VisibleArea.{VisibleArea}
 use Rattle.meaning.specs.Calls as calls
 use Rattle.meaning.specs.Callers.{fedAll, Ask}
 use Rattle.meaning.specs.Sessions.{Reading, Phase}
@@ -24,7 +24,7 @@ use Rattle.meaning.specs.Drawing.{Setting}
 use Rattle.meaning.specs.Sizes.{Roomy, Fits, ReportFits, SizesFit}
 use Rattle.meaning.proofs.AreaLaws.{cond-case, opens-roomy, blank-sound}
 use Rattle.meaning.proofs.SizeHistories.{payload-reported, dcs-reported, one-shot-reported}
-use Rattle.bytewise.proofs.StepLaws.{settle-room}
+use Rattle.reference.proofs.StepLaws.{settle-room}
 use Rattle.agreement.specs.Same as same
 use Rattle.agreement.proofs.Settle.{same-fact}
 use Rattle.payload.specs.declared.Finishing.{Finishing}
@@ -32,15 +32,15 @@ use Rattle.payload.specs.declared.Finishing.the-variants as finishes
 use Rattle.payload.specs.declared.Life.the-variants as lives
 use Rattle.payload.specs.declared.Session as session
 use Rattle.payload.specs.declared.Settings.{Settings}
-use Rattle.payload.specs.declared.judge.Judged.{Judged}
-use Rattle.payload.specs.declared.judge.Judged.the-variants as judged
+use Rattle.payload.specs.declared.refusals.Verdict.{Verdict}
+use Rattle.payload.specs.declared.refusals.Verdict.the-variants as judged
 use Rattle.payload.specs.History as payload
-use Rattle.payload.specs.Begin.{noSettings}
-use Rattle.payload.specs.Judge.{isFailed, fitting, misfitting, finishJudged}
+use Rattle.payload.specs.Deferred.{noSettings}
+use Rattle.payload.specs.Refusals.{isFailed, fitting, misfitting, finishJudged}
 use Rattle.payload.specs.Meant.{limitsMeant, settingMeant, parametersMeant, answerMeant}
 use Rattle.payload.specs.Session as payloadCoded
 use Rattle.payload.proofs.History as history
-use Rattle.payload.proofs.JudgeLaws.{finish-fits}
+use Rattle.payload.proofs.RefusalLaws.{finish-fits}
 use Rattle.payload.proofs.Openings.{opened-stands}
 use Rattle.dcs.specs.declared.Session as dcsSession
 use Rattle.dcs.specs.declared.Phase as codedPhase
@@ -70,10 +70,10 @@ roomy-opening l stride size opens = opens-roomy (limitsMeant l) stride size open
 
 -- a session that stands for the definition's holds its area
 stands-fits : {opening : List ℕ} {s : session.Session} {c : List ℕ} {m : calls.Session Reading} → payload.Stands opening s c m
-    → Fits (m .setting) (areaOf (s .frame .sheet .width) (s .frame .sheet .height))
-unfolding same.frameOf same.sheetOf
+    → Fits (m .setting) (areaOf (s .frame .area .width) (s .frame .area .height))
+unfolding same.frameOf same.codeArea
 stands-fits {m = m} k =
-    same-fact (λ g f q c. Fits (m .setting) (areaOf (f .sheet .width) (f .sheet .height))) (k .drawing) (k .drawing .sound .fits)
+    same-fact (λ g f q c. Fits (m .setting) (areaOf (f .area .width) (f .area .height))) (k .drawing) (k .drawing .sound .fits)
 
 -- ---- a payload session
 
@@ -102,9 +102,9 @@ module _ (l : Limits) (stride : ℕ) (o : Settings) (p : Palette) (opening : Lis
       (payload-reported (roomy-opening l stride (length opening) opens) (parametersMeant o) p (length opening) cs (length lent))
 
   -- The area that the session holds fits, its pending command not carried out yet.
-  pub payload-held-fits : Fits setting (areaOf (now .0 .frame .sheet .width) (now .0 .frame .sheet .height))
+  pub payload-held-fits : Fits setting (areaOf (now .0 .frame .area .width) (now .0 .frame .area .height))
   payload-held-fits =
-      subst (λ (s : Setting). Fits s (areaOf (now .0 .frame .sheet .width) (now .0 .frame .sheet .height)))
+      subst (λ (s : Setting). Fits s (areaOf (now .0 .frame .area .width) (now .0 .frame .area .height)))
       (payload-kept-setting (length opening) (openedMeant l stride o p opening) cs) (stands-fits stands)
 
 -- ---- a DCS session
@@ -129,13 +129,13 @@ module _ (l : Limits) (stride : ℕ) (p : Palette) (opening : List ℕ)
       (dcs-reported (roomy-opening l stride (length opening) opens) p (length opening) cs (length lent))
 
   -- The area that the session holds fits; before `q` it is the first, a single pixel, and nothing is visible yet.
-  pub dcs-held-fits : let sheet : Sheet = fedAll dcsFeed first cs .state .0 .payload .frame .sheet in
-      Fits (settingMeant l stride (length opening)) (areaOf (sheet .width) (sheet .height))
+  pub dcs-held-fits : let area : VisibleArea = fedAll dcsFeed first cs .state .0 .payload .frame .area in
+      Fits (settingMeant l stride (length opening)) (areaOf (area .width) (area .height))
   unfolding payloadCoded.sessionFor drawing.blank
   dcs-held-fits = go dcs-stands
     where
       go : {s : dcsSession.Session} {c : List ℕ} {m : calls.Session Phase} → dcs.Stands l stride p opening s c m
-          → Fits (settingMeant l stride (length opening)) (areaOf (s .payload .frame .sheet .width) (s .payload .frame .sheet .height))
+          → Fits (settingMeant l stride (length opening)) (areaOf (s .payload .frame .area .width) (s .payload .frame .area .height))
       go (dcs.before h place) = blank-sound (roomy-opening l stride (length opening) opens) p none .fits
       go (dcs.refused place) = blank-sound (roomy-opening l stride (length opening) opens) p none .fits
       go (dcs.inside k going) = stands-fits k
@@ -154,7 +154,9 @@ module _ (l : Limits) (stride p1 p2 : ℕ) (registers opening : List ℕ)
 
 module _ (l : Limits) (stride : ℕ) (registers opening : List ℕ)
     (opens : calls.opens (limitsMeant l) stride (length opening) ≡ true) (cs : List Ask) (good : GoodCalls Bytes cs) where
-  pub dcs-memory-sizes-fit : SizesFit dcsMemoryFeed memoryLend dcsMemoryFinish (settingMeant l stride (length opening)) (dcsInMemory l stride registers opening) cs
+  pub dcs-memory-sizes-fit : SizesFit dcsMemoryFeed memoryLend dcsMemoryFinish (settingMeant l stride (length opening))
+      (dcsInMemory l stride registers opening)
+      cs
   dcs-memory-sizes-fit =
       sizes-alike dcs-in-memory dcs-lent-memory _ (dcs-memory-alike l stride registers opening) cs good
       (dcs-sizes-fit l stride (ofTable registers) opening opens cs)
@@ -178,11 +180,11 @@ OnCanvas stride size (finishes.Picture r) = (r .width ≤ stride) × (r .height 
 OnCanvas stride size (finishes.Refused n) = Unit {0}
 
 module _ (s : session.Session) (owner : Palette) (canvas : List ℕ) where
-  outcome-on-canvas : (o : Outcome) (last : Frame) (p : Palette) → (last .sheet .width ≤ s .ground .stride) × (last .sheet .height ≤ rowsOf (length canvas) (s .ground .stride))
+  outcome-on-canvas : (o : Outcome) (last : Frame) (p : Palette)
+      → (last .area .width ≤ s .ground .stride) × (last .area .height ≤ rowsOf (length canvas) (s .ground .stride))
       → OnCanvas (s .ground .stride) (length canvas) (payloadCoded.finishedIn o s owner last p canvas .0 .answer)
   unfolding payloadCoded.finishedIn payloadCoded.pictured payloadCoded.reportedAs payloadCoded.turnedAway
   outcome-on-canvas outcomes.Read last p room = room
-  outcome-on-canvas outcomes.Settled last p room = room
   outcome-on-canvas outcomes.Stopped last p room = room
   outcome-on-canvas (outcomes.Ended b) last p room = room
   outcome-on-canvas (outcomes.Refused n) last p room = tt
@@ -195,10 +197,12 @@ module _ (s : session.Session) (owner : Palette) (canvas : List ℕ) where
       last : Ended
       last = ended (s .frame) (s .ground) (s .palette)
 
-      go : (j : Judged) → finishJudged s (length canvas) ≡ j → OnCanvas (s .ground .stride) (length canvas) (payloadCoded.finishedAs j s owner canvas .0 .answer)
+      go : (j : Verdict) → finishJudged s (length canvas) ≡ j
+          → OnCanvas (s .ground .stride) (length canvas) (payloadCoded.finishedAs j s owner canvas .0 .answer)
       go judged.Fine e =
-          let room = settle-room {s = last .stepped} {q = last .palette} (s .frame) (s .ground) (s .palette) (length canvas) (finish-fits s (length canvas) (sym e) refl) refl in
-          outcome-on-canvas (last .stepped .outcome) (last .stepped .frame) (last .palette) (room .1, room .3)
+          let fits = finish-fits s (length canvas) (sym e) refl in
+          let room = settle-room {s = last .progress} {q = last .palette} (s .frame) (s .ground) (s .palette) (length canvas) fits refl in
+          outcome-on-canvas (last .progress .outcome) (last .progress .frame) (last .palette) (room .1, room .3)
       go (judged.Refused n) e = tt
 
   -- A DCS session's finish is its payload's, or refused.
@@ -207,13 +211,14 @@ module _ (s : session.Session) (owner : Palette) (canvas : List ℕ) where
   unfolding dcsCoded.finishedBy dcsCoded.finishedAs dcsCoded.finishedIn payloadCoded.turnedAway
   dcs-reports-on-canvas header phase = go (finishJudged s (length canvas))
     where
-      at : (t : codedPhase.Phase) → OnCanvas (s .ground .stride) (length canvas) (dcsCoded.finishedIn t (dcsCoded.sessionOf s header phase) owner canvas .0 .answer)
+      at : (t : codedPhase.Phase)
+          → OnCanvas (s .ground .stride) (length canvas) (dcsCoded.finishedIn t (dcsCoded.sessionOf s header phase) owner canvas .0 .answer)
       at (phases.Before t) = tt
       at phases.Within = tt
       at phases.Escaped = tt
       at (phases.Over e) = payload-reports-on-canvas
 
-      go : (j : Judged) → OnCanvas (s .ground .stride) (length canvas) (dcsCoded.finishedAs j (dcsCoded.sessionOf s header phase) owner canvas .0 .answer)
+      go : (j : Verdict) → OnCanvas (s .ground .stride) (length canvas) (dcsCoded.finishedAs j (dcsCoded.sessionOf s header phase) owner canvas .0 .answer)
       go judged.Fine = at phase
       go (judged.Refused n) = tt
 
@@ -231,7 +236,14 @@ lowered =
       length = 384;
       settings = noSettings;
       life = lives.Live;
-      frame = record { pen = blank .pen; sheet = record { width = 8; height = 6; right = 8; bottom = 6 }; raster = blank .raster; command = blank .command };
+      frame =
+          record {
+            pen = blank .pen;
+            area = record { width = 8; height = 6 };
+            extent = record { right = 8; bottom = 6 };
+            raster = blank .raster;
+            command = blank .command;
+          };
       palette = standard;
     }
 
@@ -242,5 +254,6 @@ sizeTold (finishes.Refused n) = none
 
 -- Its finish reports all eight.
 pub lowered-limit : (owner : Palette) → sizeTold (payloadCoded.finishedBy lowered owner (replicate 384 0) .0 .answer) ≡ some (areaOf 8 6)
-unfolding lowered sizeTold payloadCoded.blankFrame payloadCoded.finishedBy payloadCoded.finishedAs finishJudged isFailed misfitting fitting payloadCoded.finishedLive ended endedIn settledAs payloadCoded.finishedIn payloadCoded.pictured payloadCoded.reportedAs rowsOf
+unfolding lowered sizeTold payloadCoded.blankFrame payloadCoded.finishedBy payloadCoded.finishedAs finishJudged isFailed misfitting fitting
+    payloadCoded.finishedLive ended endedIn settledAs payloadCoded.finishedIn payloadCoded.pictured payloadCoded.reportedAs rowsOf
 lowered-limit owner = refl

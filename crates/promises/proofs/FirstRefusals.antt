@@ -18,7 +18,7 @@ use Rattle.meaning.specs.Drawing.{Setting}
 use Rattle.meaning.specs.Payload as meant
 use Rattle.payload.specs.declared.Session.{Session}
 use Rattle.payload.specs.declared.Settings.{Settings}
-use Rattle.payload.specs.Judge.{isFailed, feedJudged, finishJudged}
+use Rattle.payload.specs.Refusals.{isFailed, feedJudged, finishJudged}
 use Rattle.payload.specs.Session.{sessionFor, openedBy, fedAs, fedBy, turnedAway, finishedAs, finishedBy}
 use Rattle.payload.specs.History.{Stands, Held, feedWith, PastMeant, fedAllMeant}
 use Rattle.payload.specs.Meant.{limitsMeant, settingMeant, answerMeant, finishMeant}

@@ -24,7 +24,7 @@ use Rattle.payload.specs.declared.Given.the-variants as givens
 use Rattle.payload.specs.declared.Life.the-variants as lives
 use Rattle.payload.specs.declared.Session.{Session}
 use Rattle.payload.specs.declared.Settings.{Settings}
-use Rattle.payload.specs.Judge.{inRange, limitsFit, openable}
+use Rattle.payload.specs.Refusals.{inRange, limitsFit, openable}
 use Rattle.payload.specs.Session.{backgroundFor, sessionFor, fedBy}
 use Rattle.payload.specs.History.{Stands, Feeds}
 use Rattle.meaning.specs.Drawing.{houseLimits}
@@ -47,11 +47,13 @@ Meets f =
 
 -- every function with the contract of `feed` does
 pub contract-meets : (f : Reader) → ((s : Session) (l bs : List ℕ) (a : ℕ) → f s l bs a ≡ fedBy s l bs a) → Meets f
-contract-meets f same opening s l m k bs a = subst (λ (x : Fed × List ℕ). Feeds opening x (calls.feedPayload m (length l) a bs)) (sym (same s l bs a)) (feed-stands k bs a)
+contract-meets f same opening s l m k bs a =
+    subst (λ (x : Fed × List ℕ). Feeds opening x (calls.feedPayload m (length l) a bs)) (sym (same s l bs a)) (feed-stands k bs a)
 
 -- ---- what the promise fixes of each call
 
-module _ (f : Reader) (meets : Meets f) {opening : List ℕ} {s : Session} {l : List ℕ} {m : calls.Session Reading} (k : Stands opening s l m) (bs : List ℕ) (a : ℕ) where
+module _ (f : Reader) (meets : Meets f) {opening : List ℕ} {s : Session} {l : List ℕ} {m : calls.Session Reading}
+    (k : Stands opening s l m) (bs : List ℕ) (a : ℕ) where
   -- what the definition makes of the call
   abbrev meant : calls.Fed Reading ℕ
   meant = calls.feedPayload m (length l) a bs
@@ -120,15 +122,18 @@ unfolding fed₀ computed m₀ clear fresh settingMeant limitsMeant parametersMe
 sixel-told = refl
 
 empty-alpha : alpha₀ [] ≡ 1
-unfolding alpha₀ fed₀ computed m₀ clear fresh settingMeant limitsMeant parametersMeant givenMeant calls.settingFor calls.payloadShown calls.shown pictures.picture pictures.replaced pictures.grid pictures.visible
+unfolding alpha₀ fed₀ computed m₀ clear fresh settingMeant limitsMeant parametersMeant givenMeant calls.settingFor
+    calls.payloadShown calls.shown pictures.picture pictures.replaced pictures.grid pictures.visible
 empty-alpha = refl
 
 sixel-alpha : alpha₀ (0x7E ∷ []) ≡ 255
-unfolding alpha₀ fed₀ computed m₀ clear fresh settingMeant limitsMeant parametersMeant givenMeant calls.settingFor calls.payloadShown calls.shown pictures.picture pictures.replaced pictures.grid pictures.visible
+unfolding alpha₀ fed₀ computed m₀ clear fresh settingMeant limitsMeant parametersMeant givenMeant calls.settingFor
+    calls.payloadShown calls.shown pictures.picture pictures.replaced pictures.grid pictures.visible
 sixel-alpha = refl
 
 opening-alpha : getD (calls.payloadShown m₀ fresh) 7 0 ≡ 1
-unfolding computed m₀ clear fresh settingMeant limitsMeant parametersMeant givenMeant calls.settingFor calls.payloadShown calls.shown pictures.picture pictures.replaced pictures.grid pictures.visible
+unfolding computed m₀ clear fresh settingMeant limitsMeant parametersMeant givenMeant calls.settingFor
+    calls.payloadShown calls.shown pictures.picture pictures.replaced pictures.grid pictures.visible
 opening-alpha = refl
 
 -- ---- the five

@@ -17,8 +17,8 @@ use Rattle.meaning.specs.Callers.{inkTold}
 use Rattle.meaning.specs.Sessions.{End, Phase, start}
 use Rattle.meaning.proofs.Trials.{computed}
 use Rattle.payload.specs.declared.Life.the-variants as lives
-use Rattle.payload.specs.Begin.{noSettings}
-use Rattle.payload.specs.Judge.{inRange, limitsFit, openable}
+use Rattle.payload.specs.Deferred.{noSettings}
+use Rattle.payload.specs.Refusals.{inRange, limitsFit, openable}
 use Rattle.payload.specs.Session.{sessionFor}
 use Rattle.payload.specs.Meant.{limitsMeant, settingMeant}
 use Rattle.dcs.specs.declared.Answer.the-variants as answers
@@ -98,11 +98,13 @@ unfolding fed₀ sixel computed calls.feedDcs calls.visibleArea m₀ fresh setti
 sixel-told = refl
 
 empty-alpha : alpha₀ [] ≡ 1
-unfolding alpha₀ fed₀ computed calls.feedDcs calls.visibleArea m₀ fresh settingMeant limitsMeant calls.settingFor calls.dcsShown calls.shown pictures.picture pictures.replaced pictures.grid pictures.visible
+unfolding alpha₀ fed₀ computed calls.feedDcs calls.visibleArea m₀ fresh settingMeant limitsMeant calls.settingFor
+    calls.dcsShown calls.shown pictures.picture pictures.replaced pictures.grid pictures.visible
 empty-alpha = refl
 
 sixel-alpha : alpha₀ sixel ≡ 255
-unfolding alpha₀ fed₀ sixel computed calls.feedDcs calls.visibleArea m₀ fresh settingMeant limitsMeant calls.settingFor calls.dcsShown calls.shown pictures.picture pictures.replaced pictures.grid pictures.visible
+unfolding alpha₀ fed₀ sixel computed calls.feedDcs calls.visibleArea m₀ fresh settingMeant limitsMeant calls.settingFor
+    calls.dcsShown calls.shown pictures.picture pictures.replaced pictures.grid pictures.visible
 sixel-alpha = refl
 
 module _ (f : Reader) (meets : Meets f) where

@@ -25,7 +25,9 @@ Reader = Limits → ℕ → Palette → List ℕ → List ℕ → Finished × Li
 
 -- it has the contract of `read`
 abbrev pub Meets : Reader → Type 0
-Meets f = (l : Limits) (stride : ℕ) (p : Palette) (canvas bs : List ℕ) → readMeant (f l stride p canvas bs .0) (f l stride p canvas bs .1) ≡ readWhole l stride p canvas bs
+Meets f =
+    (l : Limits) (stride : ℕ) (p : Palette) (canvas bs : List ℕ)
+    → readMeant (f l stride p canvas bs .0) (f l stride p canvas bs .1) ≡ readWhole l stride p canvas bs
 
 -- ---- the smallest example: house limits, a canvas of 1 x 6 pixels whose bytes are 1, and the standard palette
 
@@ -51,7 +53,9 @@ sixel-alpha = refl
 
 module _ (f : Reader) (meets : Meets f) where
   -- Refusing everything: the table says "exactly when".
-  pub no-refusing-read : ((l : Limits) (stride : ℕ) (p : Palette) (canvas bs : List ℕ) → (x : Refusal) × (f l stride p canvas bs .0 .answer ≡ finishes.Refused x)) → ⊥
+  pub no-refusing-read : ((l : Limits) (stride : ℕ) (p : Palette) (canvas bs : List ℕ)
+      → (x : Refusal) × (f l stride p canvas bs .0 .answer ≡ finishes.Refused x))
+      → ⊥
   unfolding readMeant finishMeant isDown read₀
   no-refusing-read refuses =
       let h = refuses houseLimits 1 standard fresh [] in
@@ -63,7 +67,8 @@ module _ (f : Reader) (meets : Meets f) where
   pub no-fixed-read : (one : List ℕ) → ((l : Limits) (stride : ℕ) (p : Palette) (canvas bs : List ℕ) → f l stride p canvas bs .1 ≡ one) → ⊥
   unfolding readMeant read₀
   no-fixed-read one fixed =
-      let shows : (bs : List ℕ) → one ≡ read₀ bs .canvas = λ bs. sym (fixed houseLimits 1 standard fresh bs) ∙ ap (λ (x : Read). x .canvas) (meets houseLimits 1 standard fresh bs) in
+      let shows : (bs : List ℕ) → one ≡ read₀ bs .canvas =
+      λ bs. sym (fixed houseLimits 1 standard fresh bs) ∙ ap (λ (x : Read). x .canvas) (meets houseLimits 1 standard fresh bs) in
       let never : _≡_ {A = ℕ} 1 255 =
       sym empty-alpha ∙ ap (λ (c : List ℕ). getD c 7 0) (sym (shows []) ∙ shows (0x7E ∷ [])) ∙ sixel-alpha in
       omega arith

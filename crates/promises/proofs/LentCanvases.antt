@@ -22,14 +22,14 @@ use Rattle.frame.specs.declared.Outcome.{Outcome}
 use Rattle.frame.specs.declared.Outcome.the-variants as outcomes
 use Rattle.frame.specs.declared.Progress.{Progress}
 use Rattle.frame.specs.declared.Refusal.{Refusal}
-use Rattle.frame.specs.declared.Stepped.{Stepped}
+use Rattle.frame.specs.declared.Progress.{Progress}
 use Rattle.frame.specs.declared.sizes.Needed.{Needed}
 use Rattle.frame.specs.declared.sizes.Needed.the-variants as needs
 use Rattle.frame.specs.Sizes.{sixelArea}
 use Rattle.frame.specs.Commands.{Ended, ended}
 use Rattle.frame.specs.Numbers.{numberOf}
-use Rattle.bytewise.specs.Feed.{thenData, byteStep, Reached, reachedAs, goOn, feedFrom}
-use Rattle.bytewise.specs.Step.{Turned, paintedOn, drawnIn, drawnBy, dataStep, settledStep, takesSemicolon, argumentStep, stepIn, stepOf}
+use Rattle.reference.specs.Feed.{thenData, byteStep, reachedAs, goOn, feedFrom}
+use Rattle.reference.specs.Step.{Reached, paintedOn, drawnIn, drawnBy, dataStep, settledStep, takesSemicolon, argumentStep, stepIn, stepOf}
 use Rattle.meaning.specs.Calls as calls
 use Rattle.meaning.specs.Payload as meant
 use Rattle.meaning.specs.Sessions.{Reading, payloadStep, rested, finishReading, End, Phase, dcsStep, dcsRested, finishDcs}
@@ -40,10 +40,10 @@ use Rattle.payload.specs.declared.Life.{Life}
 use Rattle.payload.specs.declared.Life.the-variants as lives
 use Rattle.payload.specs.declared.Session as payloadSession
 use Rattle.payload.specs.declared.Settings.{Settings}
-use Rattle.payload.specs.declared.judge.Judged.{Judged}
-use Rattle.payload.specs.declared.judge.Judged.the-variants as judged
-use Rattle.payload.specs.Begin.{begunBy}
-use Rattle.payload.specs.Judge.{feedJudged, finishJudged}
+use Rattle.payload.specs.declared.refusals.Verdict.{Verdict}
+use Rattle.payload.specs.declared.refusals.Verdict.the-variants as judged
+use Rattle.payload.specs.Deferred.{begunBy}
+use Rattle.payload.specs.Refusals.{feedJudged, finishJudged}
 use Rattle.payload.specs.Session as payload
 use Rattle.payload.specs.History as payloadHistory
 use Rattle.payload.specs.Meant as payloadMeant
@@ -73,8 +73,8 @@ use Rattle.promises.proofs.RefusedSessions.{payloadArea, dcsArea}
 -- ---- the bytes of a payload
 
 -- all of a step but the canvas
-unfoldable blind : Turned → Stepped × Palette
-blind t = (t .stepped, t .palette)
+unfoldable blind : Reached → Progress × Palette
+blind t = (t .progress, t .palette)
 
 -- two tests alike
 both-cases : {A B : Type 0} (f : A → B) (t : Bool) {x y u v : A} → f x ≡ f u → f y ≡ f v → f (cond t x y) ≡ f (cond t u v)
@@ -90,7 +90,7 @@ module _ (g : Ground) (b left : ℕ) where
 
     data-alike : blind (dataStep f g b left p l) ≡ blind (dataStep f g b left p m)
     unfolding dataStep drawnBy blind
-    data-alike = both-cases blind (sixel b) (drawn-alike (sixelArea (f .pen) (f .sheet) g) (b - 63)) (both-cases blind (ends b) refl refl)
+    data-alike = both-cases blind (sixel b) (drawn-alike (sixelArea (f .pen) (f .area) g) (b - 63)) (both-cases blind (ends b) refl refl)
 
     argument-alike : blind (argumentStep f g b p l) ≡ blind (argumentStep f g b p m)
     unfolding argumentStep settledStep blind
@@ -105,12 +105,17 @@ module _ (g : Ground) (b left : ℕ) where
     step-alike kinds.Color = argument-alike
     step-alike kinds.Raster = argument-alike
 
-  then-alike : (o : Outcome) (t u : Turned) → blind t ≡ blind u → blind (thenData o t g b left) ≡ blind (thenData o u g b left)
+  then-alike : (o : Outcome) (t u : Reached) → blind t ≡ blind u → blind (thenData o t g b left) ≡ blind (thenData o u g b left)
   unfolding thenData blind
-  then-alike outcomes.Read t u e = e
-  then-alike outcomes.Settled t u e =
-      data-alike (t .stepped .frame) (t .palette) (t .canvas) (u .canvas)
-      ∙ ap (λ (x : Stepped × Palette). blind (dataStep (x .0 .frame) g b left (x .1) (u .canvas))) e
+  then-alike outcomes.Read t u e =
+      both-cases blind (eqb (t .progress .consumed) 0)
+      (data-alike (t .progress .frame) (t .palette) (t .canvas) (u .canvas)
+      ∙ ap (λ (x : Progress × Palette). blind (dataStep (x .0 .frame) g b left (x .1) (u .canvas))) e)
+      e
+      ∙ ap
+      (λ (x : Progress × Palette).
+      blind (cond (eqb (x .0 .consumed) 0) (dataStep (u .progress .frame) g b left (u .palette) (u .canvas)) u))
+      e
   then-alike outcomes.Stopped t u e = e
   then-alike (outcomes.Ended z) t u e = e
   then-alike (outcomes.Refused r) t u e = e
@@ -119,8 +124,8 @@ module _ (g : Ground) (b left : ℕ) where
   unfolding byteStep stepOf blind
   byte-alike f p l m =
       let e : blind (stepOf f g b left p l) ≡ blind (stepOf f g b left p m) = step-alike f p l m (f .command .kind) in
-      then-alike (stepOf f g b left p l .stepped .outcome) (stepOf f g b left p l) (stepOf f g b left p m) e
-      ∙ ap (λ (x : Stepped × Palette). blind (thenData (x .0 .outcome) (stepOf f g b left p m) g b left)) e
+      then-alike (stepOf f g b left p l .progress .outcome) (stepOf f g b left p l) (stepOf f g b left p m) e
+      ∙ ap (λ (x : Progress × Palette). blind (thenData (x .0 .outcome) (stepOf f g b left p m) g b left)) e
 
 -- all that reading came to but the canvas
 unfoldable pub seen : Reached → Progress × Palette
@@ -130,20 +135,18 @@ seen r = (r .progress, r .palette)
 abbrev Unseeing : (ℕ → ℕ → Frame → Palette → List ℕ → Reached) → Type 0
 Unseeing later = (n i : ℕ) (f : Frame) (p : Palette) (l m : List ℕ) → seen (later n i f p l) ≡ seen (later n i f p m)
 
-on-alike : (o : Outcome) (t u : Turned) → blind t ≡ blind u → (n i : ℕ) (later : ℕ → ℕ → Frame → Palette → List ℕ → Reached) → Unseeing later
+on-alike : (o : Outcome) (t u : Reached) → blind t ≡ blind u → (n i : ℕ) (later : ℕ → ℕ → Frame → Palette → List ℕ → Reached) → Unseeing later
     → seen (goOn o t n i later) ≡ seen (goOn o u n i later)
 unfolding goOn reachedAs seen blind
 on-alike outcomes.Read t u e n i later k =
-    k (n + 1) (i + t .stepped .ink) (t .stepped .frame) (t .palette) (t .canvas) (u .canvas)
-    ∙ ap (λ (x : Stepped × Palette). seen (later (n + 1) (i + x .0 .ink) (x .0 .frame) (x .1) (u .canvas))) e
-on-alike outcomes.Settled t u e n i later k =
-    ap (λ (x : Stepped × Palette). seen (reachedAs (x .0 .frame) n i outcomes.Settled (x .1) [])) e
+    k (n + 1) (i + t .progress .ink) (t .progress .frame) (t .palette) (t .canvas) (u .canvas)
+    ∙ ap (λ (x : Progress × Palette). seen (later (n + 1) (i + x .0 .ink) (x .0 .frame) (x .1) (u .canvas))) e
 on-alike outcomes.Stopped t u e n i later k =
-    ap (λ (x : Stepped × Palette). seen (reachedAs (x .0 .frame) n i outcomes.Stopped (x .1) [])) e
+    ap (λ (x : Progress × Palette). seen (reachedAs (x .0 .frame) n i outcomes.Stopped (x .1) [])) e
 on-alike (outcomes.Ended z) t u e n i later k =
-    ap (λ (x : Stepped × Palette). seen (reachedAs (x .0 .frame) n i (outcomes.Ended z) (x .1) [])) e
+    ap (λ (x : Progress × Palette). seen (reachedAs (x .0 .frame) n i (outcomes.Ended z) (x .1) [])) e
 on-alike (outcomes.Refused r) t u e n i later k =
-    ap (λ (x : Stepped × Palette). seen (reachedAs (x .0 .frame) n i (outcomes.Refused r) (x .1) [])) e
+    ap (λ (x : Progress × Palette). seen (reachedAs (x .0 .frame) n i (outcomes.Refused r) (x .1) [])) e
 
 -- Reading some bytes comes to the same progress and the same palette on any two canvases.
 pub read-alike : (g : Ground) (a : ℕ) (bs : List ℕ) → Unseeing (feedFrom g a bs)
@@ -151,11 +154,11 @@ unfolding feedFrom reachedAs seen blind
 read-alike g a [] n i f p l m = refl
 read-alike g a (b ∷ bs) n i f p l m =
     let later : ℕ → ℕ → Frame → Palette → List ℕ → Reached = λ n′ i′ f′ p′ l′. feedFrom g a bs n′ i′ f′ p′ l′ in
-    let t : Turned = byteStep f g b (a - i) p l in
-    let u : Turned = byteStep f g b (a - i) p m in
+    let t : Reached = byteStep f g b (a - i) p l in
+    let u : Reached = byteStep f g b (a - i) p m in
     let e : blind t ≡ blind u = byte-alike g b (a - i) f p l m in
-    on-alike (t .stepped .outcome) t u e n i later (read-alike g a bs)
-    ∙ ap (λ (x : Stepped × Palette). seen (goOn (x .0 .outcome) u n i later)) e
+    on-alike (t .progress .outcome) t u e n i later (read-alike g a bs)
+    ∙ ap (λ (x : Progress × Palette). seen (goOn (x .0 .outcome) u n i later)) e
 
 -- ---- payload sessions, on two canvases that are equally long
 
@@ -170,7 +173,7 @@ module _ (s : payloadSession.Session) (bs : List ℕ) (a : ℕ) (l m : List ℕ)
   life-alike (lives.Ended b) = refl
   life-alike lives.Failed = live-alike
 
-  judged-alike : (j : Judged) → payload.fedAs j s l bs a .0 ≡ payload.fedAs j s m bs a .0
+  judged-alike : (j : Verdict) → payload.fedAs j s l bs a .0 ≡ payload.fedAs j s m bs a .0
   unfolding payload.fedAs
   judged-alike judged.Fine = life-alike (s .life)
   judged-alike (judged.Refused n) = refl
@@ -185,15 +188,14 @@ module _ (s : payloadSession.Session) (owner : Palette) (l m : List ℕ) where
   outcome-alike : (o : Outcome) (last : Frame) (p : Palette) → payload.finishedIn o s owner last p l .0 ≡ payload.finishedIn o s owner last p m .0
   unfolding payload.finishedIn payload.pictured payload.turnedAway
   outcome-alike outcomes.Read last p = refl
-  outcome-alike outcomes.Settled last p = refl
   outcome-alike outcomes.Stopped last p = refl
   outcome-alike (outcomes.Ended b) last p = refl
   outcome-alike (outcomes.Refused n) last p = refl
 
-  end-alike : (j : Judged) → payload.finishedAs j s owner l .0 ≡ payload.finishedAs j s owner m .0
+  end-alike : (j : Verdict) → payload.finishedAs j s owner l .0 ≡ payload.finishedAs j s owner m .0
   unfolding payload.finishedAs payload.finishedLive payload.turnedAway
   end-alike judged.Fine =
-      let e : Ended = ended (s .frame) (s .ground) (s .palette) in outcome-alike (e .stepped .outcome) (e .stepped .frame) (e .palette)
+      let e : Ended = ended (s .frame) (s .ground) (s .palette) in outcome-alike (e .progress .outcome) (e .progress .frame) (e .palette)
   end-alike (judged.Refused n) = refl
 
   -- A finish has the same answer and palette.
@@ -236,7 +238,7 @@ module _ (s : dcsSession.Session) (bs : List ℕ) (a : ℕ) (l m : List ℕ) (lo
   phase-alike phases.Escaped = refl
   phase-alike (phases.Over e) = refl
 
-  dcs-judged-alike : (j : Judged) → dcs.fedAs j s l bs a .0 ≡ dcs.fedAs j s m bs a .0
+  dcs-judged-alike : (j : Verdict) → dcs.fedAs j s l bs a .0 ≡ dcs.fedAs j s m bs a .0
   unfolding dcs.fedAs
   dcs-judged-alike judged.Fine = phase-alike (s .phase)
   dcs-judged-alike (judged.Refused n) = refl
@@ -255,7 +257,7 @@ module _ (s : dcsSession.Session) (owner : Palette) (l m : List ℕ) (long : len
   ending-alike phases.Escaped = refl
   ending-alike (phases.Over e) = payload-finished-alike (s .payload) owner l m long
 
-  dcs-end-alike : (j : Judged) → dcs.finishedAs j s owner l .0 ≡ dcs.finishedAs j s owner m .0
+  dcs-end-alike : (j : Verdict) → dcs.finishedAs j s owner l .0 ≡ dcs.finishedAs j s owner m .0
   unfolding dcs.finishedAs payload.turnedAway
   dcs-end-alike judged.Fine = ending-alike (s .phase)
   dcs-end-alike (judged.Refused n) = refl
@@ -292,7 +294,7 @@ passes-twelve false true o e = none-some (sym e)
 passes-twelve false false o e = refl
 
 -- by the judgement before the bytes: a refusal, or none
-by-judged : {A : Type 0} (j : Judged) (x : Judged → A) {z : A} → ((r : Refusal) → judgedMeant j ≡ some (numberOf r) → x (judged.Refused r) ≡ z)
+by-judged : {A : Type 0} (j : Verdict) (x : Verdict → A) {z : A} → ((r : Refusal) → judgedMeant j ≡ some (numberOf r) → x (judged.Refused r) ≡ z)
     → (judgedMeant j ≡ none → x j ≡ z) → x j ≡ z
 unfolding judgedMeant
 by-judged judged.Fine x refused fine = fine refl

@@ -9,8 +9,8 @@ use Rattle.colours.specs.Palette.{ofTable}
 use Rattle.frame.specs.declared.Refusal.the-variants as refusals
 use Rattle.frame.specs.Numbers.{numberOf}
 use Rattle.payload.specs.Codes.{givenFrom, lifeFrom, givenNumber, lifeNumber, colorNumber, colorFrom, kindNumber, kindFrom}
-use Rattle.payload.specs.Judge.{isFailed, feedJudged, finishJudged}
-use Rattle.payload.specs.Memory.{numbersOf, ownNumbers, groundNumbers, frameNumbers, penNumbers, sheetNumbers, rasterNumbers, commandNumbers, sessionFrom, groundFrom, settingsFrom, frameFrom, penFrom, sheetFrom, rasterFrom, commandFrom, nineFrom}
+use Rattle.payload.specs.Refusals.{isFailed, feedJudged, finishJudged}
+use Rattle.payload.specs.Memory.{numbersOf, ownNumbers, groundNumbers, frameNumbers, penNumbers, areaNumbers, extentNumbers, rasterNumbers, commandNumbers, sessionFrom, groundFrom, settingsFrom, frameFrom, penFrom, areaFrom, extentFrom, rasterFrom, commandFrom, nineFrom}
 use Rattle.payload.specs.Session as payloadCalls
 use Rattle.dcs.specs.Memory as dcsMemory
 use Rattle.dcs.specs.Session as dcsCalls
@@ -24,7 +24,9 @@ use Rattle.promises.specs.Readers.{Told}
 
 -- 48 zeros are a failed session, whose numbers are zeros again.
 own-zeros : (ts : List ℕ) → ownNumbers (sessionFrom (replicate 48 0) ts) ≡ replicate 34 0
-unfolding ownNumbers groundNumbers frameNumbers penNumbers sheetNumbers rasterNumbers commandNumbers parameters.numbersOf sessionFrom groundFrom settingsFrom frameFrom penFrom sheetFrom rasterFrom commandFrom nineFrom parameters.parametersFrom givenNumber givenFrom lifeNumber lifeFrom colorNumber colorFrom packed kindNumber kindFrom
+unfolding ownNumbers groundNumbers frameNumbers penNumbers areaNumbers extentNumbers rasterNumbers commandNumbers
+    parameters.numbersOf sessionFrom groundFrom settingsFrom frameFrom penFrom areaFrom extentFrom rasterFrom commandFrom nineFrom
+    parameters.parametersFrom givenNumber givenFrom lifeNumber lifeFrom colorNumber colorFrom packed kindNumber kindFrom
 own-zeros ts = refl
 
 -- A feed, which is 9, leaves all as it was.
@@ -37,7 +39,9 @@ payload-zeros-stay ts canvas bytes allowance = (ap (λ (ns : List ℕ). ns ++ re
 pub dcs-zeros-stay : (ts canvas bytes : List ℕ) (allowance : ℕ)
     → (dcsFed (replicate 48 0) ts canvas bytes allowance .1 ≡ replicate 48 0) × (dcsFed (replicate 48 0) ts canvas bytes allowance .2 ≡ ts)
     × (dcsFed (replicate 48 0) ts canvas bytes allowance .3 ≡ canvas)
-unfolding dcsFed dcsFedAs dcsCalls.fedBy dcsCalls.fedAs feedJudged isFailed dcsMemory.numbersOf dcsMemory.phaseNumber dcsMemory.placeNumber dcsMemory.sessionFrom dcsMemory.phaseFrom parameters.numbersOf parameters.parametersFrom nineFrom sessionFrom lifeFrom ofTable
+unfolding dcsFed dcsFedAs dcsCalls.fedBy dcsCalls.fedAs feedJudged isFailed
+    dcsMemory.numbersOf dcsMemory.phaseNumber dcsMemory.placeNumber dcsMemory.sessionFrom dcsMemory.phaseFrom
+    parameters.numbersOf parameters.parametersFrom nineFrom sessionFrom lifeFrom ofTable
 dcs-zeros-stay ts canvas bytes allowance = (ap (λ (ns : List ℕ). ns ++ replicate 14 0) (own-zeros ts), refl, refl)
 
 -- A finish is 9 too, and the owner's registers and the canvas are as they were.

@@ -12,9 +12,11 @@ pub only : {A : Type 0} {f x y : A} → x ≡ f → y ≡ f → x ≡ y
 only p q = p ∙ sym q
 
 -- what two outcomes have in common, if both meet a promise on the same arguments: `see` of each is one
-abbrev pub Seen : {n : ℕ} (ps : List (PK n)) (r : RK n) → Out n ps r → (B : Lfts n → Type 0) → ((κs : Lfts n) → resT r κs .Denot → AtExit (endedOf n ps r) κs → B κs) → Type 0
+abbrev pub Seen : {n : ℕ} (ps : List (PK n)) (r : RK n) → Out n ps r → (B : Lfts n → Type 0)
+    → ((κs : Lfts n) → resT r κs .Denot → AtExit (endedOf n ps r) κs → B κs) → Type 0
 Seen {n} ps r L B see =
-    (κs : Lfts n) (a : Dens κs ps) (z z' : resT r κs .Denot) (e e' : AtExit (endedOf n ps r) κs) → L κs a z e → L κs a z' e' → see κs z e ≡ see κs z' e'
+    (κs : Lfts n) (a : Dens κs ps) (z z' : resT r κs .Denot) (e e' : AtExit (endedOf n ps r) κs) → L κs a z e → L κs a z' e'
+    → see κs z e ≡ see κs z' e'
 
 -- the answer
 abbrev pub One : {n : ℕ} (ps : List (PK n)) (r : RK n) → Out n ps r → Type 0

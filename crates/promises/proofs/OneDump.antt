@@ -16,5 +16,6 @@ write-picture-one κs a z z' e e' p q = only p q
 pub write-refusal-one : OneWith write-refusal'.ps write-refusal'.r write-refusal.Learnt (λ κs e. now (e .0))
 write-refusal-one κs a z z' e e' p q = only p q
 
-pub write-outcome-one : Seen write-outcome'.ps write-outcome'.r write-outcome.Learnt (λ κs. (ℕ × List ℕ) × List ℕ) (λ κs z e. ((z, now (e .0)), now (e .1 .1 .1 .1 .0)))
+pub write-outcome-one : Seen write-outcome'.ps write-outcome'.r write-outcome.Learnt (λ κs. (ℕ × List ℕ) × List ℕ)
+    (λ κs z e. ((z, now (e .0)), now (e .1 .1 .1 .1 .0)))
 write-outcome-one κs a z z' e e' p q = only p q

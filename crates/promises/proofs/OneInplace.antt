@@ -16,7 +16,8 @@ use Rattle.inplace.proofs.place_and_feed_dcs.Reads as place-and-feed-dcs
 use Rattle.inplace.proofs.place_and_feed_dcs.Kinds as place-and-feed-dcs'
 use Rattle.promises.proofs.One.{only, OneWith}
 
-pub feed-payload-one : {x y : payloadFed.Fed × List ℕ} (s : payloadSession.Session) (l bs : List ℕ) (a : ℕ) → x ≡ payload.fedBy s l bs a → y ≡ payload.fedBy s l bs a → x ≡ y
+pub feed-payload-one : {x y : payloadFed.Fed × List ℕ} (s : payloadSession.Session) (l bs : List ℕ) (a : ℕ)
+    → x ≡ payload.fedBy s l bs a → y ≡ payload.fedBy s l bs a → x ≡ y
 feed-payload-one s l bs a p q = only p q
 
 pub feed-dcs-one : {x y : dcsFed.Fed × List ℕ} (s : dcsSession.Session) (l bs : List ℕ) (a : ℕ) → x ≡ dcs.fedBy s l bs a → y ≡ dcs.fedBy s l bs a → x ≡ y

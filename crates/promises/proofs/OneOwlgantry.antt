@@ -31,42 +31,53 @@ pub sixbench-decode-one : OneWith sixbench-decode'.ps sixbench-decode'.r sixbenc
 sixbench-decode-one κs a z z' e e' p q = only p q
 
 -- the answer, the canvas, the palette and the report
-pub owlgantry-raw-read-one : Seen owlgantry-raw-read'.ps owlgantry-raw-read'.r owlgantry-raw-read.Learnt (λ κs. ℕ × List ℕ × Palette × List ℕ)
+pub owlgantry-raw-read-one : Seen owlgantry-raw-read'.ps owlgantry-raw-read'.r owlgantry-raw-read.Learnt
+    (λ κs. ℕ × List ℕ × Palette × List ℕ)
     (λ κs z e. (z, now (e .1 .1 .1 .1 .1 .0), ofTable (now (e .1 .1 .1 .1 .1 .1 .1 .0)), now (e .1 .1 .1 .1 .1 .1 .1 .1 .0)))
 owlgantry-raw-read-one κs a z z' e e' p q = only p q
 
 pub owlgantry-raw-copy-one : OneWith owlgantry-raw-copy'.ps owlgantry-raw-copy'.r owlgantry-raw-copy.Learnt (λ κs e. now (e .1 .1 .1 .1 .0))
 owlgantry-raw-copy-one κs a z z' e e' p q = only p q
 
-pub owlgantry-raw-standard-palette-one : OneLent owlgantry-raw-standard-palette'.ps owlgantry-raw-standard-palette'.r owlgantry-raw-standard-palette.Learnt (λ κs e. now (e .0))
+pub owlgantry-raw-standard-palette-one : OneLent owlgantry-raw-standard-palette'.ps owlgantry-raw-standard-palette'.r
+    owlgantry-raw-standard-palette.Learnt (λ κs e. now (e .0))
 owlgantry-raw-standard-palette-one κs a z z' e e' p q = table-known (only p q)
 
 -- the answer, the session's numbers and registers, and the canvas
-pub owlgantry-raw-payload-open-one : Seen owlgantry-raw-payload-open'.ps owlgantry-raw-payload-open'.r owlgantry-raw-payload-open.Learnt (λ κs. ℕ × List ℕ × List ℕ × List ℕ)
+pub owlgantry-raw-payload-open-one : Seen owlgantry-raw-payload-open'.ps owlgantry-raw-payload-open'.r
+    owlgantry-raw-payload-open.Learnt
+    (λ κs. ℕ × List ℕ × List ℕ × List ℕ)
     (λ κs z e. (z, now (e .1 .1 .1 .1 .1 .1 .1 .1 .1 .0), now (e .1 .1 .1 .1 .1 .1 .1 .1 .1 .1 .0), now (e .1 .1 .1 .1 .1 .1 .1 .0)))
 owlgantry-raw-payload-open-one κs a z z' e e' p q = only p q
 
 -- the answer, the session's numbers and registers, the canvas and the report
-pub owlgantry-raw-payload-feed-one : Seen owlgantry-raw-payload-feed'.ps owlgantry-raw-payload-feed'.r owlgantry-raw-payload-feed.Learnt (λ κs. ℕ × List ℕ × List ℕ × List ℕ × List ℕ)
+pub owlgantry-raw-payload-feed-one : Seen owlgantry-raw-payload-feed'.ps owlgantry-raw-payload-feed'.r
+    owlgantry-raw-payload-feed.Learnt
+    (λ κs. ℕ × List ℕ × List ℕ × List ℕ × List ℕ)
     (λ κs z e. (z, now (e .0), now (e .1 .0), now (e .1 .1 .0), now (e .1 .1 .1 .1 .1 .0)))
 owlgantry-raw-payload-feed-one κs a z z' e e' p q = only p q
 
 -- the answer, the session's numbers, the owner's registers, the canvas and the report
-pub owlgantry-raw-payload-finish-one : Seen owlgantry-raw-payload-finish'.ps owlgantry-raw-payload-finish'.r owlgantry-raw-payload-finish.Learnt (λ κs. ℕ × List ℕ × List ℕ × List ℕ × List ℕ)
+pub owlgantry-raw-payload-finish-one : Seen owlgantry-raw-payload-finish'.ps owlgantry-raw-payload-finish'.r
+    owlgantry-raw-payload-finish.Learnt
+    (λ κs. ℕ × List ℕ × List ℕ × List ℕ × List ℕ)
     (λ κs z e. (z, now (e .0), now (e .1 .1 .1 .0), now (e .1 .1 .0), now (e .1 .1 .1 .1 .0)))
 owlgantry-raw-payload-finish-one κs a z z' e e' p q = only p q
 
 -- the answer, and the session's numbers and registers
-pub owlgantry-raw-dcs-open-one : Seen owlgantry-raw-dcs-open'.ps owlgantry-raw-dcs-open'.r owlgantry-raw-dcs-open.Learnt (λ κs. ℕ × List ℕ × List ℕ)
+pub owlgantry-raw-dcs-open-one : Seen owlgantry-raw-dcs-open'.ps owlgantry-raw-dcs-open'.r owlgantry-raw-dcs-open.Learnt
+    (λ κs. ℕ × List ℕ × List ℕ)
     (λ κs z e. (z, now (e .1 .1 .1 .1 .1 .1 .1 .0), now (e .1 .1 .1 .1 .1 .1 .1 .1 .0)))
 owlgantry-raw-dcs-open-one κs a z z' e e' p q = only p q
 
 -- as of a payload session
-pub owlgantry-raw-dcs-feed-one : Seen owlgantry-raw-dcs-feed'.ps owlgantry-raw-dcs-feed'.r owlgantry-raw-dcs-feed.Learnt (λ κs. ℕ × List ℕ × List ℕ × List ℕ × List ℕ)
+pub owlgantry-raw-dcs-feed-one : Seen owlgantry-raw-dcs-feed'.ps owlgantry-raw-dcs-feed'.r owlgantry-raw-dcs-feed.Learnt
+    (λ κs. ℕ × List ℕ × List ℕ × List ℕ × List ℕ)
     (λ κs z e. (z, now (e .0), now (e .1 .0), now (e .1 .1 .0), now (e .1 .1 .1 .1 .1 .0)))
 owlgantry-raw-dcs-feed-one κs a z z' e e' p q = only p q
 
 -- as of a payload session
-pub owlgantry-raw-dcs-finish-one : Seen owlgantry-raw-dcs-finish'.ps owlgantry-raw-dcs-finish'.r owlgantry-raw-dcs-finish.Learnt (λ κs. ℕ × List ℕ × List ℕ × List ℕ × List ℕ)
+pub owlgantry-raw-dcs-finish-one : Seen owlgantry-raw-dcs-finish'.ps owlgantry-raw-dcs-finish'.r owlgantry-raw-dcs-finish.Learnt
+    (λ κs. ℕ × List ℕ × List ℕ × List ℕ × List ℕ)
     (λ κs z e. (z, now (e .0), now (e .1 .1 .1 .0), now (e .1 .1 .0), now (e .1 .1 .1 .1 .0)))
 owlgantry-raw-dcs-finish-one κs a z z' e e' p q = only p q

@@ -1,17 +1,17 @@
 -- Only one outcome, of every public function of `payload` (One.antt).
 use denote.Ref.{now}
-use Rattle.payload.proofs.begin.reserve.Reads as reserve
-use Rattle.payload.proofs.begin.reserve.Kinds as reserve'
-use Rattle.payload.proofs.begin.begin.Reads as begin
-use Rattle.payload.proofs.begin.begin.Kinds as begin'
-use Rattle.payload.proofs.begin.fail.Reads as fail
-use Rattle.payload.proofs.begin.fail.Kinds as fail'
-use Rattle.payload.proofs.judge.may_open.Reads as may-open
-use Rattle.payload.proofs.judge.may_open.Kinds as may-open'
-use Rattle.payload.proofs.judge.finish_refusal.Reads as finish-refusal
-use Rattle.payload.proofs.judge.finish_refusal.Kinds as finish-refusal'
-use Rattle.payload.proofs.judge.feed_refusal.Reads as feed-refusal
-use Rattle.payload.proofs.judge.feed_refusal.Kinds as feed-refusal'
+use Rattle.payload.proofs.deferred.reserve.Reads as reserve
+use Rattle.payload.proofs.deferred.reserve.Kinds as reserve'
+use Rattle.payload.proofs.deferred.start.Reads as start
+use Rattle.payload.proofs.deferred.start.Kinds as start'
+use Rattle.payload.proofs.deferred.fail.Reads as fail
+use Rattle.payload.proofs.deferred.fail.Kinds as fail'
+use Rattle.payload.proofs.refusals.may_open.Reads as may-open
+use Rattle.payload.proofs.refusals.may_open.Kinds as may-open'
+use Rattle.payload.proofs.refusals.finish_refusal.Reads as finish-refusal
+use Rattle.payload.proofs.refusals.finish_refusal.Kinds as finish-refusal'
+use Rattle.payload.proofs.refusals.feed_refusal.Reads as feed-refusal
+use Rattle.payload.proofs.refusals.feed_refusal.Kinds as feed-refusal'
 use Rattle.payload.proofs.no_settings.Reads as no-settings
 use Rattle.payload.proofs.no_settings.Kinds as no-settings'
 use Rattle.payload.proofs.house_limits.Reads as house-limits
@@ -53,8 +53,8 @@ use Rattle.promises.proofs.One.{only, One, OneWith}
 pub reserve-one : One reserve'.ps reserve'.r reserve.Learnt
 reserve-one κs a z z' e e' p q = only p q
 
-pub begin-one : OneWith begin'.ps begin'.r begin.Learnt (λ κs e. now (e .1 .1 .0))
-begin-one κs a z z' e e' p q = only p q
+pub start-one : OneWith start'.ps start'.r start.Learnt (λ κs e. now (e .1 .1 .0))
+start-one κs a z z' e e' p q = only p q
 
 pub fail-one : One fail'.ps fail'.r fail.Learnt
 fail-one κs a z z' e e' p q = only p q

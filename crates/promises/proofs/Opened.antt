@@ -13,8 +13,8 @@ use Rattle.payload.specs.declared.Opened.{Opened}
 use Rattle.payload.specs.declared.Opening.{Opening}
 use Rattle.payload.specs.declared.Opening.the-variants as openings
 use Rattle.payload.specs.declared.Settings.{Settings}
-use Rattle.payload.specs.Begin.{reservedBy}
-use Rattle.payload.specs.Judge.{openable}
+use Rattle.payload.specs.Deferred.{reservedBy}
+use Rattle.payload.specs.Refusals.{openable}
 use Rattle.payload.specs.Meant.{limitsMeant}
 use Rattle.payload.specs.Session as payload
 use Rattle.payload.proofs.Openings.{opens-meant}

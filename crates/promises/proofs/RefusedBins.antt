@@ -41,7 +41,8 @@ tells-covered : (s : Setting) (column : ℕ) → Tells (covered s column) (Colum
 unfolding covered span
 tells-covered s column = tells-and (tells-most _ _) (tells-less _ _)
 
--- Each number of a question's answer, exactly when: `says n` is that the answer is a refusal by n, `Inside` that what is asked for lies in the setting.
+-- Each number of a question's answer, exactly when: `says n` is that the answer is a refusal by n, `Inside` that what is asked for
+-- lies in the setting.
 pub record RefusedExactly (p : Shape) (size : ℕ) (s : Setting) (Inside : Type 0) (says : ℕ → Type 0) : Type 0 where
   pub twelve : says 12 ↔ (¬ Pictured p size)
   pub fifteen : says 15 ↔ (Pictured p size × ¬ InRange s (p .width))
@@ -56,7 +57,8 @@ refused-number differ e = differ (cc)
 told-refused : {A : Type 0} {a : A} {n : ℕ} → told a ≡ refused n → ⊥
 told-refused e = let clash : _≡_ {A = ℕ} 0 1 = cc in omega arith
 
-module _ {A : Type 0} (p : Shape) (size : ℕ) (s : Setting) {inside : Bool} {Inside : Type 0} (tells-inside : Tells inside Inside) (a : A) where
+module _ {A : Type 0} (p : Shape) (size : ℕ) (s : Setting) {inside : Bool} {Inside : Type 0}
+    (tells-inside : Tells inside Inside) (a : A) where
   abbrev picture : Tells (pictureFits p size) (Pictured p size)
   picture = tells-picture (p .stride) size (areaOf (p .width) (p .height))
 
@@ -87,10 +89,13 @@ module _ {A : Type 0} (p : Shape) (size : ℕ) (s : Setting) {inside : Bool} {In
   all = cond (pictureFits p size) (later (settingFits s (p .width)) inside) (refused 12)
 
   twelve-case : (all ≡ refused 12) ↔ ((¬ Pictured p size) × Unit {0})
-  twelve-case = later-case picture (later-never 12 (λ q. omega arith) (λ q. omega arith) (settingFits s (p .width)) inside) (λ q. tt, λ h. refl)
+  twelve-case =
+      later-case picture (later-never 12 (λ q. omega arith) (λ q. omega arith) (settingFits s (p .width)) inside) (λ q. tt, λ h. refl)
 
   fifteen-case : (all ≡ refused 15) ↔ (Pictured p size × ((¬ InRange s (p .width)) × Unit {0}))
-  fifteen-case = only-case picture (refused-number (λ q. omega arith)) (later-case range (last-never 15 (λ q. omega arith) inside) (λ q. tt, λ h. refl))
+  fifteen-case =
+      only-case picture (refused-number (λ q. omega arith))
+      (later-case range (last-never 15 (λ q. omega arith) inside) (λ q. tt, λ h. refl))
 
   sixteen-case : (all ≡ refused 16) ↔ (Pictured p size × (InRange s (p .width) × ((¬ Inside) × Unit {0})))
   sixteen-case =
@@ -170,16 +175,19 @@ top-gives x n = (λ g. ap topTold (g .answer) ∙ ap refused (g .number), go x)
 
 module _ (p : Shape) (size : ℕ) (s : Setting) where
   -- `bins::bin`
-  pub bin-refused : (column : ℕ) (x : BinAnswer) → binTold x ≡ askedBin p size s column → RefusedExactly p size s (ColumnInside s column) (Gives bins.Refused x)
+  pub bin-refused : (column : ℕ) (x : BinAnswer) → binTold x ≡ askedBin p size s column
+      → RefusedExactly p size s (ColumnInside s column) (Gives bins.Refused x)
   bin-refused column x e = exactly-as (λ n. (λ g. sym e ∙ bin-gives x n .0 g, λ q. bin-gives x n .1 (e ∙ q))) (bin-exactly p size s column)
 
   -- `bins::columns`
   pub columns-refused : (bin : ℕ) (x : ColumnsAnswer) → columnsTold x ≡ askedColumns p size s bin
       → RefusedExactly p size s (bin < s .count) (Gives columns.Refused x)
-  columns-refused bin x e = exactly-as (λ n. (λ g. sym e ∙ columns-gives x n .0 g, λ q. columns-gives x n .1 (e ∙ q))) (columns-exactly p size s bin)
+  columns-refused bin x e =
+      exactly-as (λ n. (λ g. sym e ∙ columns-gives x n .0 g, λ q. columns-gives x n .1 (e ∙ q))) (columns-exactly p size s bin)
 
 -- `bins::top`
-pub top-refused : (p : Shape) (canvas : List ℕ) (s : Setting) (bin : ℕ) (colour : List ℕ) (x : TopAnswer) → topTold x ≡ askedTop p canvas s bin colour
+pub top-refused : (p : Shape) (canvas : List ℕ) (s : Setting) (bin : ℕ) (colour : List ℕ) (x : TopAnswer)
+    → topTold x ≡ askedTop p canvas s bin colour
     → RefusedExactly p (length canvas) s (bin < s .count) (Gives tops.Refused x)
 top-refused p canvas s bin colour x e =
     exactly-as (λ n. (λ g. sym e ∙ top-gives x n .0 g, λ q. top-gives x n .1 (e ∙ q))) (top-exactly p canvas s bin colour)

@@ -12,7 +12,7 @@ use Rattle.colours.specs.declared.Palette.{Palette}
 use Rattle.meaning.specs.Commands.{Placed, Scanned, ofValues, closed, scanByte}
 use Rattle.meaning.specs.Drawing.{Setting, Drawing, Outcome, drawAll}
 use Rattle.meaning.specs.Reader.{Step, next, halt, refuse}
-use Rattle.meaning.specs.Sessions.{Reading, opened, settled, endedAt, wentOn, readByte, payloadStep, complete, cancelled, interrupted, escape, Phase, start, introduced, header, within, afterEscape, over, goesOn, settles, wrong, headerByte, parametersOf, startStep, introducedStep, headerStep, endStep, withinStep, escapeStep, dcsStep}
+use Rattle.meaning.specs.Sessions.{HeaderByte, Reading, opened, settled, endedAt, wentOn, readByte, payloadStep, complete, cancelled, interrupted, escape, Phase, start, introduced, header, within, afterEscape, over, goesOn, settles, wrong, headerByte, parametersOf, startStep, introducedStep, headerStep, endStep, withinStep, escapeStep, dcsStep}
 use Rattle.meaning.proofs.AreaLaws.{FourToSeven, drawAll-numbers}
 use Rattle.promises.proofs.Choices.{tells-itself, tells-equal, later-case, either-case}
 use Rattle.promises.proofs.RefusedCommands.{RefusedAt, commands-exactly}
@@ -76,20 +76,23 @@ module _ (s : Setting) (r : Reading) (b : ℕ) where
       c : Scanned
       c = scanByte (r .passed) (r .begun) b
 
-      go : (u : Bool) → (cond u (endedAt b r (drawAll s (closed (r .begun)) (r .drawing))) (wentOn r c (drawAll s (c .ended) (r .drawing))) ≡ refuse t n)
+      go : (u : Bool)
+          → (cond u (endedAt b r (drawAll s (closed (r .begun)) (r .drawing))) (wentOn r c (drawAll s (c .ended) (r .drawing)))
+          ≡ refuse t n)
           ↔ Leaves (drawAll s (cond u (closed (r .begun)) (c .ended)) (r .drawing)) t n
       go true =
           let out : Outcome = drawAll s (closed (r .begun)) (r .drawing) in
           made-refused (out .refusal) (out .drawing) _ t n halt-refused
       go false = let out : Outcome = drawAll s (c .ended) (r .drawing) in made-refused (out .refusal) (out .drawing) _ t n next-refused
 
-  -- A payload's byte is refused exactly when one of the commands that it ends or is has been refused, and what is left is the drawing of the
-  -- commands before that one.
+  -- A payload's byte is refused exactly when one of the commands that it ends or is has been refused, and what is left is the
+  -- drawing of the commands before that one.
   pub byte-exactly : (t : Reading) (n : ℕ) → (payloadStep s r b ≡ refuse t n) ↔ ByteRefused s r b t n
   unfolding payloadStep
   byte-exactly t n = (λ e. to (r .over) refl e, from)
     where
-      to : (o : Option ℕ) → r .over ≡ o → elim o as (λ _. Step Reading) [ none ↦ readByte s r b | some e ↦ halt r ] ≡ refuse t n → ByteRefused s r b t n
+      to : (o : Option ℕ) → r .over ≡ o → elim o as (λ _. Step Reading) [ none ↦ readByte s r b | some e ↦ halt r ] ≡ refuse t n
+          → ByteRefused s r b t n
       to none q e =
           let h = read-refused t n .0 e in
           record { ongoing = q; leaves = h .0; command = commands-exactly s (commandsAt r b) (r .drawing) (t .drawing) n .0 (h .1) }
@@ -116,8 +119,8 @@ HeaderRefused bs b u n =
     × ((¬ (ofValues b ≡ true))
     × ((¬ (b ≡ 0x71)) × ((Cuts b × ((u ≡ header bs) × (n ≡ 2))) ⊎ ((¬ Cuts b) × ((u ≡ header bs) × (n ≡ 3))))))
 
--- what a byte of a DCS sequence is refused with, and what that leaves: before the payload the sequence as it was, within it what the payload's
--- byte leaves
+-- what a byte of a DCS sequence is refused with, and what that leaves: before the payload the sequence as it was, within it what
+-- the payload's byte leaves
 abbrev pub DcsRefused : Setting → Phase → ℕ → Phase → ℕ → Type 0
 DcsRefused s start b u n = (¬ (b ≡ escape)) × ((¬ (b ≡ 0x90)) × ((u ≡ start) × (n ≡ 1)))
 DcsRefused s introduced b u n = (¬ (b ≡ 0x50)) × ((u ≡ introduced) × (n ≡ 1))
@@ -134,7 +137,10 @@ end-read : (r : Reading) (b : ℕ) {u : Phase} {n : ℕ} → endStep r b ≡ ref
 unfolding endStep
 end-read r b {u} {n} e = go (eqb b escape) (eqb b 0x9C) (eqb b 0x18 || eqb b 0x1A) e
   where
-    go : (t v w : Bool) → cond t (next (afterEscape r) 0) (cond v (next (over complete r) 0) (cond w (next (over (cancelled b) r) 0) (halt (over (interrupted b) r)))) ≡ refuse u n
+    go : (t v w : Bool)
+        → cond t (next (afterEscape r) 0)
+        (cond v (next (over complete r) 0) (cond w (next (over (cancelled b) r) 0) (halt (over (interrupted b) r))))
+        ≡ refuse u n
         → ⊥
     go true v w e = next-refused e
     go false true w e = next-refused e
@@ -150,11 +156,11 @@ module _ (s : Setting) (p : Palette) (b : ℕ) (u : Phase) (n : ℕ) where
   unfolding headerStep headerByte
   header-step bs = go (skipped b) (ofValues b) (eqb b 0x71) (ends b)
     where
-      go : (t v w x : Bool) → elim (cond t (goesOn bs) (cond v (goesOn (bs ++ (b ∷ []))) (cond w (settles (parametersOf bs)) (cond x (wrong 2) (wrong 3))))) as (λ _. Step Phase) [
-        | goesOn more ↦ next (header more) 0
-        | settles o ↦ next (within (opened o p)) 0
-        | wrong m ↦ refuse (header bs) m
-      ]
+      leads : HeaderByte → Step Phase
+      leads y = elim y [ goesOn more ↦ next (header more) 0 | settles o ↦ next (within (opened o p)) 0 | wrong m ↦ refuse (header bs) m ]
+
+      go : (t v w x : Bool)
+          → leads (cond t (goesOn bs) (cond v (goesOn (bs ++ (b ∷ []))) (cond w (settles (parametersOf bs)) (cond x (wrong 2) (wrong 3)))))
           ≡ cond t (next (header bs) 0)
           (cond v (next (header (bs ++ (b ∷ []))) 0)
           (cond w (next (within (opened (parametersOf bs) p)) 0) (cond x (refuse (header bs) 2) (refuse (header bs) 3))))
@@ -175,7 +181,10 @@ module _ (s : Setting) (p : Palette) (b : ℕ) (u : Phase) (n : ℕ) where
 
   within-refused : (r : Reading) → (withinStep s r b ≡ refuse u n) ↔ ((t : Reading) × (u ≡ within t) × ByteRefused s r b t n)
   unfolding withinStep
-  within-refused r = (λ e. to (payloadStep s r b) refl e, λ h. ap leads (byte-exactly s r b (h .0) n .1 (h .2)) ∙ ap (λ (x : Phase). refuse x n) (sym (h .1)))
+  within-refused r = (
+    λ e. to (payloadStep s r b) refl e,
+    λ h. ap leads (byte-exactly s r b (h .0) n .1 (h .2)) ∙ ap (λ (x : Phase). refuse x n) (sym (h .1)),
+  )
     where
       leads : Step Reading → Step Phase
       leads x = elim x [ next t i ↦ next (within t) i | halt t ↦ endStep t b | refuse t m ↦ refuse (within t) m ]
@@ -186,8 +195,8 @@ module _ (s : Setting) (p : Palette) (b : ℕ) (u : Phase) (n : ℕ) where
       to (refuse t m) q e =
           let h = refuse-exactly (within t) u m n .0 e in (t, h .0, byte-exactly s r b t n .0 (q ∙ ap (refuse t) (sym (h .1))))
 
-  -- 1 is given exactly when the first byte is not 1B or 90, or the byte after 1B is not `P`; 2 and 3 exactly when it is a header's and so; 4 to 7
-  -- exactly when the payload's byte is refused.
+  -- 1 is given exactly when the first byte is not 1B or 90, or the byte after 1B is not `P`; 2 and 3 exactly when it is a header's
+  -- and so; 4 to 7 exactly when the payload's byte is refused.
   pub dcs-byte-exactly : (t : Phase) → (dcsStep s p t b ≡ refuse u n) ↔ DcsRefused s t b u n
   unfolding dcsStep startStep introducedStep escapeStep
   dcs-byte-exactly start =

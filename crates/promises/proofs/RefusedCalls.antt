@@ -43,11 +43,14 @@ module _ {S : Type 0} (areaOf : S → Area) (s : Session S) (length : ℕ) where
     abbrev pub finishes : Finished
     finishes = finishSession areaOf finishState s length
 
-    by-tests : finishes ≡ cond (s .failed) (turnedDown 9) (cond (misfits areaOf s length) (turnedDown 12) (finishState (s .setting) (s .state)))
+    by-tests : finishes
+        ≡ cond (s .failed) (turnedDown 9) (cond (misfits areaOf s length) (turnedDown 12) (finishState (s .setting) (s .state)))
     unfolding finishSession firstOf ends
     by-tests = go (s .failed) (misfits areaOf s length)
       where
-        go : (t u : Bool) → ends (cond t (some 9) (cond u (some 12) none)) ≡ cond t (turnedDown 9) (cond u (turnedDown 12) (finishState (s .setting) (s .state)))
+        go : (t u : Bool)
+            → ends (cond t (some 9) (cond u (some 12) none))
+            ≡ cond t (turnedDown 9) (cond u (turnedDown 12) (finishState (s .setting) (s .state)))
         go true u = refl
         go false true = refl
         go false false = refl
@@ -64,7 +67,8 @@ module _ {S : Type 0} (areaOf : S → Area) (s : Session S) (length : ℕ) where
     pub finish-twelve : NeitherNor → (finishes ≡ turnedDown 12) ↔ ((¬ (s .failed ≡ true)) × Misfits)
     finish-twelve own =
         along by-tests
-        (later-case tells-itself (λ e. let number : _≡_ {A = ℕ} 9 12 = cc in omega arith) (first-case tells-misfits (λ e. own 12 e .1 refl)))
+        (later-case tells-itself (λ e. let number : _≡_ {A = ℕ} 9 12 = cc in omega arith)
+        (first-case tells-misfits (λ e. own 12 e .1 refl)))
 
     -- Any other number is what the state is refused with.
     pub finish-own : (n : ℕ) → ¬ (n ≡ 9) → ¬ (n ≡ 12)
@@ -76,7 +80,8 @@ module _ {S : Type 0} (areaOf : S → Area) (s : Session S) (length : ℕ) where
 -- ---- feed
 
 -- a call's answer is a refusal exactly when its bytes are refused
-pub answered-exactly : {S E : Type 0} (end : S → Option E) (s : Session S) (r : Run S) (n : ℕ) → (answered end s r .answer ≡ refused n) ↔ (r .how ≡ refusedBy n)
+pub answered-exactly : {S E : Type 0} (end : S → Option E) (s : Session S) (r : Run S) (n : ℕ)
+    → (answered end s r .answer ≡ refused n) ↔ (r .how ≡ refusedBy n)
 unfolding answered tells isRefused
 answered-exactly {S} {E} end s r n = go (r .how)
   where
@@ -95,7 +100,8 @@ answered-exactly {S} {E} end s r n = go (r .how)
     go halted = (counts, λ e. other e refl)
     go (refusedBy m) = (λ e. cc, λ e. cc)
 
-answered-fails : {S E : Type 0} (end : S → Option E) (s : Session S) (r : Run S) (n : ℕ) → r .how ≡ refusedBy n → answered end s r .session ≡ sessionAfter s (r .state) true
+answered-fails : {S E : Type 0} (end : S → Option E) (s : Session S) (r : Run S) (n : ℕ) → r .how ≡ refusedBy n
+    → answered end s r .session ≡ sessionAfter s (r .state) true
 unfolding answered
 answered-fails {S} {E} end s r n e = ap (λ (how : How). of how .session) e
   where
@@ -103,7 +109,8 @@ answered-fails {S} {E} end s r n e = ap (λ (how : How). of how .session) e
     of how = answered end s (record { state = r .state; consumed = r .consumed; ink = r .ink; how = how })
 
 module _ {S E : Type 0} (areaOf : S → Area) (step : Setting → S → ℕ → Step S) (rest : Setting → S → S) (end : S → Option E)
-    (numbers : (c : Setting) (t u : S) (b n : ℕ) → step c t b ≡ refuse u n → (1 ≤ n) × (n ≤ 7)) (s : Session S) (length a : ℕ) (bs : List ℕ) where
+    (numbers : (c : Setting) (t u : S) (b n : ℕ) → step c t b ≡ refuse u n → (1 ≤ n) × (n ≤ 7)) (s : Session S) (length a : ℕ)
+    (bs : List ℕ) where
   -- what the call comes to, and what its bytes do
   abbrev pub fed : Fed S E
   fed = feed areaOf step rest end s length a bs
@@ -112,19 +119,20 @@ module _ {S E : Type 0} (areaOf : S → Area) (step : Setting → S → ℕ → 
   ran = call (step (s .setting)) (rest (s .setting)) a (s .state) bs
 
   -- by 9, 12 and 13, else by the bytes
-  by-order : fed
-      ≡ cond (s .failed) (record { answer = refused 9; session = s })
-      (cond (misfits areaOf s length) (record { answer = refused 12; session = s })
-      (cond (ltb a (6 * s .setting .limits .width)) (record { answer = refused 13; session = s }) (answered end s ran)))
+  abbrev ordered : Bool → Bool → Bool → Fed S E
+  ordered t u v =
+      cond t (record { answer = refused 9; session = s })
+      (cond u (record { answer = refused 12; session = s })
+      (cond v (record { answer = refused 13; session = s }) (answered end s ran)))
+
+  by-order : fed ≡ ordered (s .failed) (misfits areaOf s length) (ltb a (6 * s .setting .limits .width))
   unfolding feed feedRefusal firstOf
   by-order = go (s .failed) (misfits areaOf s length) (ltb a (6 * s .setting .limits .width))
     where
       of : Option ℕ → Fed S E
       of o = elim o [ none ↦ answered end s ran | some n ↦ record { answer = refused n; session = s } ]
 
-      go : (t u v : Bool) → of (cond t (some 9) (cond u (some 12) (cond v (some 13) none)))
-          ≡ cond t (record { answer = refused 9; session = s })
-          (cond u (record { answer = refused 12; session = s }) (cond v (record { answer = refused 13; session = s }) (answered end s ran)))
+      go : (t u v : Bool) → of (cond t (some 9) (cond u (some 12) (cond v (some 13) none))) ≡ ordered t u v
       go true u v = refl
       go false true v = refl
       go false false true = refl
@@ -135,9 +143,8 @@ module _ {S E : Type 0} (areaOf : S → Area) (step : Setting → S → ℕ → 
       (cond (misfits areaOf s length) (refused 12) (cond (ltb a (6 * s .setting .limits .width)) (refused 13) (answered end s ran .answer)))
   answers = ap (λ (x : Fed S E). x .answer) by-order ∙ go (s .failed) (misfits areaOf s length) (ltb a (6 * s .setting .limits .width))
     where
-      go : (t u v : Bool) → cond t (record { answer = refused 9; session = s })
-          (cond u (record { answer = refused 12; session = s }) (cond v (record { answer = refused 13; session = s }) (answered end s ran))) .answer
-          ≡ cond t (refused 9) (cond u (refused 12) (cond v (refused 13) (answered end s ran .answer)))
+      go : (t u v : Bool)
+          → ordered t u v .answer ≡ cond t (refused 9) (cond u (refused 12) (cond v (refused 13) (answered end s ran .answer)))
       go true u v = refl
       go false true v = refl
       go false false true = refl
@@ -176,16 +183,21 @@ module _ {S E : Type 0} (areaOf : S → Area) (step : Setting → S → ℕ → 
       go false e = not-run (omega arith) e
 
   -- 13 is given exactly when neither holds, and the allowance is below 6W.
-  pub thirteen-exactly : (fed .answer ≡ refused 13) ↔ ((¬ (s .failed ≡ true)) × ((¬ Misfits areaOf s length) × (a < 6 * s .setting .limits .width)))
+  pub thirteen-exactly : (fed .answer ≡ refused 13)
+      ↔ ((¬ (s .failed ≡ true)) × ((¬ Misfits areaOf s length) × (a < 6 * s .setting .limits .width)))
   thirteen-exactly =
       along answers
       (later-case tells-itself (refused-differ (λ q. omega arith))
-      (later-case (tells-misfits areaOf s length) (refused-differ (λ q. omega arith)) (first-case (tells-less _ _) (not-run (omega arith)))))
+      (later-case (tells-misfits areaOf s length) (refused-differ (λ q. omega arith))
+      (first-case (tells-less _ _) (not-run (omega arith)))))
 
   -- 1 to 7 are given exactly when none of these holds and a byte is refused so.
   pub bytes-exactly : (n : ℕ) → n ≤ 7
       → (fed .answer ≡ refused n)
-      ↔ ((¬ (s .failed ≡ true)) × ((¬ Misfits areaOf s length) × ((¬ (a < 6 * s .setting .limits .width)) × RunRefused (step (s .setting)) a (s .state) bs (ran .state) n)))
+      ↔ ((¬ (s .failed ≡ true))
+      × ((¬ Misfits areaOf s length)
+      × ((¬ (a < 6 * s .setting .limits .width))
+      × RunRefused (step (s .setting)) a (s .state) bs (ran .state) n)))
   bytes-exactly n low =
       along answers
       (later-case tells-itself (refused-differ (λ q. omega arith))
@@ -212,10 +224,11 @@ module _ {S E : Type 0} (areaOf : S → Area) (step : Setting → S → ℕ → 
 
   -- After 9, 12 and 13 the session is as it was.
   pub refused-keeps : (n : ℕ) → 8 ≤ n → fed .answer ≡ refused n → fed .session ≡ s
-  refused-keeps n high = subst (λ (x : Fed S E). x .answer ≡ refused n → x .session ≡ s) (sym by-order) (go (s .failed) (misfits areaOf s length) (ltb a (6 * s .setting .limits .width)))
+  refused-keeps n high =
+      subst (λ (x : Fed S E). x .answer ≡ refused n → x .session ≡ s) (sym by-order)
+      (go (s .failed) (misfits areaOf s length) (ltb a (6 * s .setting .limits .width)))
     where
-      go : (t u v : Bool) → let x : Fed S E = cond t (record { answer = refused 9; session = s })
-          (cond u (record { answer = refused 12; session = s }) (cond v (record { answer = refused 13; session = s }) (answered end s ran))) in x .answer ≡ refused n → x .session ≡ s
+      go : (t u v : Bool) → ordered t u v .answer ≡ refused n → ordered t u v .session ≡ s
       go true u v e = refl
       go false true v e = refl
       go false false true e = refl
@@ -227,9 +240,7 @@ module _ {S E : Type 0} (areaOf : S → Area) (step : Setting → S → ℕ → 
       subst (λ (x : Fed S E). x .answer ≡ refused n → x .session ≡ sessionAfter s (ran .state) true) (sym by-order)
       (go (s .failed) (misfits areaOf s length) (ltb a (6 * s .setting .limits .width)))
     where
-      go : (t u v : Bool) → let x : Fed S E = cond t (record { answer = refused 9; session = s })
-          (cond u (record { answer = refused 12; session = s }) (cond v (record { answer = refused 13; session = s }) (answered end s ran))) in
-          x .answer ≡ refused n → x .session ≡ sessionAfter s (ran .state) true
+      go : (t u v : Bool) → ordered t u v .answer ≡ refused n → ordered t u v .session ≡ sessionAfter s (ran .state) true
       go true u v e = absurd (refused-differ (λ q. omega arith) e)
       go false true v e = absurd (refused-differ (λ q. omega arith) e)
       go false false true e = absurd (refused-differ (λ q. omega arith) e)

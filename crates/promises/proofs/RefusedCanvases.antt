@@ -39,7 +39,8 @@ pub payload-feed-before : {opening : List ℕ} {s : Session} {l : List ℕ} {m :
 payload-feed-before {opening} {s} {l} {m} k bs a x low e =
     let h = payload-feed-shows k bs a x low e in
     let r : RunRefused (payloadStep (m .setting)) a (m .state) bs (payloadRan m (length l) a bs .state) (numberOf x) = h .0 in
-    let b = byte-exactly (m .setting) (readFrom (payloadStep (m .setting)) (m .state) (r .before) .state) (r .byte) (payloadRan m (length l) a bs .state) (numberOf x) .0 (r .refuses) in (
+    let there = readFrom (payloadStep (m .setting)) (m .state) (r .before) .state in
+    let b = byte-exactly (m .setting) there (r .byte) (payloadRan m (length l) a bs .state) (numberOf x) .0 (r .refuses) in (
       payloadRan m (length l) a bs .state .drawing,
       record { before = r .before; byte = r .byte; later = r .later; split = r .split; reads = r .reads; fits = r .fits; holds = b .command },
       h .1,
@@ -60,7 +61,8 @@ module _ (s : Setting) (b : ℕ) (u : Phase) (n : ℕ) where
   early low (afterEscape r) h = absurd h
   early low (over e r) h = absurd h
 
-  late : 4 ≤ n → (t : Phase) → DcsRefused s t b u n → InPayload t (λ r. (f : Drawing) × (calls.drawingOf u ≡ some f) × RefusedAt s (commandsAt r b) (r .drawing) f n)
+  late : 4 ≤ n → (t : Phase) → DcsRefused s t b u n
+      → InPayload t (λ r. (f : Drawing) × (calls.drawingOf u ≡ some f) × RefusedAt s (commandsAt r b) (r .drawing) f n)
   unfolding calls.drawingOf
   late high start h = let number : n ≡ 1 = h .1 .1 .1 in omega arith
   late high introduced h = let number : n ≡ 1 = h .1 .1 in omega arith
@@ -69,7 +71,8 @@ module _ (s : Setting) (b : ℕ) (u : Phase) (n : ℕ) where
   late high (afterEscape r) h = h
   late high (over e r) h = h
 
-module _ (l : Limits) (stride : ℕ) (p : Palette) (opening : List ℕ) {s : dcsSession.Session} {c : List ℕ} {m : calls.Session Phase} (k : dcs.Stands l stride p opening s c m)
+module _ (l : Limits) (stride : ℕ) (p : Palette) (opening : List ℕ) {s : dcsSession.Session} {c : List ℕ} {m : calls.Session Phase}
+    (k : dcs.Stands l stride p opening s c m)
     (bs : List ℕ) (a : ℕ) (x : Refusal) (e : dcsCoded.fedBy s c bs a .0 .answer ≡ dcsAnswers.Refused x) where
   left : numberOf x ≤ 7 → RunRefused (dcsStep (m .setting) p) a (m .state) bs (dcsRan p m (length c) a bs .state) (numberOf x)
   left low = dcs-feed-shows l stride p opening k bs a x low e .0
@@ -96,7 +99,9 @@ module _ (l : Limits) (stride : ℕ) (p : Palette) (opening : List ℕ) {s : dcs
       (λ t b.
       InPayload t
       (λ r.
-      (f : Drawing) × RefusedAt (m .setting) (commandsAt r b) (r .drawing) f (numberOf x) × (dcsCoded.fedBy s c bs a .1 ≡ calls.shown (m .setting .stride) (some f) opening)))
+      (f : Drawing)
+      × RefusedAt (m .setting) (commandsAt r b) (r .drawing) f (numberOf x)
+      × (dcsCoded.fedBy s c bs a .1 ≡ calls.shown (m .setting .stride) (some f) opening)))
   dcs-feed-before high low =
       record {
         before = left low .before;
@@ -109,10 +114,16 @@ module _ (l : Limits) (stride : ℕ) (p : Palette) (opening : List ℕ) {s : dcs
       }
     where
       go : (t : Phase)
-          → InPayload t (λ r. (f : Drawing) × (calls.drawingOf (dcsRan p m (length c) a bs .state) ≡ some f) × RefusedAt (m .setting) (commandsAt r (left low .byte)) (r .drawing) f (numberOf x))
           → InPayload t
           (λ r.
-          (f : Drawing) × RefusedAt (m .setting) (commandsAt r (left low .byte)) (r .drawing) f (numberOf x) × (dcsCoded.fedBy s c bs a .1 ≡ calls.shown (m .setting .stride) (some f) opening))
+          (f : Drawing)
+          × (calls.drawingOf (dcsRan p m (length c) a bs .state) ≡ some f)
+          × RefusedAt (m .setting) (commandsAt r (left low .byte)) (r .drawing) f (numberOf x))
+          → InPayload t
+          (λ r.
+          (f : Drawing)
+          × RefusedAt (m .setting) (commandsAt r (left low .byte)) (r .drawing) f (numberOf x)
+          × (dcsCoded.fedBy s c bs a .1 ≡ calls.shown (m .setting .stride) (some f) opening))
       go start h = h
       go introduced h = h
       go (header hs) h = h

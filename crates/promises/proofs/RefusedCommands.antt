@@ -74,7 +74,8 @@ module _ (s : Setting) (a : Area) (n : ℕ) where
   asks-if true x e f = asks-none f n
   asks-if false x e f = asks-some x e
 
-raster-asks : (s : Setting) (n : ℕ) (d : Drawing) (r : Raster) → (rastered s r d ≡ refused n) ↔ Asks (rasterSize r) (λ x. refusalOf s (d .area) x ≡ some n)
+raster-asks : (s : Setting) (n : ℕ) (d : Drawing) (r : Raster)
+    → (rastered s r d ≡ refused n) ↔ Asks (rasterSize r) (λ x. refusalOf s (d .area) x ≡ some n)
 unfolding rastered stretched rasterSize
 raster-asks s n d r =
     asks-if s (d .area) n (eqb (r .width + r .height) 0) (areaOf (max 1 (r .width)) (max 1 (r .height)))
@@ -87,7 +88,8 @@ unfolding drawCommand repeated rastered stretched sixelled askedSize rasterSize
 size-exactly s (argued repeat bs) d n differ = go (ltb (s .limits .repeats) (decimal bs)) _
   where
     go : (t : Bool) (e : Drawing) → (cond t (refused 4) (drawn e) ≡ refused n) ↔ Asks none (λ x. refusalOf s (d .area) x ≡ some n)
-    go true e = (λ h. absurd (differ (cc)), λ h. absurd (let q : none ≡ some (h .0) = h .1 in let never : _≡_ {A = ℕ} 0 1 = cc in omega arith))
+    go true e =
+        (λ h. absurd (differ (cc)), λ h. absurd (let q : none ≡ some (h .0) = h .1 in let never : _≡_ {A = ℕ} 0 1 = cc in omega arith))
     go false e = asks-none e n
 size-exactly s (argued colour bs) d n differ = asks-none _ n
 size-exactly s (argued raster bs) d n differ = raster-asks s n d (rasterAfter (d .raster) (values 4 bs))
@@ -109,7 +111,8 @@ four-exactly s (argued raster bs) d =
 four-exactly s return d = (drawn-refused, λ h. absurd h)
 four-exactly s line d = (drawn-refused, λ h. absurd h)
 four-exactly s (draw bits) d =
-    let x : Area = areaOf (d .pen .column + d .pen .repeats) (d .pen .row + 6) in not-four s (d .area) (some x) (asks-some s (d .area) 4 x _)
+    let x : Area = areaOf (d .pen .column + d .pen .repeats) (d .pen .row + 6) in not-four s (d .area) (some x)
+    (asks-some s (d .area) 4 x _)
 
 module _ (s : Setting) (c : Command) (d : Drawing) where
   -- 5 is given exactly when a sixel or raster size exceeds W or H.
@@ -155,7 +158,8 @@ commands-exactly s cs d f n = (to cs d, from)
     to (c ∷ cs) d e = go (drawCommand s (c .command) d) refl e (to cs)
       where
         go : (x : Drawn) → drawCommand s (c .command) d ≡ x → andThen d x (drawAll s cs) ≡ record { drawing = f; refusal = some n }
-            → ((b : Drawing) → drawAll s cs b ≡ record { drawing = f; refusal = some n } → RefusedAt s cs b f n) → RefusedAt s (c ∷ cs) d f n
+            → ((b : Drawing) → drawAll s cs b ≡ record { drawing = f; refusal = some n } → RefusedAt s cs b f n)
+            → RefusedAt s (c ∷ cs) d f n
         go (drawn b) q e later =
             let h : RefusedAt s cs b f n = later b e in
             record {

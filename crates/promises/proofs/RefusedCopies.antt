@@ -39,7 +39,8 @@ module _ (stride : ℕ) (area : Area) (canvas out : List ℕ) where
   kept true false xs no-zero = refl
   kept false u xs no-zero = refl
 
-  by-tests : copied stride area canvas out .0 ≡ cond (hasPicture stride (length canvas) area) (cond (leb (sizeOf area) (length out)) 0 14) 12
+  by-tests : copied stride area canvas out .0
+      ≡ cond (hasPicture stride (length canvas) area) (cond (leb (sizeOf area) (length out)) 0 14) 12
   unfolding copied outcome
   by-tests =
       numbered (hasPicture stride (length canvas) area) (leb (sizeOf area) (length out))
@@ -53,17 +54,22 @@ module _ (stride : ℕ) (area : Area) (canvas out : List ℕ) where
       not-twelve true e = omega arith
       not-twelve false e = omega arith
 
-      k : _≡_ {A = ℕ} (cond (hasPicture stride (length canvas) area) (cond (leb (sizeOf area) (length out)) 0 14) 12) 12 ↔ ((¬ HasPicture stride (length canvas) area) × Unit {0})
+      k : _≡_ {A = ℕ} (cond (hasPicture stride (length canvas) area) (cond (leb (sizeOf area) (length out)) 0 14) 12) 12
+          ↔ ((¬ HasPicture stride (length canvas) area) × Unit {0})
       k = later-case (tells-picture stride (length canvas) area) (not-twelve (leb (sizeOf area) (length out))) (λ e. tt, λ h. refl)
 
   -- 14 is given exactly when there is such a picture, and the buffer is shorter than 4 x width x height.
-  pub copy-fourteen : (copied stride area canvas out .0 ≡ 14) ↔ (HasPicture stride (length canvas) area × (length out < 4 * (area .width * area .height)))
+  pub copy-fourteen : (copied stride area canvas out .0 ≡ 14)
+      ↔ (HasPicture stride (length canvas) area × (length out < 4 * (area .width * area .height)))
   unfolding sizeOf
-  copy-fourteen = (λ e. let h = k .0 (sym by-tests ∙ e) in (h .0, omega (arith, h .1 .0)), λ h. by-tests ∙ k .1 (h .0, (λ q. omega arith, tt)))
+  copy-fourteen =
+      (λ e. let h = k .0 (sym by-tests ∙ e) in (h .0, omega (arith, h .1 .0)), λ h. by-tests ∙ k .1 (h .0, (λ q. omega arith, tt)))
     where
       k : _≡_ {A = ℕ} (cond (hasPicture stride (length canvas) area) (cond (leb (sizeOf area) (length out)) 0 14) 12) 14
           ↔ (HasPicture stride (length canvas) area × ((¬ (sizeOf area ≤ length out)) × Unit {0}))
-      k = only-case (tells-picture stride (length canvas) area) (λ e. omega arith) (later-case (tells-most _ _) (λ e. omega arith) (λ e. tt, λ h. refl))
+      k =
+          only-case (tells-picture stride (length canvas) area) (λ e. omega arith)
+          (later-case (tells-most _ _) (λ e. omega arith) (λ e. tt, λ h. refl))
 
   -- A refused copy writes nothing.
   pub copy-keeps : ¬ (copied stride area canvas out .0 ≡ 0) → copied stride area canvas out .1 ≡ out

@@ -21,10 +21,10 @@ use Rattle.meaning.specs.Payload as meant
 use Rattle.meaning.specs.Sessions.{Reading, opened, Phase, dcsStep}
 use Rattle.payload.specs.declared.Opening.the-variants as openings
 use Rattle.payload.specs.declared.Finishing.the-variants as finishes
-use Rattle.payload.specs.declared.judge.Judged.{Judged}
-use Rattle.payload.specs.declared.judge.Judged.the-variants as judged
-use Rattle.payload.specs.Begin.{noSettings}
-use Rattle.payload.specs.Judge.{openable, isFailed, feedJudged, finishJudged}
+use Rattle.payload.specs.declared.refusals.Verdict.{Verdict}
+use Rattle.payload.specs.declared.refusals.Verdict.the-variants as judged
+use Rattle.payload.specs.Deferred.{noSettings}
+use Rattle.payload.specs.Refusals.{openable, isFailed, feedJudged, finishJudged}
 use Rattle.payload.specs.Session as coded
 use Rattle.payload.specs.History as payload
 use Rattle.payload.specs.Meant as payloadMeant
@@ -75,7 +75,8 @@ module _ (l : Limits) (stride : ℕ) (p : Palette) (opening : List ℕ) where
 
   pub judged-meant : {s : Session} {c : List ℕ} {m : calls.Session Phase} → Stands l stride p opening s c m → (size a : ℕ)
       → judgements.judgedMeant (feedJudged (s .payload) size a) ≡ calls.feedRefusal dcsArea m size a
-  unfolding judgements.judgedMeant feedJudged isFailed coded.sessionFor numberOf calls.feedRefusal calls.firstOf calls.misfits calls.visibleArea calls.drawingOf payloadMeant.settingMeant payloadMeant.limitsMeant calls.settingFor
+  unfolding judgements.judgedMeant feedJudged isFailed coded.sessionFor numberOf calls.feedRefusal calls.firstOf calls.misfits calls.visibleArea
+      calls.drawingOf payloadMeant.settingMeant payloadMeant.limitsMeant calls.settingFor
   judged-meant (before opens same) size a =
       judgements.feed-judged (ready-stands l stride noSettings p opening opens) size a
       ∙ ap
@@ -95,7 +96,8 @@ module _ (l : Limits) (stride : ℕ) (p : Palette) (opening : List ℕ) where
     -- ---- feed
 
     -- The code's feed is refused with a number exactly when the definition's is.
-    pub dcs-feed-exactly : (x : Refusal) → (fedBy s c bs a .0 .answer ≡ answers.Refused x) ↔ (calls.feedDcs p m (length c) a bs .answer ≡ calls.refused (numberOf x))
+    pub dcs-feed-exactly : (x : Refusal)
+        → (fedBy s c bs a .0 .answer ≡ answers.Refused x) ↔ (calls.feedDcs p m (length c) a bs .answer ≡ calls.refused (numberOf x))
     unfolding answerMeant
     dcs-feed-exactly x = (
       λ e. sym (feed-stands l stride p opening k bs a .answer) ∙ ap answerMeant e,
@@ -107,7 +109,7 @@ module _ (l : Limits) (stride : ℕ) (p : Palette) (opening : List ℕ) where
         → fedBy s lent bs a ≡ (record { answer = answers.Refused x; session = s }, lent)
     unfolding fedBy fedAs
     refused-before lent x e =
-        ap (λ (j : Judged). fedAs j s lent bs a) (judged-known (feedJudged (s .payload) (length lent) a) x (judged-meant k (length lent) a ∙ e))
+        ap (λ (j : Verdict). fedAs j s lent bs a) (judged-known (feedJudged (s .payload) (length lent) a) x (judged-meant k (length lent) a ∙ e))
 
     -- 9, 12 and 13 leave the session and every byte of the canvas as they were.
     pub dcs-feed-keeps : (x : Refusal) → 8 ≤ numberOf x → fedBy s c bs a .0 .answer ≡ answers.Refused x
@@ -148,7 +150,8 @@ module _ (l : Limits) (stride : ℕ) (p : Palette) (opening : List ℕ) where
   pub finish-meant : {s : Session} {c : List ℕ} {m : calls.Session Phase} → Stands l stride p opening s c m → (size : ℕ)
       → judgements.judgedMeant (finishJudged (s .payload) size)
       ≡ calls.firstOf (record { holds = m .failed; number = 9 } ∷ record { holds = calls.misfits dcsArea m size; number = 12 } ∷ [])
-  unfolding judgements.judgedMeant judgements.misfit finishJudged isFailed coded.sessionFor numberOf calls.firstOf calls.misfits calls.visibleArea calls.drawingOf
+  unfolding judgements.judgedMeant judgements.misfit finishJudged isFailed coded.sessionFor numberOf calls.firstOf
+      calls.misfits calls.visibleArea calls.drawingOf
   finish-meant (before opens same) size =
       judgements.finish-judged (ready-stands l stride noSettings p opening opens) size
       ∙ ap (λ (u : Bool). calls.firstOf (record { holds = false; number = 9 } ∷ record { holds = u; number = 12 } ∷ [])) (waits-alike opens same size)
@@ -160,11 +163,12 @@ module _ (l : Limits) (stride : ℕ) (p : Palette) (opening : List ℕ) where
   module _ {s : Session} {c : List ℕ} {m : calls.Session Phase} (k : Stands l stride p opening s c m) (owner : Palette) (lent : List ℕ) where
     -- refused before the end is asked for, whichever canvas is lent
     ended-before : (x : Refusal)
-        → calls.firstOf (record { holds = m .failed; number = 9 } ∷ record { holds = calls.misfits dcsArea m (length lent); number = 12 } ∷ []) ≡ some (numberOf x)
+        → calls.firstOf (record { holds = m .failed; number = 9 } ∷ record { holds = calls.misfits dcsArea m (length lent); number = 12 } ∷ [])
+        ≡ some (numberOf x)
         → finishedBy s owner lent ≡ (record { answer = finishes.Refused x; palette = owner }, lent)
     unfolding finishedBy finishedAs coded.turnedAway
     ended-before x e =
-        ap (λ (j : Judged). finishedAs j s owner lent) (judged-known (finishJudged (s .payload) (length lent)) x (finish-meant k (length lent) ∙ e))
+        ap (λ (j : Verdict). finishedAs j s owner lent) (judged-known (finishJudged (s .payload) (length lent)) x (finish-meant k (length lent) ∙ e))
 
     -- A finish of a failed session is 9, whichever canvas is lent.
     pub dcs-finish-nine-keeps : m .failed ≡ true → finishedBy s owner lent ≡ (record { answer = finishes.Refused Failed; palette = owner }, lent)
@@ -181,7 +185,8 @@ module _ (l : Limits) (stride : ℕ) (p : Palette) (opening : List ℕ) where
   -- ---- opening
 
   -- The code's opening is 11 exactly when a number is out of its range or there is no whole row; it is lent no canvas, and writes nothing.
-  pub dcs-open-exactly : (openedBy l stride p (length opening) .answer ≡ openings.Refused Opening) ↔ (¬ Openable (payloadMeant.limitsMeant l) stride (length opening))
+  pub dcs-open-exactly : (openedBy l stride p (length opening) .answer ≡ openings.Refused Opening)
+      ↔ (¬ Openable (payloadMeant.limitsMeant l) stride (length opening))
   dcs-open-exactly = Iff·trans (open-refused l stride p (length opening)) (tells-fails (tells-openable l stride (length opening)))
 
 module _ (s : Session) (owner : Palette) (canvas : List ℕ) where
@@ -192,7 +197,7 @@ module _ (s : Session) (owner : Palette) (canvas : List ℕ) where
   phase-keeps phases.Escaped = λ x e. (refl, refl)
   phase-keeps (phases.Over e) = payload-finish-keeps (s .payload) owner canvas
 
-  finish-keeps : (j : Judged) → Untouched owner canvas (finishedAs j s owner canvas)
+  finish-keeps : (j : Verdict) → Untouched owner canvas (finishedAs j s owner canvas)
   unfolding finishedAs coded.turnedAway
   finish-keeps judged.Fine = phase-keeps (s .phase)
   finish-keeps (judged.Refused n) = λ x e. (refl, refl)

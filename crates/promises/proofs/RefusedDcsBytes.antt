@@ -53,7 +53,9 @@ unfolding skipped ofValues digit between
 cut-strange {b} h = (λ e. skip h (tells-skipped .0 e), (λ e. value h (tells-values .0 e), cut-not-q h))
   where
     tells-skipped : Tells (skipped b) ((b ≤ 0x17) ⊎ ((b ≡ 0x19) ⊎ (((0x1C ≤ b) × (b ≤ 0x1F)) ⊎ (b ≡ 0x7F))))
-    tells-skipped = tells-or (tells-most b 0x17) (tells-or (tells-equal b 0x19) (tells-or (tells-and (tells-most 0x1C b) (tells-most b 0x1F)) (tells-equal b 0x7F)))
+    tells-skipped =
+        tells-or (tells-most b 0x17)
+        (tells-or (tells-equal b 0x19) (tells-or (tells-and (tells-most 0x1C b) (tells-most b 0x1F)) (tells-equal b 0x7F)))
 
     tells-values : Tells (ofValues b) (((0x30 ≤ b) × (b ≤ 0x39)) ⊎ (b ≡ 0x3B))
     tells-values = tells-or (tells-and (tells-most 0x30 b) (tells-most b 0x39)) (tells-equal b 0x3B)
@@ -132,7 +134,8 @@ module _ (s : Setting) (b : ℕ) where
   three-byte (afterEscape r) = (λ h. h .1, λ h. absurd h)
   three-byte (over e r) = (λ h. h .1, λ h. absurd h)
 
-  module _ (n : ℕ) (high : 4 ≤ n) (P : Command → Drawing → Type 0) (k : (c : Command) (d : Drawing) → (drawCommand s c d ≡ refused n) ↔ P c d) where
+  module _ (n : ℕ) (high : 4 ≤ n) (P : Command → Drawing → Type 0)
+      (k : (c : Command) (d : Drawing) → (drawCommand s c d ≡ refused n) ↔ P c d) where
     pub payload-byte : (t : Phase) → ((u : Phase) × DcsRefused s t b u n) ↔ InPayload t (λ r. Strikes s r b P)
     payload-byte start = (λ h. let number : n ≡ 1 = h .1 .1 .1 .1 in omega arith, λ h. absurd h)
     payload-byte introduced = (λ h. let number : n ≡ 1 = h .1 .1 .1 in omega arith, λ h. absurd h)

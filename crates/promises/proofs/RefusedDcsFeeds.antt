@@ -31,7 +31,8 @@ use Rattle.promises.proofs.RefusedRuns.{RunRefused, MeetsByte, meets-ex
 use Rattle.promises.proofs.RefusedSessions.{dcsArea, dcsRan, dcs-bytes}
 use Rattle.promises.proofs.RefusedSizes.{AboveLimits, SixNotFive, SevenNotSix}
 
-module _ (l : Limits) (stride : ℕ) (p : Palette) (opening : List ℕ) {s : Session} {c : List ℕ} {m : calls.Session Phase} (k : Stands l stride p opening s c m) (bs : List ℕ) (a : ℕ) where
+module _ (l : Limits) (stride : ℕ) (p : Palette) (opening : List ℕ) {s : Session} {c : List ℕ} {m : calls.Session Phase}
+    (k : Stands l stride p opening s c m) (bs : List ℕ) (a : ℕ) where
   -- the session has not failed, the canvas fits, the allowance is at least 6W, and the bytes come to one where this holds
   abbrev pub Comes : (Phase → ℕ → Type 0) → Type 0
   Comes P =
@@ -51,7 +52,8 @@ module _ (l : Limits) (stride : ℕ) (p : Palette) (opening : List ℕ) {s : Ses
         λ h. let d = f t b .1 h in (d .0, dcs-byte-exactly (m .setting) p b (d .0) (numberOf x) t .1 (d .1)),
       )
 
-      run : RunRefused (dcsStep (m .setting) p) a (m .state) bs (dcsRan p m (length c) a bs .state) (numberOf x) ↔ MeetsByte (dcsStep (m .setting) p) a (m .state) bs P
+      run : RunRefused (dcsStep (m .setting) p) a (m .state) bs (dcsRan p m (length c) a bs .state) (numberOf x)
+          ↔ MeetsByte (dcsStep (m .setting) p) a (m .state) bs P
       run = meets-exactly (dcsStep (m .setting) p) (dcsRested (m .setting)) a (m .state) bs (numberOf x) P byte
 
   -- 1 is given exactly when the first byte is not 1B or 90, or the byte after 1B is not `P`.
@@ -74,7 +76,8 @@ module _ (l : Limits) (stride : ℕ) (p : Palette) (opening : List ℕ) {s : Ses
   ComesTo P = Comes (λ t b. InPayload t (λ r. Strikes (m .setting) r b P))
 
   comes-to : (x : Refusal) (P : Command → Drawing → Type 0) → 4 ≤ numberOf x → numberOf x ≤ 7
-      → ((d : Command) (e : Drawing) → (drawCommand (m .setting) d e ≡ refused (numberOf x)) ↔ P d e) → (fedBy s c bs a .0 .answer ≡ answers.Refused x) ↔ ComesTo P
+      → ((d : Command) (e : Drawing) → (drawCommand (m .setting) d e ≡ refused (numberOf x)) ↔ P d e)
+      → (fedBy s c bs a .0 .answer ≡ answers.Refused x) ↔ ComesTo P
   comes-to x P high low f =
       comes x (λ t b. InPayload t (λ r. Strikes (m .setting) r b P)) low (λ t b. payload-byte (m .setting) b (numberOf x) high P f t)
 

@@ -13,7 +13,7 @@ use Rattle.meaning.specs.Callers.{Ask, fedAll}
 use Rattle.meaning.specs.Sessions.{over}
 use Rattle.meaning.proofs.DcsEnds.{Settled, calls-settled, end-reports}
 use Rattle.payload.specs.declared.Finishing.the-variants as finishes
-use Rattle.payload.specs.Judge.{openable}
+use Rattle.payload.specs.Refusals.{openable}
 use Rattle.dcs.specs.Session.{finishedBy}
 use Rattle.dcs.specs.History.{fedAllMeant}
 use Rattle.dcs.specs.History as coded
@@ -27,7 +27,8 @@ abbrev past : Limits → ℕ → Palette → List ℕ → List Ask → coded.Pas
 past l stride p opening = coded.fedAll (demands.held l stride p opening .0) opening
 
 -- After any calls of a session that was opened, a finish is refused by no other number than 8, 9 and 12.
-pub dcs-end-few : (l : Limits) (stride : ℕ) (p : Palette) (opening : List ℕ) (opens : openable l stride (length opening) ≡ true) (cs : List Ask) (owner : Palette)
+pub dcs-end-few : (l : Limits) (stride : ℕ) (p : Palette) (opening : List ℕ) (opens : openable l stride (length opening) ≡ true)
+    (cs : List Ask) (owner : Palette)
     (x : Refusal) → ¬ (numberOf x ≡ 8) → ¬ (numberOf x ≡ 9) → ¬ (numberOf x ≡ 12)
     → ¬ (finishedBy (past l stride p opening cs .state .0) owner (past l stride p opening cs .state .1) .0 .answer ≡ finishes.Refused x)
 dcs-end-few l stride p opening opens cs owner x a b c e =

@@ -70,7 +70,8 @@ module _ {opening : List ℕ} {s : Session} {l : List ℕ} {m : calls.Session Re
   abbrev pub Ends : (Command → Drawing → Type 0) → Type 0
   Ends P = (¬ (m .failed ≡ true)) × ((¬ any.Misfits payloadArea m (length l)) × Pending (m .state .begun) (m .state .drawing) P)
 
-  ends : (x : Refusal) (P : Command → Drawing → Type 0) → numberOf x ≤ 7 → ((c : Command) (e : Drawing) → (drawCommand (m .setting) c e ≡ refused (numberOf x)) ↔ P c e)
+  ends : (x : Refusal) (P : Command → Drawing → Type 0) → numberOf x ≤ 7
+      → ((c : Command) (e : Drawing) → (drawCommand (m .setting) c e ≡ refused (numberOf x)) ↔ P c e)
       → (finishedBy s owner l .0 .answer ≡ finishes.Refused x) ↔ Ends P
   ends x P low f =
       let p = pending-refused (m .setting) (m .state .drawing) (numberOf x) P f (m .state .begun) in
@@ -97,7 +98,8 @@ module _ {opening : List ℕ} {s : Session} {l : List ℕ} {m : calls.Session Re
 
 -- ---- a DCS session: 9, 12, 8, and then the payload's
 
-module _ (l : Limits) (stride : ℕ) (p : Palette) (opening : List ℕ) {s : dcsSession.Session} {c : List ℕ} {m : calls.Session Phase} (k : dcs.Stands l stride p opening s c m)
+module _ (l : Limits) (stride : ℕ) (p : Palette) (opening : List ℕ) {s : dcsSession.Session} {c : List ℕ} {m : calls.Session Phase}
+    (k : dcs.Stands l stride p opening s c m)
     (owner : Palette) where
   -- Any other number is given exactly when, at the end, the payload is turned down so.
   pub dcs-end-pending : (x : Refusal) → ¬ (numberOf x ≡ 8) → ¬ (numberOf x ≡ 9) → ¬ (numberOf x ≡ 12)

@@ -38,7 +38,8 @@ pub record Strikes (s : Setting) (r : Reading) (b : ℕ) (P : Command → Drawin
   pub made : drawAll s done (r .drawing) ≡ record { drawing = drawing; refusal = none }
   pub holds : P (command .command) drawing
 
-module _ (s : Setting) (r : Reading) (b : ℕ) (n : ℕ) (P : Command → Drawing → Type 0) (k : (c : Command) (d : Drawing) → (drawCommand s c d ≡ refused n) ↔ P c d) where
+module _ (s : Setting) (r : Reading) (b : ℕ) (n : ℕ) (P : Command → Drawing → Type 0)
+    (k : (c : Command) (d : Drawing) → (drawCommand s c d ≡ refused n) ↔ P c d) where
   -- A payload's byte is refused exactly when it strikes a command that is.
   pub strikes-exactly : ((t : Reading) × (payloadStep s r b ≡ refuse t n)) ↔ Strikes s r b P
   unfolding leftWith
@@ -79,7 +80,8 @@ module _ {opening : List ℕ} {s : Session} {l : List ℕ} {m : calls.Session Re
   abbrev pub Comes : (Command → Drawing → Type 0) → Type 0
   Comes P = Reads (MeetsByte (payloadStep (m .setting)) a (m .state) bs (λ r b. Strikes (m .setting) r b P))
 
-  comes : (x : Refusal) (P : Command → Drawing → Type 0) → numberOf x ≤ 7 → ((c : Command) (d : Drawing) → (drawCommand (m .setting) c d ≡ refused (numberOf x)) ↔ P c d)
+  comes : (x : Refusal) (P : Command → Drawing → Type 0) → numberOf x ≤ 7
+      → ((c : Command) (d : Drawing) → (drawCommand (m .setting) c d ≡ refused (numberOf x)) ↔ P c d)
       → (fedBy s l bs a .0 .answer ≡ answers.Refused x) ↔ Comes P
   comes x P low f =
       Iff·trans (payload-feed-exactly k bs a x)

@@ -38,10 +38,12 @@ module _ (s : Setting) (o : Parameters) (cs : List Placed) (d : Drawing) (n : �
           let reports : finish o out ≡ finished (reportOf o (out .drawing)) = outcome-reports o out q in
           let never : _≡_ {A = ℕ} 0 1 = cc in absurd (omega arith)
       to (some m) q e =
-          let known : out ≡ record { drawing = out .drawing; refusal = some m } = ap (λ (x : Option ℕ). record { drawing = out .drawing; refusal = x }) q in
+          let known : out ≡ record { drawing = out .drawing; refusal = some m } =
+          ap (λ (x : Option ℕ). record { drawing = out .drawing; refusal = x }) q in
           let down : turnedDown m ≡ turnedDown n = sym (ap (finish o) known) ∙ e in
           let number : m ≡ n = cc in
-          (out .drawing, commands-exactly s cs d (out .drawing) n .0 (known ∙ ap (λ (k : ℕ). record { drawing = out .drawing; refusal = some k }) number))
+          let struck = known ∙ ap (λ (k : ℕ). record { drawing = out .drawing; refusal = some k }) number in
+          (out .drawing, commands-exactly s cs d (out .drawing) n .0 struck)
 
 module _ (s : Setting) (r : Reading) where
   -- A reading is turned down exactly when its pending command is refused.
@@ -51,7 +53,9 @@ module _ (s : Setting) (r : Reading) where
 
   reading-neither : (n : ℕ) → finishReading s r ≡ turnedDown n → (¬ (n ≡ 8)) × ((¬ (n ≡ 9)) × (¬ (n ≡ 12)))
   unfolding finishReading settled
-  reading-neither n e = let h = finish-numbers s (r .parameters) (closed (r .begun)) (r .drawing) n e in (λ q. omega arith, (λ q. omega arith, λ q. omega arith))
+  reading-neither n e =
+      let h = finish-numbers s (r .parameters) (closed (r .begun)) (r .drawing) n e in
+      (λ q. omega arith, (λ q. omega arith, λ q. omega arith))
 
 -- before the end 8 is given
 ended-eight : (s : Setting) (t : Phase) → (finishDcs s t ≡ turnedDown 8) ↔ (dcsEnd t ≡ none)
@@ -106,7 +110,9 @@ module _ (m : Session Reading) (length : ℕ) where
   -- 4 to 7, exactly when the pending command is refused so; no other number comes
   pub payload-finish-pending : (n : ℕ) → ¬ (n ≡ 9) → ¬ (n ≡ 12)
       → (finishPayload m length ≡ turnedDown n)
-      ↔ ((¬ (m .failed ≡ true)) × ((¬ any.Misfits payloadArea m length) × ((f : Drawing) × RefusedAt (m .setting) (closed (m .state .begun)) (m .state .drawing) f n)))
+      ↔ ((¬ (m .failed ≡ true))
+      × ((¬ any.Misfits payloadArea m length)
+      × ((f : Drawing) × RefusedAt (m .setting) (closed (m .state .begun)) (m .state .drawing) f n)))
   unfolding finishPayload
   payload-finish-pending n a b =
       let k = any.finish-own payloadArea m length finishReading n a b in
@@ -125,7 +131,8 @@ module _ (m : Session Phase) (length : ℕ) where
   dcs-finish-twelve = any.finish-twelve dcsArea m length finishDcs (λ n e. dcs-neither (m .setting) (m .state) n e)
 
   -- 8 is given exactly when neither holds and the end has not come.
-  pub dcs-finish-eight : (finishDcsSession m length ≡ turnedDown 8) ↔ ((¬ (m .failed ≡ true)) × ((¬ any.Misfits dcsArea m length) × (dcsEnd (m .state) ≡ none)))
+  pub dcs-finish-eight : (finishDcsSession m length ≡ turnedDown 8)
+      ↔ ((¬ (m .failed ≡ true)) × ((¬ any.Misfits dcsArea m length) × (dcsEnd (m .state) ≡ none)))
   unfolding finishDcsSession
   dcs-finish-eight =
       let k = any.finish-own dcsArea m length finishDcs 8 (λ q. omega arith) (λ q. omega arith) in

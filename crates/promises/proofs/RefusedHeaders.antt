@@ -90,13 +90,17 @@ header-verdict got (b ∷ bs) = go (skipped b) (ofValues b) (λ more. header-ver
     leads : HeaderByte → Found
     leads x = elim x [ goesOn more ↦ headerFrom more bs | settles o ↦ found o bs | wrong n ↦ refusedWith n ]
 
-    own : (v w : Bool) → verdictOf (leads (cond v (settles (parametersOf got)) (cond w (wrong 2) (wrong 3)))) ≡ cond v there (cond w (by 2) (by 3))
+    own : (v w : Bool)
+        → verdictOf (leads (cond v (settles (parametersOf got)) (cond w (wrong 2) (wrong 3)))) ≡ cond v there (cond w (by 2) (by 3))
     own true w = refl
     own false true = refl
     own false false = refl
 
     go : (t u : Bool) → ((more : List ℕ) → verdictOf (headerFrom more bs) ≡ verdictAt (firstOther bs))
-        → verdictOf (leads (cond t (goesOn got) (cond u (goesOn (got ++ (b ∷ []))) (cond (eqb b 0x71) (settles (parametersOf got)) (cond (ends b) (wrong 2) (wrong 3))))))
+        → verdictOf
+        (leads
+        (cond t (goesOn got)
+        (cond u (goesOn (got ++ (b ∷ []))) (cond (eqb b 0x71) (settles (parametersOf got)) (cond (ends b) (wrong 2) (wrong 3))))))
         ≡ verdictAt (cond (t || u) (firstOther bs) (some b))
     go true u later = later got
     go false true later = later (got ++ (b ∷ []))
@@ -119,7 +123,8 @@ other-exactly (some b) n P k = (
 )
 
 module _ (got bs : List ℕ) where
-  header-as : {x : Found} {v : Verdict} {P : Type 0} → (headerFrom got bs ≡ x) ↔ (verdictOf (headerFrom got bs) ≡ v) → (verdictAt (firstOther bs) ≡ v) ↔ P
+  header-as : {x : Found} {v : Verdict} {P : Type 0} → (headerFrom got bs ≡ x) ↔ (verdictOf (headerFrom got bs) ≡ v)
+      → (verdictAt (firstOther bs) ≡ v) ↔ P
       → (headerFrom got bs ≡ x) ↔ P
   header-as e k = (λ h. k .0 (sym (header-verdict got bs) ∙ e .0 h), λ h. e .1 (header-verdict got bs ∙ k .1 h))
 
@@ -219,7 +224,8 @@ introduced-map : (bs : List ℕ) {P Q : List ℕ → Type 0} → ((later : List 
 introduced-map bs f = (λ h. (h .0, h .1, h .2, h .3, f (h .1) .0 (h .4)), λ h. (h .0, h .1, h .2, h .3, f (h .1) .1 (h .4)))
 
 -- 2 and 3 are given exactly when, after an introducer at the very start, the header is refused so.
-pub sequence-exactly : (bs : List ℕ) (n : ℕ) → (2 ≤ n) × (n ≤ 3) → (sequencePayload bs ≡ refusedWith n) ↔ Introduced bs (λ later. headerFrom [] later ≡ refusedWith n)
+pub sequence-exactly : (bs : List ℕ) (n : ℕ) → (2 ≤ n) × (n ≤ 3)
+    → (sequencePayload bs ≡ refusedWith n) ↔ Introduced bs (λ later. headerFrom [] later ≡ refusedWith n)
 unfolding sequencePayload afterFirstEscape
 sequence-exactly bs n range = (to bs, λ h. ap sequencePayload (h .3) ∙ introducer-sequence (h .2) (h .1) ∙ h .4)
   where

@@ -16,7 +16,8 @@ use Rattle.frame.specs.Numbers.{numberOf}
 use Rattle.frame.specs.declared.Limits.{Limits}
 use Rattle.frame.specs.declared.Outcome.{Outcome}
 use Rattle.frame.specs.declared.Outcome.the-variants as outcomes
-use Rattle.bytewise.specs.Feed.{Reached, feedFrom}
+use Rattle.reference.specs.Step.{Reached}
+use Rattle.reference.specs.Feed.{feedFrom}
 use Rattle.meaning.specs.Calls as calls
 use Rattle.meaning.specs.Commands.{commands}
 use Rattle.meaning.specs.Drawing as drawing
@@ -31,9 +32,9 @@ use Rattle.payload.specs.declared.Life.the-variants as lives
 use Rattle.payload.specs.declared.Opened.{Opened}
 use Rattle.payload.specs.declared.Session.{Session}
 use Rattle.payload.specs.declared.Settings.{Settings}
-use Rattle.payload.specs.declared.judge.Judged.{Judged}
-use Rattle.payload.specs.Begin.{reservedBy, begunBy}
-use Rattle.payload.specs.Judge.{openable, isFailed, misfitting, feedJudged}
+use Rattle.payload.specs.declared.refusals.Verdict.{Verdict}
+use Rattle.payload.specs.Deferred.{reservedBy, begunBy}
+use Rattle.payload.specs.Refusals.{openable, isFailed, misfitting, feedJudged}
 use Rattle.payload.specs.Session as payload
 use Rattle.dcs.specs.declared.Fed as dcsFed
 use Rattle.dcs.specs.declared.Phase.{Phase}
@@ -84,7 +85,6 @@ module _ (s : Session) (canvas bytes : List ℕ) (allowance : ℕ) where
   answered-only : (o : Outcome) (n i : ℕ) → Only commandNumbers (outcomeNumber o) → Only payloadFeedNumbers (payloadNumber (payload.answerOf o n i))
   unfolding payload.answerOf payloadNumber outcomeNumber
   answered-only outcomes.Read n i h = tt
-  answered-only outcomes.Settled n i h = tt
   answered-only outcomes.Stopped n i h = tt
   answered-only (outcomes.Ended b) n i h = tt
   answered-only (outcomes.Refused r) n i h = only-after (9 ∷ 12 ∷ 13 ∷ []) commandNumbers (some (numberOf r)) h
@@ -93,7 +93,8 @@ module _ (s : Session) (canvas bytes : List ℕ) (allowance : ℕ) where
   unfolding payload.fedLive payload.answeredBy payload.answeredIn
   live-only =
       let r : Reached = feedFrom (s .ground) allowance bytes 0 0 (s .frame) (s .palette) canvas in
-      answered-only (r .progress .outcome) (r .progress .consumed) (r .progress .ink) (reading-low (s .ground) allowance bytes 0 0 (s .frame) (s .palette) canvas)
+      answered-only (r .progress .outcome) (r .progress .consumed) (r .progress .ink)
+      (reading-low (s .ground) allowance bytes 0 0 (s .frame) (s .palette) canvas)
 
   life-only : (t : Life) → FedOnly (payload.fedIn t s canvas bytes allowance)
   unfolding payload.fedIn payloadNumber
@@ -105,7 +106,7 @@ module _ (s : Session) (canvas bytes : List ℕ) (allowance : ℕ) where
   pub payload-feeds-only : FedOnly (payload.fedBy s canvas bytes allowance)
   unfolding payload.fedBy payload.fedAs feedJudged payloadNumber numberOf oneOf
   payload-feeds-only =
-      let P : Judged → Type 0 = λ j. FedOnly (payload.fedAs j s canvas bytes allowance) in
+      let P : Verdict → Type 0 = λ j. FedOnly (payload.fedAs j s canvas bytes allowance) in
       cond-case P (isFailed (s .life)) (λ _. refl)
       λ _. cond-case P (misfitting s (length canvas)) (λ _. refl)
       λ _. cond-case P (ltb allowance (6 * s .ground .limits .width)) (λ _. refl) (λ _. life-only (s .life))
@@ -131,7 +132,9 @@ module _ (owner : Palette) (canvas : List ℕ) where
       (go (isFailed (s .payload .life)) (misfitting (s .payload) (length canvas)) (isEarly (s .phase)))
     where
       go : (t m u : Bool)
-          → Only dcsFinishNumbers (firstOr (record { holds = t; number = 9 } ∷ record { holds = m; number = 12 } ∷ record { holds = u; number = 8 } ∷ []) (pendingNumber (s .payload)))
+          → Only dcsFinishNumbers
+          (firstOr (record { holds = t; number = 9 } ∷ record { holds = m; number = 12 } ∷ record { holds = u; number = 8 } ∷ [])
+          (pendingNumber (s .payload)))
       go true m u = refl
       go false true u = refl
       go false false true = refl
@@ -231,7 +234,7 @@ module _ (canvas bytes : List ℕ) (allowance : ℕ) where
   pub dcs-feeds-only : (s : dcsSession.Session) → ToldOnly (dcs.fedBy s canvas bytes allowance .0)
   unfolding dcs.fedBy dcs.fedAs feedJudged dcsNumber numberOf oneOf
   dcs-feeds-only s =
-      let P : Judged → Type 0 = λ j. ToldOnly (dcs.fedAs j s canvas bytes allowance .0) in
+      let P : Verdict → Type 0 = λ j. ToldOnly (dcs.fedAs j s canvas bytes allowance .0) in
       cond-case P (isFailed (s .payload .life)) (λ _. refl)
       λ _. cond-case P (misfitting (s .payload) (length canvas)) (λ _. refl)
       λ _. cond-case P (ltb allowance (6 * s .payload .ground .limits .width)) (λ _. refl) (λ _. phase-only (s .phase) s)

@@ -28,9 +28,9 @@ use Rattle.payload.specs.declared.Opening.the-variants as openings
 use Rattle.payload.specs.declared.Report.{Report}
 use Rattle.payload.specs.declared.Session.{Session}
 use Rattle.payload.specs.declared.Settings.{Settings}
-use Rattle.payload.specs.declared.judge.Judged.{Judged}
-use Rattle.payload.specs.declared.judge.Judged.the-variants as judged
-use Rattle.payload.specs.Judge.{openable, feedJudged, finishJudged}
+use Rattle.payload.specs.declared.refusals.Verdict.{Verdict}
+use Rattle.payload.specs.declared.refusals.Verdict.the-variants as judged
+use Rattle.payload.specs.Refusals.{openable, feedJudged, finishJudged}
 use Rattle.payload.specs.Session.{openedBy, fedAs, fedBy, turnedAway, pictured, finishedIn, finishedLive, finishedAs, finishedBy}
 use Rattle.payload.specs.History.{Stands, Opens, isReady, isRefused, Finishes, pictures, declines}
 use Rattle.payload.specs.Meant.{limitsMeant, answerMeant}
@@ -53,7 +53,7 @@ answer-known (answers.Stopped n i) x e = let never : _≡_ {A = ℕ} 0 1 = cc in
 answer-known (answers.Ended n i b) x e = let never : _≡_ {A = ℕ} 0 1 = cc in absurd (omega arith)
 answer-known (answers.Refused y) x e = ap answers.Refused (refusal-known (cc))
 
-pub judged-known : (j : Judged) (x : Refusal) → judgedMeant j ≡ some (numberOf x) → j ≡ judged.Refused x
+pub judged-known : (j : Verdict) (x : Refusal) → judgedMeant j ≡ some (numberOf x) → j ≡ judged.Refused x
 unfolding judgedMeant
 judged-known judged.Fine x e = let never : _≡_ {A = ℕ} 0 1 = cc in absurd (omega arith)
 judged-known (judged.Refused y) x e = ap judged.Refused (refusal-known (cc))
@@ -62,7 +62,8 @@ module _ {opening : List ℕ} {s : Session} {l : List ℕ} {m : calls.Session Re
   -- ---- feed
 
   -- The code's feed is refused with a number exactly when the definition's is.
-  pub payload-feed-exactly : (x : Refusal) → (fedBy s l bs a .0 .answer ≡ answers.Refused x) ↔ (calls.feedPayload m (length l) a bs .answer ≡ calls.refused (numberOf x))
+  pub payload-feed-exactly : (x : Refusal)
+      → (fedBy s l bs a .0 .answer ≡ answers.Refused x) ↔ (calls.feedPayload m (length l) a bs .answer ≡ calls.refused (numberOf x))
   unfolding answerMeant
   payload-feed-exactly x = (
     λ e. sym (feed-stands k bs a .answer) ∙ ap answerMeant e,
@@ -74,7 +75,7 @@ module _ {opening : List ℕ} {s : Session} {l : List ℕ} {m : calls.Session Re
       → fedBy s lent bs a ≡ (record { answer = answers.Refused x; session = s }, lent)
   unfolding fedBy fedAs
   refused-before lent x e =
-      ap (λ (j : Judged). fedAs j s lent bs a) (judged-known (feedJudged s (length lent) a) x (feed-judged k (length lent) a ∙ e))
+      ap (λ (j : Verdict). fedAs j s lent bs a) (judged-known (feedJudged s (length lent) a) x (feed-judged k (length lent) a ∙ e))
 
   -- 9, 12 and 13 leave the session and every byte of the canvas as they were.
   pub payload-feed-keeps : (x : Refusal) → 8 ≤ numberOf x → fedBy s l bs a .0 .answer ≡ answers.Refused x
@@ -101,7 +102,8 @@ module _ {opening : List ℕ} {s : Session} {l : List ℕ} {m : calls.Session Re
   payload-feed-shows x low e =
       let d = payload-feed-exactly x .0 e in (
         payload-bytes m (length l) a bs (numberOf x) low .0 d .1 .1 .1,
-        stands-shows (feed-stands k bs a .session) ∙ ap (λ (t : calls.Session Reading). calls.payloadShown t opening) (payload-fails m (length l) a bs (numberOf x) low d),
+        stands-shows (feed-stands k bs a .session)
+            ∙ ap (λ (t : calls.Session Reading). calls.payloadShown t opening) (payload-fails m (length l) a bs (numberOf x) low d),
       )
 
 -- ---- finish
@@ -110,7 +112,8 @@ module _ {opening : List ℕ} {s : Session} {l : List ℕ} {m : calls.Session Re
 pub finishes-exactly : {picture l : List ℕ} {owner : Palette} {y : Finished × List ℕ} {z : meant.Finished} → Finishes picture owner l y z → (x : Refusal)
     → (y .0 .answer ≡ finishes.Refused x) ↔ (z ≡ meant.turnedDown (numberOf x))
 finishes-exactly pictures x = (λ e. let never : _≡_ {A = ℕ} 0 1 = cc in absurd (omega arith), λ e. let never : _≡_ {A = ℕ} 0 1 = cc in absurd (omega arith))
-finishes-exactly (declines n) x = (λ e. let same : n ≡ x = cc in ap (λ (y : Refusal). meant.turnedDown (numberOf y)) same, λ e. ap finishes.Refused (refusal-known (cc)))
+finishes-exactly (declines n) x =
+    (λ e. let same : n ≡ x = cc in ap (λ (y : Refusal). meant.turnedDown (numberOf y)) same, λ e. ap finishes.Refused (refusal-known (cc)))
 
 -- The code's finish is refused with a number exactly when the definition's is.
 pub payload-finish-exactly : {opening : List ℕ} {s : Session} {l : List ℕ} {m : calls.Session Reading} → Stands opening s l m → (owner : Palette) (x : Refusal)
@@ -120,11 +123,12 @@ payload-finish-exactly k owner = finishes-exactly (finish-stands k owner)
 module _ {opening : List ℕ} {s : Session} {l : List ℕ} {m : calls.Session Reading} (k : Stands opening s l m) (owner : Palette) (lent : List ℕ) where
   -- refused before the pending command, whichever canvas is lent
   ended-before : (x : Refusal)
-      → calls.firstOf (record { holds = m .failed; number = 9 } ∷ record { holds = calls.misfits payloadArea m (length lent); number = 12 } ∷ []) ≡ some (numberOf x)
+      → calls.firstOf (record { holds = m .failed; number = 9 } ∷ record { holds = calls.misfits payloadArea m (length lent); number = 12 } ∷ [])
+      ≡ some (numberOf x)
       → finishedBy s owner lent ≡ (record { answer = finishes.Refused x; palette = owner }, lent)
   unfolding finishedBy finishedAs turnedAway misfit
   ended-before x e =
-      ap (λ (j : Judged). finishedAs j s owner lent) (judged-known (finishJudged s (length lent)) x (finish-judged k (length lent) ∙ e))
+      ap (λ (j : Verdict). finishedAs j s owner lent) (judged-known (finishJudged s (length lent)) x (finish-judged k (length lent) ∙ e))
 
   -- A finish of a failed session is 9, whichever canvas is lent.
   pub payload-finish-nine-keeps : m .failed ≡ true → finishedBy s owner lent ≡ (record { answer = finishes.Refused Failed; palette = owner }, lent)
@@ -150,15 +154,14 @@ module _ (s : Session) (owner : Palette) (canvas : List ℕ) where
   outcome-keeps : (o : Outcome) (last : Frame) (p : Palette) → Untouched owner canvas (finishedIn o s owner last p canvas)
   unfolding finishedIn pictured turnedAway
   outcome-keeps outcomes.Read last p x e = absurd (picture-not e)
-  outcome-keeps outcomes.Settled last p x e = absurd (picture-not e)
   outcome-keeps outcomes.Stopped last p x e = absurd (picture-not e)
   outcome-keeps (outcomes.Ended b) last p x e = absurd (picture-not e)
   outcome-keeps (outcomes.Refused n) last p x e = (refl, refl)
 
-  finish-keeps : (j : Judged) → Untouched owner canvas (finishedAs j s owner canvas)
+  finish-keeps : (j : Verdict) → Untouched owner canvas (finishedAs j s owner canvas)
   unfolding finishedAs finishedLive turnedAway
   finish-keeps judged.Fine =
-      let e : Ended = ended (s .frame) (s .ground) (s .palette) in outcome-keeps (e .stepped .outcome) (e .stepped .frame) (e .palette)
+      let e : Ended = ended (s .frame) (s .ground) (s .palette) in outcome-keeps (e .progress .outcome) (e .progress .frame) (e .palette)
   finish-keeps (judged.Refused n) = λ x e. (refl, refl)
 
   -- Every refused finish, of whichever session and canvas, hands back the owner's palette and writes nothing.
@@ -170,7 +173,8 @@ module _ (s : Session) (owner : Palette) (canvas : List ℕ) where
 
 -- the code's test of an opening tells whether it may be opened
 pub tells-openable : (l : Limits) (stride size : ℕ) → Tells (openable l stride size) (Openable (limitsMeant l) stride size)
-tells-openable l stride size = subst (λ (t : Bool). Tells t (Openable (limitsMeant l) stride size)) (sym (opens-meant l stride size)) (tells-opens (limitsMeant l) stride size)
+tells-openable l stride size =
+    subst (λ (t : Bool). Tells t (Openable (limitsMeant l) stride size)) (sym (opens-meant l stride size)) (tells-opens (limitsMeant l) stride size)
 
 -- The code's opening is 11 exactly when a number is out of its range or there is no whole row.
 pub payload-open-exactly : (l : Limits) (stride : ℕ) (o : Settings) (p : Palette) (opening : List ℕ)

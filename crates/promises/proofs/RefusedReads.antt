@@ -60,7 +60,8 @@ strikes-exactly s cs d n P k = (
   ),
 )
 
-module _ (l : Limits) (stride : ℕ) (p : Palette) (canvas bs : List ℕ) (r : Finished) (after : List ℕ) (e : readMeant r after ≡ readWhole l stride p canvas bs) where
+module _ (l : Limits) (stride : ℕ) (p : Palette) (canvas bs : List ℕ) (r : Finished) (after : List ℕ)
+    (e : readMeant r after ≡ readWhole l stride p canvas bs) where
   -- it opens, and this holds
   abbrev pub Opens : Type 0 → Type 0
   Opens X = Openable l stride (length canvas) × X
@@ -119,7 +120,9 @@ module _ (l : Limits) (stride : ℕ) (p : Palette) (canvas bs : List ℕ) (r : F
   -- 4 is given exactly when a repeat command ends with a value above R.
   pub read-four : (r .answer ≡ finishes.Refused Repeat) ↔ Opens (Draws (λ c d. AboveRepeats (settingFor l stride (length canvas)) c))
   unfolding numberOf
-  read-four = struck Repeat (λ c d. AboveRepeats (settingFor l stride (length canvas)) c) (omega arith, omega arith) (four-exactly (settingFor l stride (length canvas)))
+  read-four =
+      struck Repeat (λ c d. AboveRepeats (settingFor l stride (length canvas)) c) (omega arith, omega arith)
+      (four-exactly (settingFor l stride (length canvas)))
 
   -- 5 is given exactly when a sixel or raster size exceeds W or H.
   pub read-five : (r .answer ≡ finishes.Refused Size) ↔ Opens (Draws (λ c d. Asks (askedSize c d) (AboveLimits (settingFor l stride (length canvas)))))
@@ -129,14 +132,16 @@ module _ (l : Limits) (stride : ℕ) (p : Palette) (canvas bs : List ℕ) (r : F
       (five-exactly (settingFor l stride (length canvas)))
 
   -- 6 is given exactly when it does not, and the visible area, or the raster size, would exceed M pixels.
-  pub read-six : (r .answer ≡ finishes.Refused Pixels) ↔ Opens (Draws (λ c d. Asks (askedSize c d) (SixNotFive (settingFor l stride (length canvas)) (d .area))))
+  pub read-six : (r .answer ≡ finishes.Refused Pixels)
+      ↔ Opens (Draws (λ c d. Asks (askedSize c d) (SixNotFive (settingFor l stride (length canvas)) (d .area))))
   unfolding numberOf
   read-six =
       struck Pixels (λ c d. Asks (askedSize c d) (SixNotFive (settingFor l stride (length canvas)) (d .area))) (omega arith, omega arith)
       (six-exactly (settingFor l stride (length canvas)))
 
   -- 7 is given exactly when neither holds, and the width is above the stride or the height above the rows.
-  pub read-seven : (r .answer ≡ finishes.Refused Room) ↔ Opens (Draws (λ c d. Asks (askedSize c d) (SevenNotSix (settingFor l stride (length canvas)) (d .area))))
+  pub read-seven : (r .answer ≡ finishes.Refused Room)
+      ↔ Opens (Draws (λ c d. Asks (askedSize c d) (SevenNotSix (settingFor l stride (length canvas)) (d .area))))
   unfolding numberOf
   read-seven =
       struck Room (λ c d. Asks (askedSize c d) (SevenNotSix (settingFor l stride (length canvas)) (d .area))) (omega arith, omega arith)

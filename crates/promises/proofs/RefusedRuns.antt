@@ -22,7 +22,8 @@ pub record RunRefused {S : Type 0} (step : S → ℕ → Step S) (a : ℕ) (s : 
   pub refuses : step (readFrom step s before .state) byte ≡ refuse t n
 
 module _ {S : Type 0} (step : S → ℕ → Step S) (rest : S → S) where
-  refused-at : {a n : ℕ} {s : S} {xs : List ℕ} {r : Run S} → Called step rest a s xs r → r .how ≡ refusedBy n → RunRefused step a s xs (r .state) n
+  refused-at : {a n : ℕ} {s : S} {xs : List ℕ} {r : Run S} → Called step rest a s xs r → r .how ≡ refusedBy n
+      → RunRefused step a s xs (r .state) n
   unfolding still after readFrom follow
   refused-at nothing h = let never : _≡_ {A = ℕ} 0 1 = cc in absurd (omega arith)
   refused-at (goes {i = i} {b} {s} {t} e room c) h =
@@ -51,13 +52,17 @@ module _ {S : Type 0} (step : S → ℕ → Step S) (rest : S → S) where
         refuses = e ∙ ap (refuse t) number;
       }
 
-  refused-from : (before : List ℕ) (byte : ℕ) (later : List ℕ) (a : ℕ) (s : S) {n : ℕ} {t : S} → readFrom step s before .how ≡ readAll → readFrom step s before .ink ≤ a
+  refused-from : (before : List ℕ) (byte : ℕ) (later : List ℕ) (a : ℕ) (s : S) {n : ℕ} {t : S}
+      → readFrom step s before .how ≡ readAll → readFrom step s before .ink ≤ a
       → step (readFrom step s before .state) byte ≡ refuse t n
       → (call step rest a s (before ++ (byte ∷ later)) .how ≡ refusedBy n) × (call step rest a s (before ++ (byte ∷ later)) .state ≡ t)
   unfolding readFrom still after follow call
   refused-from [] byte later a s {n} {t} all room e =
       let q : call step rest a s (byte ∷ later) ≡ still t (refusedBy n) =
-      ap (λ (x : Step S). follow x (λ (u : S) (i : ℕ). cond (leb i a) (after 1 i (call step rest (a - i) u later)) (still (rest s) stopped))) e in
+      ap
+      (λ (x : Step S).
+      follow x (λ (u : S) (i : ℕ). cond (leb i a) (after 1 i (call step rest (a - i) u later)) (still (rest s) stopped)))
+      e in
       (ap (λ (r : Run S). r .how) q, ap (λ (r : Run S). r .state) q)
   refused-from (b ∷ before) byte later a s {n} {t} all room e =
       go (step s b) all room e (λ u i. refused-from before byte later (a - i) u)
@@ -66,11 +71,15 @@ module _ {S : Type 0} (step : S → ℕ → Step S) (rest : S → S) where
       on x = follow x (λ (u : S) (i : ℕ). after 1 i (readFrom step u before))
 
       calls : Step S → Run S
-      calls x = follow x (λ (u : S) (i : ℕ). cond (leb i a) (after 1 i (call step rest (a - i) u (before ++ (byte ∷ later)))) (still (rest s) stopped))
+      calls x =
+          follow x
+          (λ (u : S) (i : ℕ). cond (leb i a) (after 1 i (call step rest (a - i) u (before ++ (byte ∷ later)))) (still (rest s) stopped))
 
       go : (x : Step S) → on x .how ≡ readAll → on x .ink ≤ a → step (on x .state) byte ≡ refuse t n
-          → ((u : S) (i : ℕ) → readFrom step u before .how ≡ readAll → readFrom step u before .ink ≤ a - i → step (readFrom step u before .state) byte ≡ refuse t n
-          → (call step rest (a - i) u (before ++ (byte ∷ later)) .how ≡ refusedBy n) × (call step rest (a - i) u (before ++ (byte ∷ later)) .state ≡ t))
+          → ((u : S) (i : ℕ) → readFrom step u before .how ≡ readAll → readFrom step u before .ink ≤ a - i
+          → step (readFrom step u before .state) byte ≡ refuse t n
+          → (call step rest (a - i) u (before ++ (byte ∷ later)) .how ≡ refusedBy n)
+          × (call step rest (a - i) u (before ++ (byte ∷ later)) .state ≡ t))
           → (calls x .how ≡ refusedBy n) × (calls x .state ≡ t)
       go (next u i) all room e later = let h = later u i all (omega arith) e in rw (le-leb i a (omega arith)) h
       go (halt u) all room e later = let never : _≡_ {A = ℕ} 0 1 = cc in absurd (omega arith)
@@ -98,9 +107,19 @@ pub record MeetsByte {S : Type 0} (step : S → ℕ → Step S) (a : ℕ) (s : S
 
 -- A call is refused exactly when its bytes come to one that is.
 pub meets-exactly : {S : Type 0} (step : S → ℕ → Step S) (rest : S → S) (a : ℕ) (s : S) (xs : List ℕ) (n : ℕ) (P : S → ℕ → Type 0)
-    → ((t : S) (b : ℕ) → ((u : S) × (step t b ≡ refuse u n)) ↔ P t b) → RunRefused step a s xs (call step rest a s xs .state) n ↔ MeetsByte step a s xs P
+    → ((t : S) (b : ℕ) → ((u : S) × (step t b ≡ refuse u n)) ↔ P t b)
+    → RunRefused step a s xs (call step rest a s xs .state) n ↔ MeetsByte step a s xs P
 meets-exactly {S} step rest a s xs n P k = (
-  λ h. record { before = h .before; byte = h .byte; later = h .later; split = h .split; reads = h .reads; fits = h .fits; holds = k _ (h .byte) .0 (_, h .refuses) },
+  λ h.
+      record {
+        before = h .before;
+        byte = h .byte;
+        later = h .later;
+        split = h .split;
+        reads = h .reads;
+        fits = h .fits;
+        holds = k _ (h .byte) .0 (_, h .refuses);
+      },
   λ h.
       let u = k _ (h .byte) .1 (h .holds) in
       let r : RunRefused step a s xs (u .0) n =

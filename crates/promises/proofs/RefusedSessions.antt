@@ -42,7 +42,8 @@ tells-opens l stride length =
     (tells-and (tells-range 1000000 stride) (tells-most 1 (rowsOf length stride)))
 
 -- 11 is given exactly when an opening number is out of its range, or there is no whole row.
-pub eleven-exactly : {S : Type 0} (l : Limits) (stride length : ℕ) (state : S) → (openWith l stride length state ≡ notOpened 11) ↔ (¬ Openable l stride length)
+pub eleven-exactly : {S : Type 0} (l : Limits) (stride length : ℕ) (state : S)
+    → (openWith l stride length state ≡ notOpened 11) ↔ (¬ Openable l stride length)
 unfolding openWith
 eleven-exactly {S} l stride length state = (λ e. k .0 e .0, λ h. k .1 (h, tt))
   where
@@ -74,7 +75,8 @@ module _ (m : Session Reading) (length a : ℕ) (bs : List ℕ) where
   unfolding feedPayload
   payload-twelve = any.twelve-exactly payloadArea payloadStep rested (λ r. r .over) payload-numbers m length a bs
 
-  pub payload-thirteen : (feedPayload m length a bs .answer ≡ refused 13) ↔ ((¬ (m .failed ≡ true)) × ((¬ any.Misfits payloadArea m length) × (a < 6 * m .setting .limits .width)))
+  pub payload-thirteen : (feedPayload m length a bs .answer ≡ refused 13)
+      ↔ ((¬ (m .failed ≡ true)) × ((¬ any.Misfits payloadArea m length) × (a < 6 * m .setting .limits .width)))
   unfolding feedPayload
   payload-thirteen = any.thirteen-exactly payloadArea payloadStep rested (λ r. r .over) payload-numbers m length a bs
 
@@ -84,7 +86,10 @@ module _ (m : Session Reading) (length a : ℕ) (bs : List ℕ) where
 
   pub payload-bytes : (n : ℕ) → n ≤ 7
       → (feedPayload m length a bs .answer ≡ refused n)
-      ↔ ((¬ (m .failed ≡ true)) × ((¬ any.Misfits payloadArea m length) × ((¬ (a < 6 * m .setting .limits .width)) × RunRefused (payloadStep (m .setting)) a (m .state) bs (payloadRan .state) n)))
+      ↔ ((¬ (m .failed ≡ true))
+      × ((¬ any.Misfits payloadArea m length)
+      × ((¬ (a < 6 * m .setting .limits .width))
+      × RunRefused (payloadStep (m .setting)) a (m .state) bs (payloadRan .state) n)))
   unfolding feedPayload
   payload-bytes = any.bytes-exactly payloadArea payloadStep rested (λ r. r .over) payload-numbers m length a bs
 
@@ -99,7 +104,8 @@ module _ (m : Session Reading) (length a : ℕ) (bs : List ℕ) where
   payload-keeps = any.refused-keeps payloadArea payloadStep rested (λ r. r .over) payload-numbers m length a bs
 
   -- 1 to 7 fail the session, which has come to the state before the refused byte or command.
-  pub payload-fails : (n : ℕ) → n ≤ 7 → feedPayload m length a bs .answer ≡ refused n → feedPayload m length a bs .session ≡ sessionAfter m (payloadRan .state) true
+  pub payload-fails : (n : ℕ) → n ≤ 7 → feedPayload m length a bs .answer ≡ refused n
+      → feedPayload m length a bs .session ≡ sessionAfter m (payloadRan .state) true
   unfolding feedPayload
   payload-fails = any.refused-fails payloadArea payloadStep rested (λ r. r .over) payload-numbers m length a bs
 
@@ -113,7 +119,8 @@ module _ (p : Palette) (m : Session Phase) (length a : ℕ) (bs : List ℕ) wher
   unfolding feedDcs
   dcs-twelve = any.twelve-exactly dcsArea (λ c. dcsStep c p) dcsRested dcsEnd (dcs-numbers p) m length a bs
 
-  pub dcs-thirteen : (feedDcs p m length a bs .answer ≡ refused 13) ↔ ((¬ (m .failed ≡ true)) × ((¬ any.Misfits dcsArea m length) × (a < 6 * m .setting .limits .width)))
+  pub dcs-thirteen : (feedDcs p m length a bs .answer ≡ refused 13)
+      ↔ ((¬ (m .failed ≡ true)) × ((¬ any.Misfits dcsArea m length) × (a < 6 * m .setting .limits .width)))
   unfolding feedDcs
   dcs-thirteen = any.thirteen-exactly dcsArea (λ c. dcsStep c p) dcsRested dcsEnd (dcs-numbers p) m length a bs
 
@@ -123,7 +130,10 @@ module _ (p : Palette) (m : Session Phase) (length a : ℕ) (bs : List ℕ) wher
 
   pub dcs-bytes : (n : ℕ) → n ≤ 7
       → (feedDcs p m length a bs .answer ≡ refused n)
-      ↔ ((¬ (m .failed ≡ true)) × ((¬ any.Misfits dcsArea m length) × ((¬ (a < 6 * m .setting .limits .width)) × RunRefused (dcsStep (m .setting) p) a (m .state) bs (dcsRan .state) n)))
+      ↔ ((¬ (m .failed ≡ true))
+      × ((¬ any.Misfits dcsArea m length)
+      × ((¬ (a < 6 * m .setting .limits .width))
+      × RunRefused (dcsStep (m .setting) p) a (m .state) bs (dcsRan .state) n)))
   unfolding feedDcs
   dcs-bytes = any.bytes-exactly dcsArea (λ c. dcsStep c p) dcsRested dcsEnd (dcs-numbers p) m length a bs
 
@@ -138,6 +148,7 @@ module _ (p : Palette) (m : Session Phase) (length a : ℕ) (bs : List ℕ) wher
   dcs-keeps = any.refused-keeps dcsArea (λ c. dcsStep c p) dcsRested dcsEnd (dcs-numbers p) m length a bs
 
   -- 1 to 7 fail the session, which has come to the state before the refused byte or command.
-  pub dcs-fails : (n : ℕ) → n ≤ 7 → feedDcs p m length a bs .answer ≡ refused n → feedDcs p m length a bs .session ≡ sessionAfter m (dcsRan .state) true
+  pub dcs-fails : (n : ℕ) → n ≤ 7 → feedDcs p m length a bs .answer ≡ refused n
+      → feedDcs p m length a bs .session ≡ sessionAfter m (dcsRan .state) true
   unfolding feedDcs
   dcs-fails = any.refused-fails dcsArea (λ c. dcsStep c p) dcsRested dcsEnd (dcs-numbers p) m length a bs

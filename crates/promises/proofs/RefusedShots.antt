@@ -115,7 +115,8 @@ module _ (l : Limits) (stride : ℕ) (p : Palette) (canvas bs : List ℕ) where
       to lacking q e = let number : 8 ≡ n = cc in absurd (omega arith)
       to (refusedWith m) q e = let number : m ≡ n = cc in let low : (2 ≤ m) × (m ≤ 3) = found-numbers q in absurd (omega arith)
 
-      from : Openable l stride (length canvas) × Finds (λ o part. (f : Drawing) × RefusedAt setting (commands part) (blank p (o .p2)) f n) → answer ≡ turnedDown n
+      from : Openable l stride (length canvas) × Finds (λ o part. (f : Drawing) × RefusedAt setting (commands part) (blank p (o .p2)) f n)
+          → answer ≡ turnedDown n
       from (h, (o, part, q, k)) =
           shot-own n (λ q. omega arith) .1
           (h, ap (answerOf setting p) q ∙ finish-exactly setting o (commands part) (blank p (o .p2)) n .1 k)
@@ -133,7 +134,8 @@ module _ (l : Limits) (stride : ℕ) (p : Palette) (canvas bs : List ℕ) where
 
   -- On 11, and on 2, 3 and 8, not a byte of the canvas is written.
   pub shot-unopened-canvas : answer ≡ turnedDown 11 → outcome .canvas ≡ canvas
-  shot-unopened-canvas e = ap (λ (x : Read). x .canvas) (part-unopened l stride p canvas bs (tells-fails (tells-opens l stride (length canvas)) .1 (shot-eleven .0 e)) .1)
+  shot-unopened-canvas e =
+      ap (λ (x : Read). x .canvas) (part-unopened l stride p canvas bs (tells-fails (tells-opens l stride (length canvas)) .1 (shot-eleven .0 e)) .1)
 
   -- what is left then
   unfound-left : {f : Found} {n : ℕ} → Unfound f n → answer ≡ turnedDown n → (partHandedBack l stride (length canvas) bs ≡ []) × (outcome .canvas ≡ canvas)
@@ -182,15 +184,18 @@ module _ (l : Limits) (stride : ℕ) (p : Palette) (canvas bs : List ℕ) where
 
 -- ---- of the code: its answer, palette and canvas mean the definition's
 
-module _ (l : Limits) (stride : ℕ) (p : Palette) (canvas bs : List ℕ) (r : coded.Finished) (after : List ℕ) (e : readMeant r after ≡ readWhole l stride p canvas bs) where
+module _ (l : Limits) (stride : ℕ) (p : Palette) (canvas bs : List ℕ) (r : coded.Finished) (after : List ℕ)
+    (e : readMeant r after ≡ readWhole l stride p canvas bs) where
   meant-answer : finishMeant (r .answer) (r .palette) ≡ answer l stride p canvas bs
   unfolding readMeant readWhole
   meant-answer = ap (λ (x : Read). x .answer) e
 
   down-exactly : (y : Finishing) (q : Palette) (x : Refusal) → (y ≡ finishes.Refused x) ↔ (finishMeant y q ≡ turnedDown (numberOf x))
   unfolding finishMeant
-  down-exactly (finishes.Picture z) q x = (λ e. let never : _≡_ {A = ℕ} 0 1 = cc in absurd (omega arith), λ e. let never : _≡_ {A = ℕ} 0 1 = cc in absurd (omega arith))
-  down-exactly (finishes.Refused y) q x = (λ e. let same : y ≡ x = cc in ap (λ (z : Refusal). turnedDown (numberOf z)) same, λ e. ap finishes.Refused (refusal-known (cc)))
+  down-exactly (finishes.Picture z) q x =
+      (λ e. let never : _≡_ {A = ℕ} 0 1 = cc in absurd (omega arith), λ e. let never : _≡_ {A = ℕ} 0 1 = cc in absurd (omega arith))
+  down-exactly (finishes.Refused y) q x =
+      (λ e. let same : y ≡ x = cc in ap (λ (z : Refusal). turnedDown (numberOf z)) same, λ e. ap finishes.Refused (refusal-known (cc)))
 
   -- The code's reading is refused with a number exactly when the definition's is.
   pub read-exactly : (x : Refusal) → (r .answer ≡ finishes.Refused x) ↔ (answer l stride p canvas bs ≡ turnedDown (numberOf x))

@@ -74,7 +74,9 @@ module _ (s : Setting) (a x : Area) where
   -- and no other number
   pub size-numbers : {n : ℕ} → refusalOf ≡ some n → n ≡ 4 → ⊥
   unfolding sizeRefusal
-  size-numbers {n} e q = go (ltb (s .limits .width) (x .width) || ltb (s .limits .height) (x .height)) (ltb (s .limits .pixels) _) (ltb (s .stride) (x .width) || ltb (s .rows) (x .height)) e
+  size-numbers {n} e q =
+      go (ltb (s .limits .width) (x .width) || ltb (s .limits .height) (x .height)) (ltb (s .limits .pixels) _)
+      (ltb (s .stride) (x .width) || ltb (s .rows) (x .height)) e
     where
       go : (t u v : Bool) → _≡_ {A = Option ℕ} (cond t (some 5) (cond u (some 6) (cond v (some 7) none))) (some n) → ⊥
       go true u v e = apart (λ r. omega arith) e

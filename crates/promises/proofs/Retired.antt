@@ -73,7 +73,8 @@ module _ (canvas : List ℕ) where
   unfolding oneOf payloadNumber numberOf
   payload-feed-retired s bytes allowance e = never payloadFeedNumbers refl (payload-feeds-only s canvas bytes allowance) (ap payloadNumber e)
 
-  pub dcs-feed-retired : (s : dcsSession.Session) (bytes : List ℕ) (allowance : ℕ) → ¬ (dcs.fedBy s canvas bytes allowance .0 .answer ≡ dcsAnswers.Refused FinalSize)
+  pub dcs-feed-retired : (s : dcsSession.Session) (bytes : List ℕ) (allowance : ℕ)
+      → ¬ (dcs.fedBy s canvas bytes allowance .0 .answer ≡ dcsAnswers.Refused FinalSize)
   unfolding oneOf dcsNumber numberOf
   dcs-feed-retired s bytes allowance e = never dcsFeedNumbers refl (dcs-feeds-only canvas bytes allowance s) (ap dcsNumber e)
 
@@ -250,7 +251,8 @@ module _ (numbers registers canvas : List ℕ) where
       (sym (finish-exported (x .answer) (x .palette)) ∙ e)
 
   -- A finish's number in the order of any session's: 9, 12, the pending command's; and of a DCS session 9, 12, 8, the pending command's.
-  pub payload-export-order : (palette : List ℕ) → exported.payloadFinished numbers registers palette canvas .0 ≡ orZero (payloadFinishOrder payloadHeld (length canvas))
+  pub payload-export-order : (palette : List ℕ)
+      → exported.payloadFinished numbers registers palette canvas .0 ≡ orZero (payloadFinishOrder payloadHeld (length canvas))
   unfolding exported.payloadFinished exported.finishedAs
   payload-export-order palette =
       let x : Finished = payload.finishedBy payloadHeld (ofTable palette) canvas .0 in

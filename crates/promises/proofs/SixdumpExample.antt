@@ -41,9 +41,11 @@ furtherColours shown x y (suc n) = words " " ++ colourText (shown x y) ++ furthe
 unfoldable pub colourRows : (ℕ → ℕ → List ℕ) → ℕ → ℕ → ℕ → List ℕ
 unfolding furtherColours
 colourRows shown width y zero = []
-colourRows shown width y (suc n) = (colourText (shown 0 y) ++ furtherColours shown 1 y (width - 1) ++ words "\n") ++ colourRows shown width (y + 1) n
+colourRows shown width y (suc n) =
+    (colourText (shown 0 y) ++ furtherColours shown 1 y (width - 1) ++ words "\n") ++ colourRows shown width (y + 1) n
 
-module _ (stride : ℕ) (area : Area) (background : List ℕ) (strokes : List Stroke) (opening : List ℕ) (room : fits stride (length opening) area ≡ true) where
+module _ (stride : ℕ) (area : Area) (background : List ℕ) (strokes : List Stroke) (opening : List ℕ)
+    (room : fits stride (length opening) area ≡ true) where
   abbrev canvas : List ℕ
   canvas = picture stride area background strokes opening
 
@@ -59,7 +61,8 @@ module _ (stride : ℕ) (area : Area) (background : List ℕ) (strokes : List St
       let first : getD canvas (4 * p) 0 ≡ getD (colours x y) 0 0 = ap (λ (k : ℕ). getD canvas k 0) (omega arith) ∙ byte 0 (omega arith) in
       rw (first, byte 1 (omega arith), byte 2 (omega arith), byte 3 (omega arith)) refl
 
-  further-shown : (n x y p : ℕ) → p ≡ y * stride + x → x + n ≤ area .width → y < area .height → furtherText canvas p n ≡ furtherColours colours x y n
+  further-shown : (n x y p : ℕ) → p ≡ y * stride + x → x + n ≤ area .width → y < area .height
+      → furtherText canvas p n ≡ furtherColours colours x y n
   unfolding furtherText furtherColours
   further-shown zero x y p at left above = refl
   further-shown (suc n) x y p at left above =
@@ -170,7 +173,8 @@ output =
     ++ words "000000FF 000000FF\n"
 
 drawing-text : drawnText complete 20 4 noParameters drawing ≡ output
-unfolding computed drawing input sixdumpSetting drawnText sizeLine extentLine backgroundLine inkLine countLine pairLine decimal digits hex hexDigit output
+unfolding computed drawing input sixdumpSetting drawnText sizeLine extentLine backgroundLine inkLine countLine pairLine
+    decimal digits hex hexDigit output
 drawing-text = refl
 
 -- Rule 13.4. It prints exactly this.
@@ -179,7 +183,8 @@ unfolding sixdumpText sequenceWhole sixdumpSetting held
 sixdump-example =
     let w : Whole End = sequenceWhole sixdumpSetting standard sixdumpOpening input in
     let r : Report = reportOf noParameters drawing in
-    let room : fits 128 (length sixdumpOpening) (drawing .area) ≡ true = ap (λ (n : ℕ). fits 128 n (drawing .area)) opening-long ∙ drawing-fits in
+    let room : fits 128 (length sixdumpOpening) (drawing .area) ≡ true =
+    ap (λ (n : ℕ). fits 128 n (drawing .area)) opening-long ∙ drawing-fits in
     text-ended 128 w input-refusal input-end input-finish
     ∙ ap₂ (λ (n i : ℕ). reportText complete (held n) (held i) r 128 (w .settled)) input-consumed input-ink
     ∙ ap (λ (d : Option Drawing). reportText complete 20 4 r 128 (shown 128 d sixdumpOpening)) input-drawing

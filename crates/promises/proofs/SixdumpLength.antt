@@ -52,7 +52,8 @@ digits-most : (places k n : ℕ) → n < 10 ^ suc k → length (digits places n)
 unfolding digits
 digits-most zero k n h = omega arith
 digits-most (suc places) zero n h =
-    cond-case (λ (ds : List ℕ). length ds ≤ 1) (ltb n 10) (λ _. omega arith) (λ e. absurd (let big : 10 ≤ n = ltb-false n 10 e in omega arith))
+    cond-case (λ (ds : List ℕ). length ds ≤ 1) (ltb n 10) (λ _. omega arith)
+    (λ e. absurd (let big : 10 ≤ n = ltb-false n 10 e in omega arith))
 digits-most (suc places) (suc k) n h =
     let few : n < 10 ^ suc k * 10 = rw (pow-suc 10 (suc k)) at h in
     cond-case (λ (ds : List ℕ). length ds ≤ suc (suc k)) (ltb n 10) (λ _. omega arith)
@@ -273,7 +274,8 @@ unfolding ratioOf
 ratio-low p1 none h k = h
 ratio-low p1 (some n) h k = k
 
-drawing-small : (p : Palette) (o : Parameters) (part : List ℕ) → UpTo 65535 (o .p1) → Small (reportOf o (payload sixdumpSetting o p part .drawing))
+drawing-small : (p : Palette) (o : Parameters) (part : List ℕ) → UpTo 65535 (o .p1)
+    → Small (reportOf o (payload sixdumpSetting o p part .drawing))
 unfolding sixdumpSetting reportOf payload blank
 drawing-small p o part low =
     let sound = payload-sound roomy o p part in
@@ -284,7 +286,9 @@ drawing-small p o part low =
       height = sound .fits .height;
       right = omega (arith, inside .width, sound .fits .width);
       bottom = omega (arith, inside .height, sound .fits .height);
-      ratio = ratio-low (o .p1) (payload sixdumpSetting o p part .drawing .raster .ratio) low (all-low sixdumpSetting (commands part) (blank p (o .p2)) tt);
+      ratio =
+          ratio-low (o .p1) (payload sixdumpSetting o p part .drawing .raster .ratio) low
+          (all-low sixdumpSetting (commands part) (blank p (o .p2)) tt);
     }
 
 report-small : (p : Palette) (bs : List ℕ) {r : Report} → oneShot sixdumpSetting p bs ≡ finished r → Small r
@@ -314,10 +318,12 @@ report-small p bs {r} e = go (findPayload bs) (payload-low bs) e
 -- ---- the whole text
 
 -- it has room where each report of its finish has
-whole-most : (stride : ℕ) (w : Whole End) → ((e : End) (r : Report) → w .end ≡ some e → w .finish ≡ finished r → Small r) → length (wholeText stride w) ≤ 147583
+whole-most : (stride : ℕ) (w : Whole End) → ((e : End) (r : Report) → w .end ≡ some e → w .finish ≡ finished r → Small r)
+    → length (wholeText stride w) ≤ 147583
 whole-most stride w small = go (w .refusal) refl (w .end) refl (w .finish) refl
   where
-    go : (n : Option ℕ) → w .refusal ≡ n → (e : Option End) → w .end ≡ e → (x : Finished) → w .finish ≡ x → length (wholeText stride w) ≤ 147583
+    go : (n : Option ℕ) → w .refusal ≡ n → (e : Option End) → w .end ≡ e → (x : Finished) → w .finish ≡ x
+        → length (wholeText stride w) ≤ 147583
     go (some n) a e b x c = rw (text-refused stride w a) (refused-most n)
     go none a none b x c = rw (text-unended stride w a b) (refused-most 8)
     go none a (some e) b (finished r) c =
@@ -332,11 +338,17 @@ sixdump-fits bs =
     λ e r end finish.
     report-small standard bs
     (ap (answerOf sixdumpSetting standard) (ended-found bs end)
-    ∙ sym (ap (λ (o : Option End). elim o as (λ _. Finished) [ none ↦ turnedDown 8 | some d ↦ answerOf sixdumpSetting standard (sequencePayload bs) ]) end)
+    ∙ sym
+    (ap
+    (λ (o : Option End).
+    elim o as (λ _. Finished) [ none ↦ turnedDown 8 | some d ↦ answerOf sixdumpSetting standard (sequencePayload bs) ])
+    end)
     ∙ finish)
 
--- So the length that is answered is the text's, and the buffer's prefix of that length, which the program prints, is the text of the whole input.
-pub sixdump-prints-all : (zs : List (List ℕ)) (rest out : List ℕ) → (readerAfter zs .standing ≡ standings.Reading → rest ≡ []) → length out ≡ 147583
+-- So the length that is answered is the text's, and the buffer's prefix of that length, which the program prints, is the text of
+-- the whole input.
+pub sixdump-prints-all : (zs : List (List ℕ)) (rest out : List ℕ) → (readerAfter zs .standing ≡ standings.Reading → rest ≡ [])
+    → length out ≡ 147583
     → let text : List ℕ = sixdumpText (joined zs ++ rest) in
     dumpedBy (readerAfter zs) standard 128 (canvasAfter zs) out .0 ≡ (length text, text ++ drop (length text) out)
 sixdump-prints-all zs rest out none-left room =

@@ -39,7 +39,7 @@ use Rattle.payload.specs.declared.Ratio.{Ratio}
 use Rattle.payload.specs.declared.Ratio.the-variants as ratios
 use Rattle.payload.specs.declared.Report.{Report}
 use Rattle.payload.specs.Meant.{givenMeant, ratioMeant, limitsMeant, settingMeant, reportMeant}
-use Rattle.payload.specs.Judge.{openable}
+use Rattle.payload.specs.Refusals.{openable}
 use Rattle.payload.specs.Session.{turnedAway}
 use Rattle.payload.proofs.Openings.{opens-meant}
 use Rattle.dcs.specs.declared.Ending.{Ending}

@@ -65,26 +65,30 @@ module _ {S E : Type 0} (areaOf : S → Area) (step : Setting → S → ℕ → 
       of : Option ℕ → Fed S E
       of o = elim o [ none ↦ answered end s ran | some m ↦ record { answer = refused m; session = s } ]
 
-      go : (o : Option ℕ) → feedRefusal areaOf s length a ≡ o → of o .answer ≡ told n i stoppedForInk → Worked a (6 * s .setting .limits .width) n i
+      go : (o : Option ℕ) → feedRefusal areaOf s length a ≡ o → of o .answer ≡ told n i stoppedForInk
+          → Worked a (6 * s .setting .limits .width) n i
       go none q e =
           let h = run-stopped e in
           let consumed : ran .consumed ≡ n = h .1 .0 in
           let ink : ran .ink ≡ i = h .1 .1 in
           let room : 6 * s .setting .limits .width ≤ a = enough q in
           record {
-            reads = omega (arith, call-stop-reads (step (s .setting)) (rest (s .setting)) _ (caps (s .setting)) a (s .state) bs room (h .0));
+            reads =
+                omega (arith, call-stop-reads (step (s .setting)) (rest (s .setting)) _ (caps (s .setting)) a (s .state) bs room (h .0));
             inks = omega (arith, call-stops (step (s .setting)) (rest (s .setting)) _ (caps (s .setting)) a (s .state) bs (h .0));
           }
       go (some m) q e = let never : _≡_ {A = ℕ} 0 1 = cc in absurd (omega arith)
 
 -- So it is for payload sessions,
-pub payload-stop-works : (m : Session Reading) (length a : ℕ) (bs : List ℕ) (n i : ℕ) → feedPayload m length a bs .answer ≡ told n i stoppedForInk
+pub payload-stop-works : (m : Session Reading) (length a : ℕ) (bs : List ℕ) (n i : ℕ)
+    → feedPayload m length a bs .answer ≡ told n i stoppedForInk
     → Worked a (6 * m .setting .limits .width) n i
 unfolding feedPayload
 payload-stop-works m length a bs n i = stop-works payloadArea payloadStep rested (λ r. r .over) payload-caps m length a bs n i
 
 -- and for DCS sessions.
-pub dcs-stop-works : (p : Palette) (m : Session Phase) (length a : ℕ) (bs : List ℕ) (n i : ℕ) → feedDcs p m length a bs .answer ≡ told n i stoppedForInk
+pub dcs-stop-works : (p : Palette) (m : Session Phase) (length a : ℕ) (bs : List ℕ) (n i : ℕ)
+    → feedDcs p m length a bs .answer ≡ told n i stoppedForInk
     → Worked a (6 * m .setting .limits .width) n i
 unfolding feedDcs
 dcs-stop-works p m length a bs n i = stop-works dcsArea (λ c. dcsStep c p) dcsRested dcsEnd (λ c. dcs-caps c p) m length a bs n i

@@ -10,7 +10,8 @@ module _ {H A B : Type 0} (feed : Feed H A) (meant : A → B) where
   telling h bs a = (feed h bs a .0, meant (feed h bs a .1))
 
   -- After any calls the same is held, and the answers are the others' meanings.
-  pub told-past : (h : H) (cs : List Ask) → fedAll telling h cs ≡ record { answers = map meant (fedAll feed h cs .answers); state = fedAll feed h cs .state }
+  pub told-past : (h : H) (cs : List Ask)
+      → fedAll telling h cs ≡ record { answers = map meant (fedAll feed h cs .answers); state = fedAll feed h cs .state }
   unfolding fedAll
   told-past h [] = refl
   told-past h (c ∷ cs) =
@@ -18,7 +19,8 @@ module _ {H A B : Type 0} (feed : Feed H A) (meant : A → B) where
       (told-past (feed h (c .bytes) (c .allowance) .0) cs)
 
   -- so where the calls are the definition's, the meanings told are its answers,
-  module _ {M : Type 0} {Stands : H → M → Type 0} (h : H) (cs : List Ask) {y : Past M B} (passes : Passes Stands meant (fedAll feed h cs) y) where
+  module _ {M : Type 0} {Stands : H → M → Type 0} (h : H) (cs : List Ask) {y : Past M B}
+      (passes : Passes Stands meant (fedAll feed h cs) y) where
     pub told-answers : fedAll telling h cs .answers ≡ y .answers
     told-answers = ap (λ (x : Past H B). x .answers) (told-past h cs) ∙ passes .answers
 

@@ -1,4 +1,5 @@
--- What the bin reader (docs/RULES.md, section 11) tells of a picture that was read, in the definition's terms: of the drawing, its strokes and its background.
+-- What the bin reader (docs/RULES.md, section 11) tells of a picture that was read, in the definition's terms: of the drawing, its
+-- strokes and its background.
 use Prim.Native.Nat.{ℕ, _+_, _<_}
 use mathlib.Core.Bool.{true}
 use mathlib.Core.List.{List, _∷_, _++_}
@@ -22,7 +23,8 @@ use Rattle.bins.specs.Facts.{Tells, shapeOf, Meets, Shows, Uncovered, NoLower}
 
 -- a picture of this size on a canvas, and the drawing that was read
 pub record ToldByBins (stride : ℕ) (size : Area) (canvas : List ℕ) (d : Drawing) : Type 0 where
-  -- `top` tells the topmost row in which one of the bin's columns shows the colour: that of the last stroke that covers it, or else the background
+  -- `top` tells the topmost row in which one of the bin's columns shows the colour: that of the last stroke that covers it, or else
+  -- the background
   pub top : (b : bins.Setting) (bin : ℕ) (colour : List ℕ) → settingFits b (size .width) ≡ true → bin < b .count → length colour ≡ 4
       → Tells (shownColour (d .background) (d .strokes)) (shapeOf stride size) canvas b bin colour
   -- of a stroke with a set bit that no later stroke covers: exactly the bins that have one of its columns show it in that bit's row
@@ -40,8 +42,8 @@ pub record FoundByBins (s : Setting) (p : Palette) (f : Found) (size : Area) (ca
   pub is-found : f ≡ found parameters part
   pub told : ToldByBins (s .stride) size canvas (payload s parameters p part .drawing)
 
--- Of any reader, as its caller meets it (`meaning/Demands`): once all has been presented and a finish reports, on the canvas and for the size of that
--- finish. The drawing is that of the whole stream.
+-- Of any reader, as its caller meets it (`meaning/Demands`): once all has been presented and a finish reports, on the canvas and
+-- for the size of that finish. The drawing is that of the whole stream.
 module _ {H : Type 0} (finish : H → Palette → Concluded) (s : Setting) (p : Palette) (h : H) (ts : List Turn) where
   -- of a payload session
   abbrev pub PayloadBins : Feed H (Answer ℕ) → Parameters → Type 0

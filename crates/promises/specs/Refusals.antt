@@ -19,7 +19,7 @@ use Rattle.payload.specs.declared.Finishing.the-variants as finishes
 use Rattle.payload.specs.declared.Opening.{Opening}
 use Rattle.payload.specs.declared.Opening.the-variants as openings
 use Rattle.payload.specs.declared.Session as payload
-use Rattle.payload.specs.Judge.{isFailed, misfitting}
+use Rattle.payload.specs.Refusals.{isFailed, misfitting}
 use Rattle.dcs.specs.declared.Answer as dcsAnswer
 use Rattle.dcs.specs.declared.Answer.the-variants as dcsAnswers
 use Rattle.dcs.specs.declared.Phase.{Phase}
@@ -96,14 +96,13 @@ readNumbers = 11 ∷ 8 ∷ 2 ∷ 3 ∷ commandNumbers
 -- what ending the pending command is refused with
 unfoldable pub outcomeNumber : Outcome → Option ℕ
 outcomeNumber outcomes.Read = none
-outcomeNumber outcomes.Settled = none
 outcomeNumber outcomes.Stopped = none
 outcomeNumber (outcomes.Ended b) = none
 outcomeNumber (outcomes.Refused n) = some (numberOf n)
 
 unfoldable pub pendingNumber : payload.Session → Option ℕ
 unfolding outcomeNumber
-pendingNumber s = outcomeNumber (ended (s .frame) (s .ground) (s .palette) .stepped .outcome)
+pendingNumber s = outcomeNumber (ended (s .frame) (s .ground) (s .palette) .progress .outcome)
 
 -- the number of the first test that holds, or else another
 unfoldable pub firstOr : List Test → Option ℕ → Option ℕ

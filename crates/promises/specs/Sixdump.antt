@@ -68,8 +68,9 @@ reportText end consumed ink report stride canvas =
     ++ inkLine ink
     ++ rowsText canvas stride (report .size .width) 0 (report .size .height)
 
--- rule 13.3: of what a stream means: its refusal; else 8 where it has not ended; else the report of its finish, with the counts saturated at 2^64 - 1
--- and the rows of the canvas that the finish leaves. At an end there always is a report: the last refusal never comes.
+-- rule 13.3: of what a stream means: its refusal; else 8 where it has not ended; else the report of its finish, with the counts
+-- saturated at 2^64 - 1 and the rows of the canvas that the finish leaves. At an end there always is a report: the last refusal
+-- never comes.
 unfoldable pub wholeText : ℕ → Whole End → List ℕ
 unfolding refusedLine reportText
 wholeText stride w =

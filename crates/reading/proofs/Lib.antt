@@ -1,1 +1,1 @@
-pub mod RideLaws
+pub mod LoopLaws

@@ -1,1 +1,1 @@
-pub mod Ride
+pub mod Loop

@@ -2,10 +2,11 @@
 // turn to turn takes three times as long.
 ghost use mathlib.Core.Path.{_≡_};
 use frame::Command;
+use frame::Extent;
 use frame::Frame;
 use frame::Pen;
 use frame::Raster;
-use frame::Sheet;
+use frame::VisibleArea;
 
 pub fn renewed_pen(pen: Pen) -> Pen
     ensures { λ r. ⌜ r ≡ pen ⌝ }
@@ -20,14 +21,21 @@ pub fn renewed_pen(pen: Pen) -> Pen
     }
 }
 
-fn renewed_sheet(sheet: Sheet) -> Sheet
-    ensures { λ r. ⌜ r ≡ sheet ⌝ }
+fn renewed_area(area: VisibleArea) -> VisibleArea
+    ensures { λ r. ⌜ r ≡ area ⌝ }
 {
-    Sheet {
-        width: sheet.width,
-        height: sheet.height,
-        right: sheet.right,
-        bottom: sheet.bottom,
+    VisibleArea {
+        width: area.width,
+        height: area.height,
+    }
+}
+
+fn renewed_extent(extent: Extent) -> Extent
+    ensures { λ r. ⌜ r ≡ extent ⌝ }
+{
+    Extent {
+        right: extent.right,
+        bottom: extent.bottom,
     }
 }
 
@@ -58,7 +66,8 @@ pub fn renewed(frame: Frame) -> Frame
 {
     Frame {
         pen: renewed_pen(frame.pen),
-        sheet: renewed_sheet(frame.sheet),
+        area: renewed_area(frame.area),
+        extent: renewed_extent(frame.extent),
         raster: renewed_raster(frame.raster),
         command: renewed_command(frame.command),
     }

@@ -1,4 +1,5 @@
--- `answers::registers_sum` meets its contract. The loop's invariant: the checksum so far, with the registers that are left, is the whole one.
+-- `answers::registers_sum` meets its contract. The loop's invariant: the checksum so far, with the registers that are left,
+-- is the whole one.
 -- Assumes nothing.
 use mathlib.Core.Path.{_≡_, refl, ap, _∙_}
 use Prim.Native.Nat.{_-_, _≤_}
@@ -41,7 +42,10 @@ loop-less : tie.Need-loop-less Inv-loop μ-loop
 loop-less c = search needs
 
 loop-again : tie.Need-loop-again Inv-loop μ-loop
-loop-again c = (search needs, one-register _ _ _ _ _ _ (c .before .before .rgb-bytes .ensures) (c .with-bytes .ensures) (c .before .before .before .before .before .loop .inv .1) (omega arith))
+loop-again c =
+    let packed = c .before .before in
+    let loop = packed .before .before .before in
+    (search needs, one-register _ _ _ _ _ _ (packed .rgb-bytes .ensures) (c .with-bytes .ensures) (loop .loop .inv .1) (omega arith))
 
 returns : tie.Need-returns Inv-loop μ-loop
 returns c = all-registers _ _ _ _ (c .before .loop .inv .1) (omega arith) ∙ ap registersSum (c .before .before .table .ensures)

@@ -32,10 +32,17 @@ loop-less : tie.Need-loop-less Inv-loop μ-loop
 loop-less c = search needs
 
 loop-again : tie.Need-loop-again Inv-loop μ-loop
-loop-again c = (search needs, one-more (c .before .before .before .before .before .args .bytes .now) (c .before .before .before .loop .i) _ _ _ (c .with-byte .ensures) (c .before .before .before .loop .inv .1) (omega arith))
+loop-again c =
+    let loop = c .before .before .before in
+    let start = loop .before .before in (
+      search needs,
+      one-more (start .args .bytes .now) (loop .loop .i) _ _ _ (c .with-byte .ensures) (loop .loop .inv .1) (omega arith),
+    )
 
 returns : tie.Need-returns Inv-loop μ-loop
-returns c = all-read (c .before .before .before .args .bytes .now) (c .before .loop .i) _ _ (c .before .loop .inv .1) (omega arith)
+returns c =
+    let loop = c .before in
+    all-read (loop .before .before .args .bytes .now) (loop .loop .i) _ _ (loop .loop .inv .1) (omega arith)
 
 pub with-bytes-spec : {M : Type 1} → statement M
 with-bytes-spec =

@@ -18,21 +18,27 @@ returns c = search (needs, bin-refused)
 enum-told : tie.Need-enum-told
 enum-told c = search needs
 
+-- the judgement before the test of the column
+abbrev judged : tie.After-struct-known → tie.After-judge
+judged c = c .before .before .before
+
 returns-2 : tie.Need-returns-2
-returns-2 c = bin-below _ _ _ (c .before .before .before .before .judge .ensures) (search needs) _ (c .if1 .taken)
+returns-2 c = bin-below _ _ _ (judged (c .before) .judge .ensures) (search needs) _ (c .if1 .taken)
 
 div-found : tie.Need-div-found
 div-found c = search (needs, wide)
 
 returns-3 : tie.Need-returns-3
 returns-3 c =
-    let from-origin = c .before .before .before .before in
-    bin-past _ _ _ (from-origin .before .before .before .before .judge .ensures) (search needs) _ _ refl (from-origin .if1 .left) (omega arith)
+    let divided = c .before .before in
+    let from-origin = divided .before .before in
+    bin-past _ _ _ (judged (from-origin .before) .judge .ensures) (search needs) _ _ refl (from-origin .if1 .left) (omega arith)
 
 returns-4 : tie.Need-returns-4
 returns-4 c =
-    let from-origin = c .before .before .before .before in
-    bin-told _ _ _ (from-origin .before .before .before .before .judge .ensures) (search needs) _ _ refl (from-origin .if1 .left) (omega arith)
+    let divided = c .before .before in
+    let from-origin = divided .before .before in
+    bin-told _ _ _ (judged (from-origin .before) .judge .ensures) (search needs) _ _ refl (from-origin .if1 .left) (omega arith)
 
 pub bin-spec : {M : Type 1} → statement M
 bin-spec =

@@ -16,10 +16,18 @@ enum-known-first c = search needs
 sub-last : tie.Need-sub-last
 sub-last c = search (needs, place-wide)
 
+-- the steps before a first column is known
+abbrev asked-for : tie.After-first → tie.After-first-column
+asked-for c = c .before .before
+
+abbrev start-of : tie.After-first → tie.Start
+start-of c = asked-for c .before .before
+
 add-last : tie.Need-add-last
 add-last c =
-    let a = c .before .before .before .before .before .before .args in
-    let room : c .before .before .first .given .0 .0 + a .setting .width ≤ a .shape .width = search (needs, place-room) in
+    let found = c .before .before in
+    let a = start-of found .args in
+    let room : found .first .given .0 .0 + a .setting .width ≤ a .shape .width = search (needs, place-room) in
     omega arith
 
 enum-known-refusal : tie.Need-enum-known-refusal
@@ -27,9 +35,9 @@ enum-known-refusal c = search needs
 
 returns : tie.Need-returns
 returns c =
-    let a = c .before .before .before .before .before .before .args in
-    let some-column : 1 ≤ a .setting .width = search (needs, place-wide) in
-    columns-told _ _ _ _ (c .before .before .before .before .first-column .ensures) (search needs) _ (omega arith)
+    let found = c .before .before in
+    let some-column : 1 ≤ start-of found .args .setting .width = search (needs, place-wide) in
+    columns-told _ _ _ _ (asked-for found .first-column .ensures) (search needs) _ (omega arith)
 
 returns-2 : tie.Need-returns-2
 returns-2 c = search (needs, columns-refused)

@@ -20,11 +20,15 @@ Inv-loop canvas stride height first count colour y₀ y =
 abbrev μ-loop : tie.MeasureT-loop
 μ-loop canvas stride height first count colour y₀ y = height - y
 
+-- a turn of the loop, back to the function's start
+abbrev start-of : tie.In-loop Inv-loop μ-loop → tie.Start Inv-loop μ-loop
+start-of c = c .before .before .before
+
 -- the columns of the row that a turn searches lie on the canvas
 room : (c : tie.In-loop Inv-loop μ-loop)
-    → let a = c .before .before .before .args in 4 * (c .before .loop .y * a .stride + (a .first + a .count)) ≤ length (now (a .canvas))
+    → let a = start-of c .args in 4 * (c .before .loop .y * a .stride + (a .first + a .count)) ≤ length (now (a .canvas))
 room c =
-    let entry = c .before .before .before in
+    let entry = start-of c in
     let a = entry .args in
     rectangle-room (length (now (a .canvas))) (a .stride) (a .first + a .count) (a .height) (c .before .loop .y)
     (entry .pre .0) (entry .pre .1) (c .loop-test .taken)

@@ -1,13 +1,14 @@
 -- `canvas::copy_rows` meets its contract. The loop's invariant: the first y rows stand at the front. Assumes nothing.
-use mathlib.Core.Path.{_≡_, refl, ap, _∙_}
+use mathlib.Core.Path.{_≡_, _∙_}
 use mathlib.Core.List.{_++_}
-use Prim.Native.Nat.{ℕ, _+_, _-_, _*_, _≤_, zero-le}
+use Prim.Native.Nat.{_+_, _-_, _*_, _≤_}
 use native.Mathlib.Omega.{arith}
 use lib.ListN.{length, drop}
 use denote.Ref.{now}
-use Rattle.canvas.specs.Copy.{packed, sizeOf}
+use borrow.Author.Needs.{needs}
+use Rattle.canvas.specs.Copy.{packed}
 use Rattle.canvas.proofs.Growth.{rectangle-room}
-use Rattle.canvas.proofs.Copies.{packed-none, packed-more, row-room}
+use Rattle.canvas.proofs.Copies.{row-turns, row-room}
 use Rattle.canvas.proofs.copy_rows.Statement.{statement}
 use Rattle.canvas.proofs.copy_rows.Tie as tie
 
@@ -19,14 +20,17 @@ abbrev μ-loop : tie.MeasureT-loop
 μ-loop canvas stride width height out₀ y₀ out y = height - y
 
 abbrev Entry : tie.In-loop Inv-loop μ-loop → tie.Start Inv-loop μ-loop
-Entry c = c .before .before .before .before
+Entry c =
+    let first-turn = c .before .before in
+    first-turn .before .before
 
 -- the row that a turn reads lies on the canvas
 room : (c : tie.In-loop Inv-loop μ-loop)
     → 4 * (c .before .loop .y * Entry c .args .stride + Entry c .args .width) ≤ length (now (Entry c .args .canvas))
 room c =
     let a = Entry c .args in
-    rectangle-room (length (now (a .canvas))) (a .stride) (a .width) (a .height) (c .before .loop .y) (Entry c .pre .0) (Entry c .pre .1) (c .loop-test .taken)
+    rectangle-room (length (now (a .canvas))) (a .stride) (a .width) (a .height) (c .before .loop .y)
+    (Entry c .pre .0) (Entry c .pre .1) (c .loop-test .taken)
 
 -- and the row that it writes in the other buffer
 room-out : (c : tie.In-loop Inv-loop μ-loop)
@@ -36,8 +40,7 @@ room-out c =
     omega (arith, row-room (a .width) (a .height) (c .before .loop .y) (c .loop-test .taken), Entry c .pre .2)
 
 loop-holds : tie.Need-loop-holds Inv-loop μ-loop
-loop-holds c =
-    let a = c .before .before .args in (packed-none (a .stride) (a .width) (now (a .canvas)) (now (a .out)), refl, zero-le)
+loop-holds c = (search (needs, row-turns), search needs, search needs)
 
 mul-copy-bytes : tie.Need-mul-copy-bytes Inv-loop μ-loop
 mul-copy-bytes c = omega (arith, room c)
@@ -64,27 +67,13 @@ loop-less : tie.Need-loop-less Inv-loop μ-loop
 loop-less c = omega arith
 
 loop-again : tie.Need-loop-again Inv-loop μ-loop
-loop-again c =
-    let t = c .before .before .before .before .before in
-    let entry = t .before .before .before in
-    let a = entry .args in
-    let now-at = t .loop in
-    let below : 4 * (now-at .y * a .stride) ≤ length (now (a .canvas)) = omega (arith, room (c .before .before .before .before)) in (
-      packed-more (a .stride) (a .width) (now-at .y) (now (a .canvas)) (now (a .out)) (now-at .out) (entry .pre .0) below (now-at .inv .0) (c .before .before .copy-bytes .ensures),
-      c .before .before .copy-bytes .kept .1 .1 .0 ∙ now-at .inv .1,
-      omega arith,
-    )
+loop-again c = (search (needs, row-turns), search (needs, _∙_), search needs)
 
 same-length : tie.Need-same-length Inv-loop μ-loop
-same-length c = c .before .loop .inv .1
+same-length c = search needs
 
 returns : tie.Need-returns Inv-loop μ-loop
-unfolding sizeOf
-returns c =
-    let a = c .before .before .before .before .args in
-    let now-at = c .before .loop in
-    let done : now-at .y ≡ a .height = omega arith in
-    now-at .inv .0 ∙ ap (λ (n : ℕ). packed (a .stride) (a .width) n (now (a .canvas)) ++ drop (4 * (a .width * n)) (now (a .out))) done
+returns c = search (needs, row-turns)
 
 pub copy-rows-spec : {M : Type 1} → statement M
 copy-rows-spec =

@@ -1,12 +1,13 @@
 -- `canvas::fill_rectangle` meets its contract. The loop's invariant: the rows from `top` up to y are painted. Assumes nothing.
-use mathlib.Core.Path.{_≡_, refl, ap, _∙_}
-use Prim.Native.Nat.{ℕ, _+_, _-_, _*_, _≤_}
+use mathlib.Core.Path.{_≡_, _∙_}
+use Prim.Native.Nat.{_+_, _-_, _*_, _≤_}
 use native.Mathlib.Omega.{arith}
 use lib.ListN.{length}
 use denote.Ref.{now}
-use Rattle.canvas.specs.Picture.{grid, span}
+use borrow.Author.Needs.{needs}
+use Rattle.canvas.specs.Picture.{grid}
 use Rattle.canvas.specs.Paint.{painted, rectangle}
-use Rattle.canvas.proofs.Growth.{rectangle-more, rectangle-none, rectangle-room}
+use Rattle.canvas.proofs.Growth.{rectangle-turns, rectangle-room}
 use Rattle.canvas.proofs.fill_rectangle.Statement.{statement}
 use Rattle.canvas.proofs.fill_rectangle.Tie as tie
 
@@ -18,7 +19,9 @@ abbrev μ-loop : tie.MeasureT-loop
 μ-loop canvas₀ stride left right top bottom px y₀ canvas y = bottom - y
 
 abbrev Entry : tie.In-loop Inv-loop μ-loop → tie.Start Inv-loop μ-loop
-Entry c = c .before .before .before .before
+Entry c =
+    let first-turn = c .before .before in
+    first-turn .before .before
 
 -- the row that a turn paints lies on the canvas
 room : (c : tie.In-loop Inv-loop μ-loop)
@@ -26,21 +29,16 @@ room : (c : tie.In-loop Inv-loop μ-loop)
 room c =
     let a = Entry c .args in
     let pre = Entry c .pre in
-    rectangle-room (length (now (a .canvas))) (a .stride) (a .right) (a .bottom) (c .before .loop .y) (pre .1) (pre .3) (c .loop-test .taken)
+    rectangle-room (length (now (a .canvas))) (a .stride) (a .right) (a .bottom) (c .before .loop .y)
+    (pre .1)
+    (pre .3)
+    (c .loop-test .taken)
 
 returns : tie.Need-returns Inv-loop μ-loop
-returns c =
-    let a = c .before .before .args in
-    rectangle-none (a .stride) (a .left) (a .right) (a .top) (a .bottom) (a .px) (now (a .canvas)) (λ x y l r t b. omega arith)
+returns c = search (needs, rectangle-turns)
 
 loop-holds : tie.Need-loop-holds Inv-loop μ-loop
-loop-holds c =
-    let a = c .before .before .args in (
-      rectangle-none (a .stride) (a .left) (a .right) (a .top) (a .top) (a .px) (now (a .canvas)) (λ x y l r t b. omega arith),
-      refl,
-      omega arith,
-      omega arith,
-    )
+loop-holds c = (search (needs, rectangle-turns), search needs, search needs, search needs)
 
 mul-fill-span : tie.Need-mul-fill-span Inv-loop μ-loop
 mul-fill-span c = omega (arith, room (c .before))
@@ -64,28 +62,13 @@ loop-less : tie.Need-loop-less Inv-loop μ-loop
 loop-less c = omega arith
 
 loop-again : tie.Need-loop-again Inv-loop μ-loop
-loop-again c =
-    let t = c .before .before .before .before .before in
-    let a = t .before .before .before .args in
-    let pre = t .before .before .before .pre in
-    let now-at = t .loop in (
-      c .before .before .fill-span .ensures
-          ∙ ap (painted (span (now-at .y * a .stride + a .left) (now-at .y * a .stride + a .right)) (a .px)) (now-at .inv .0)
-          ∙ rectangle-more (a .stride) (a .left) (a .right) (a .top) (now-at .y) (a .px) (now (a .canvas)) (pre .1) (now-at .inv .2),
-      c .before .before .fill-span .kept .0 ∙ now-at .inv .1,
-      omega arith,
-      omega arith,
-    )
+loop-again c = (search (needs, rectangle-turns), search (needs, _∙_), search needs, search needs)
 
 same-length : tie.Need-same-length Inv-loop μ-loop
-same-length c = c .before .loop .inv .1
+same-length c = search needs
 
 returns-2 : tie.Need-returns-2 Inv-loop μ-loop
-returns-2 c =
-    let a = c .before .before .before .before .args in
-    let now-at = c .before .loop in
-    let done : now-at .y ≡ a .bottom = omega arith in
-    now-at .inv .0 ∙ ap (λ (n : ℕ). painted (grid (a .stride) (rectangle (a .left) (a .right) (a .top) n)) (a .px) (now (a .canvas))) done
+returns-2 c = search (needs, rectangle-turns)
 
 pub fill-rectangle-spec : {M : Type 1} → statement M
 fill-rectangle-spec =

@@ -1,29 +1,25 @@
 -- `canvas::fill_span` meets its contract. The loop's invariant: the pixels from `from` up to p are painted. A turn's four stores are
--- `stored-more`. Assumes nothing.
-use mathlib.Core.Path.{_≡_, refl, sym, ap, _∙_}
-use mathlib.Core.List.{List}
-use Prim.Native.Nat.{ℕ, _+_, _*_, _-_, _≤_, _<_}
+-- `span-next`. Assumes nothing.
+use mathlib.Core.Path.{_≡_}
+use Prim.Native.Nat.{_-_, _≤_}
 use native.Mathlib.Omega.{arith}
 use lib.ListN.{length, length-set}
-use denote.Ref.{now}
 use borrow.Author.Needs.{needs}
 use Rattle.canvas.specs.Paint.{painted}
 use Rattle.canvas.specs.Picture.{span}
-use Rattle.canvas.proofs.Bytes.{painted-none}
-use Rattle.canvas.proofs.Covers.{span-empty, stored, stored-more}
+use Rattle.canvas.proofs.Covers.{span-turns}
 use Rattle.canvas.proofs.fill_span.Statement.{statement}
 use Rattle.canvas.proofs.fill_span.Tie as tie
 
 abbrev Inv-loop : tie.InvT-loop
-Inv-loop canvas₀ from to px p₀ canvas p = (canvas ≡ painted (span from p) px canvas₀) × (length canvas ≡ length canvas₀) × (from ≤ p) × (p ≤ to)
+Inv-loop canvas₀ from to px p₀ canvas p =
+    (canvas ≡ painted (span from p) px canvas₀) × (length canvas ≡ length canvas₀) × (from ≤ p) × (p ≤ to)
 
 abbrev μ-loop : tie.MeasureT-loop
 μ-loop canvas₀ from to px p₀ canvas p = to - p
 
 loop-holds : tie.Need-loop-holds Inv-loop μ-loop
-loop-holds c =
-    let from = c .args .from in
-    let l = now (c .args .canvas) in (sym (painted-none (span from from) (c .args .t4) l (λ p. span-empty from from p (omega arith))), refl, omega arith, omega arith)
+loop-holds c = (search (needs, span-turns), search needs, search needs, search needs)
 
 mul-i : tie.Need-mul-i Inv-loop μ-loop
 mul-i c = omega arith
@@ -68,25 +64,13 @@ loop-less : tie.Need-loop-less Inv-loop μ-loop
 loop-less c = omega arith
 
 loop-again : tie.Need-loop-again Inv-loop μ-loop
-loop-again c =
-    let a = c .before .before .args in
-    let now-at = c .before .loop in
-    let long : 4 * now-at .p + 3 < length (now (a .canvas)) = omega arith in (
-      ap (λ (l : List ℕ). stored l (a .t4) (4 * now-at .p)) (now-at .inv .0) ∙ stored-more (now (a .canvas)) (a .t4) (a .from) (now-at .p) (now-at .inv .2) long,
-      simp length-set (now-at .inv .1),
-      omega arith,
-      omega arith,
-    )
+loop-again c = (search (needs, span-turns), simp length-set (c .before .loop .inv .1), search needs, search needs)
 
 same-length : tie.Need-same-length Inv-loop μ-loop
 same-length c = search needs
 
 returns : tie.Need-returns Inv-loop μ-loop
-returns c =
-    let a = c .before .before .args in
-    let now-at = c .before .loop in
-    let done : now-at .p ≡ a .to = omega arith in
-    now-at .inv .0 ∙ ap (λ (q : ℕ). painted (span (a .from) q) (a .t4) (now (a .canvas))) done
+returns c = search (needs, span-turns)
 
 pub fill-span-spec : {M : Type 1} → statement M
 fill-span-spec =

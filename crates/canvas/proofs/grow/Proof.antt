@@ -1,10 +1,6 @@
--- `canvas::grow` meets its contract: the new pixels are the two rectangles that it paints. Assumes nothing.
-use mathlib.Core.Path.{sym, subst}
-use Prim.Native.Nat.{ℕ, _≤_, zero-le}
-use denote.Ref.{now}
-use native.Mathlib.Omega.{arith}
-use Rattle.canvas.specs.Picture.{rowsOf}
-use Rattle.canvas.proofs.Growth.{grown-parts}
+-- `canvas::grow` meets its contract: the new pixels are the two rectangles that it paints (`grown-parts`), and the first leaves the
+-- canvas its rows. Assumes nothing.
+use Rattle.canvas.proofs.Growth.{rows-kept, grown-parts}
 use borrow.Author.Needs.{needs}
 use Rattle.canvas.proofs.grow.Statement.{statement}
 use Rattle.canvas.proofs.grow.Tie as tie
@@ -13,25 +9,13 @@ fill-rectangle-requires : tie.Need-fill-rectangle-requires
 fill-rectangle-requires c κs = search needs
 
 fill-rectangle-requires-2 : tie.Need-fill-rectangle-requires-2
-fill-rectangle-requires-2 c κs =
-    let entry = c .before .before .before .before .before .before in
-    let same-long = c .before .before .before .fill-rectangle .kept .0 in (
-      zero-le,
-      omega (arith, entry .pre),
-      omega (arith, entry .pre),
-      subst (λ (n : ℕ). entry .args .new-height ≤ rowsOf n (entry .args .stride)) (sym same-long) (entry .pre .3),
-    )
+fill-rectangle-requires-2 c κs = search (needs, rows-kept)
 
 same-length : tie.Need-same-length
 same-length c = search needs
 
 returns : tie.Need-returns
-returns c =
-    let entry = c .before .before .before .before .before .before .before .before .before in
-    let a = entry .args in
-    grown-parts (a .stride) (a .width) (a .height) (a .new-width) (a .new-height) (a .background) (now (a .canvas)) (entry .pre .0) (entry .pre .2)
-    (c .before .before .before .before .before .before .fill-rectangle .ensures)
-    (c .before .before .fill-rectangle2 .ensures)
+returns c = search (needs, grown-parts)
 
 pub grow-spec : {M : Type 1} → statement M
 grow-spec =

@@ -1,35 +1,44 @@
 -- `canvas::paint_sixel` meets its contract. The loop's invariant: the sixel's first k rows are painted, and `rest` is its bits without
 -- the first k. Assumes nothing.
-use mathlib.Core.Path.{_≡_, refl, sym, ap, _∙_}
-use Prim.Native.Nat.{ℕ, _+_, _-_, _*_, _/_, _^_, _≤_}
-use native.Mathlib.Nat.{div-one}
+use mathlib.Core.Path.{_≡_, _∙_}
+use Prim.Native.Nat.{_+_, _-_, _*_, _/_, _^_, _≤_}
 use native.Mathlib.Omega.{arith}
 use lib.ListN.{length}
 use denote.Ref.{now}
-use Rattle.canvas.specs.Picture.{grid, span, inSixel}
-use Rattle.canvas.specs.Paint.{painted, sixelPainted}
-use Rattle.canvas.proofs.Grid.{firstRows, sixel-more, sixel-skip, sixel-none, sixel-room, rest-more, rows-few}
+use borrow.Author.Needs.{needs}
+use Rattle.canvas.specs.Picture.{grid}
+use Rattle.canvas.specs.Paint.{painted}
+use Rattle.canvas.proofs.Grid.{firstRows, sixel-turns, sixel-room, rows-few}
 use Rattle.canvas.proofs.paint_sixel.Statement.{statement}
 use Rattle.canvas.proofs.paint_sixel.Tie as tie
 
 abbrev Inv-loop : tie.InvT-loop
 Inv-loop canvas₀ stride column row repeat bits px rest₀ k₀ canvas rest k =
-    (canvas ≡ painted (grid stride (firstRows k column row repeat bits)) px canvas₀) × (length canvas ≡ length canvas₀) × (rest ≡ bits / 2 ^ k) × (k ≤ 6)
+    (canvas ≡ painted (grid stride (firstRows k column row repeat bits)) px canvas₀)
+    × (length canvas ≡ length canvas₀)
+    × (rest ≡ bits / 2 ^ k)
+    × (k ≤ 6)
 
 abbrev μ-loop : tie.MeasureT-loop
 μ-loop canvas₀ stride column row repeat bits px rest₀ k₀ canvas rest k = 6 - k
 
+abbrev Entry : tie.In-loop Inv-loop μ-loop → tie.Start Inv-loop μ-loop
+Entry c = c .before .before .before
+
 -- the row that a turn paints lies on the canvas
 room : (c : tie.In-loop Inv-loop μ-loop)
-    → 4 * ((c .before .before .before .args .row + c .before .loop .k) * c .before .before .before .args .stride + c .before .before .before .args .column + c .before .before .before .args .repeat)
-    ≤ length (now (c .before .before .before .args .canvas))
+    → 4 * ((Entry c .args .row + c .before .loop .k) * Entry c .args .stride + Entry c .args .column + Entry c .args .repeat)
+    ≤ length (now (Entry c .args .canvas))
 room c =
-    let a = c .before .before .before .args in
-    sixel-room (length (now (a .canvas))) (a .stride) (a .column) (a .row) (a .repeat) (c .before .loop .k) (c .before .before .before .pre .0) (c .before .before .before .pre .1) (c .loop-test .taken)
+    let a = Entry c .args in
+    let pre = Entry c .pre in
+    sixel-room (length (now (a .canvas))) (a .stride) (a .column) (a .row) (a .repeat) (c .before .loop .k)
+    (pre .0)
+    (pre .1)
+    (c .loop-test .taken)
 
 loop-holds : tie.Need-loop-holds Inv-loop μ-loop
-loop-holds c =
-    let a = c .before .args in (sixel-none (a .stride) (a .column) (a .row) (a .repeat) (a .bits) (a .px) (now (a .canvas)), refl, sym (div-one (a .bits)), omega arith)
+loop-holds c = (search (needs, sixel-turns), search needs, search (needs, sixel-turns), search needs)
 
 add-y : tie.Need-add-y Inv-loop μ-loop
 add-y c =
@@ -55,44 +64,19 @@ loop-less : tie.Need-loop-less Inv-loop μ-loop
 loop-less c = omega arith
 
 loop-again : tie.Need-loop-again Inv-loop μ-loop
-loop-again c =
-    let t = c .before .before .before .before .before .before in
-    let a = t .before .before .args in
-    let now-at = t .loop in
-    let on = c .before .before .before .before .if1 .taken in
-    let from : ℕ = (a .row + now-at .k) * a .stride + a .column in (
-      c .before .before .fill-span .ensures
-          ∙ ap (painted (span from (from + a .repeat)) (a .px)) (now-at .inv .0)
-          ∙ sixel-more (a .stride) (a .column) (a .row) (a .repeat) (a .bits) (now-at .rest) (now-at .k) (a .px) (now (a .canvas)) (now-at .inv .2) on (t .before .before .pre .0),
-      c .before .before .fill-span .kept .0 ∙ now-at .inv .1,
-      ap (λ (n : ℕ). n / 2) (now-at .inv .2) ∙ rest-more (a .bits) (now-at .k),
-      omega arith,
-    )
+loop-again c = (search (needs, sixel-turns), search (needs, _∙_), search (needs, sixel-turns), search needs)
 
 loop-less-2 : tie.Need-loop-less-2 Inv-loop μ-loop
 loop-less-2 c = omega arith
 
 loop-again-2 : tie.Need-loop-again-2 Inv-loop μ-loop
-loop-again-2 c =
-    let t = c .before .before in
-    let a = t .before .before .args in
-    let now-at = t .loop in (
-      now-at .inv .0 ∙ sixel-skip (a .stride) (a .column) (a .row) (a .repeat) (a .bits) (now-at .rest) (now-at .k) (a .px) (now (a .canvas)) (now-at .inv .2) (c .if1 .left),
-      now-at .inv .1,
-      ap (λ (n : ℕ). n / 2) (now-at .inv .2) ∙ rest-more (a .bits) (now-at .k),
-      omega arith,
-    )
+loop-again-2 c = (search (needs, sixel-turns), search needs, search (needs, sixel-turns), search needs)
 
 same-length : tie.Need-same-length Inv-loop μ-loop
-same-length c = c .before .loop .inv .1
+same-length c = search needs
 
 returns : tie.Need-returns Inv-loop μ-loop
-unfolding sixelPainted inSixel firstRows
-returns c =
-    let a = c .before .before .before .args in
-    let now-at = c .before .loop in
-    let done : now-at .k ≡ 6 = omega arith in
-    now-at .inv .0 ∙ ap (λ (n : ℕ). painted (grid (a .stride) (firstRows n (a .column) (a .row) (a .repeat) (a .bits))) (a .px) (now (a .canvas))) done
+returns c = search (needs, sixel-turns)
 
 pub paint-sixel-spec : {M : Type 1} → statement M
 paint-sixel-spec =

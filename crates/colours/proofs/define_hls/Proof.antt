@@ -1,6 +1,5 @@
--- `colours::define_hls` meets its contract, by those of the functions that it calls.
+-- `colours::define_hls` meets its contract: storing what the three bytes of HLS pack to is setting by it (`sets-hls`).
 -- Assumes nothing.
-use mathlib.Core.Path.{_∙_}
 use Rattle.colours.proofs.Laws.{sets-hls}
 use borrow.Author.Needs.{needs}
 use Rattle.colours.proofs.define_hls.Statement.{statement}
@@ -25,10 +24,7 @@ store-requires : tie.Need-store-requires
 store-requires c κs = search needs
 
 returns : tie.Need-returns
-returns c =
-    let start : tie.Start = c .before .before .before .before in
-    c .store .ensures
-    ∙ sets-hls _ _ _ _ _ _ _ (start .fits .h) (start .fits .l) (start .fits .s) (c .before .before .before .hls-to-rgb .ensures .0) (c .before .pack-rgb .ensures)
+returns c = search (needs, sets-hls)
 
 pub define-hls-spec : {M : Type 1} → statement M
 define-hls-spec =

@@ -1,6 +1,5 @@
--- `colours::define_rgb` meets its contract, by those of the functions that it calls.
+-- `colours::define_rgb` meets its contract: storing what the three percents pack to is setting by them (`sets-rgb`).
 -- Assumes nothing.
-use mathlib.Core.Path.{_∙_}
 use Rattle.colours.proofs.Laws.{sets-rgb}
 use borrow.Author.Needs.{needs}
 use Rattle.colours.proofs.define_rgb.Statement.{statement}
@@ -22,15 +21,7 @@ store-requires : tie.Need-store-requires
 store-requires c κs = search needs
 
 returns : tie.Need-returns
-returns c =
-    let third : tie.After-percent-to-byte3 = c .before .before .before in
-    let start : tie.Start = third .before .before .before in
-    c .store .ensures
-    ∙ sets-rgb _ _ _ _ _ _ _ _ _ (start .fits .r) (start .fits .g) (start .fits .b)
-    (third .before .before .percent-to-byte .ensures)
-    (third .before .percent-to-byte2 .ensures)
-    (third .percent-to-byte3 .ensures)
-    (c .before .pack-rgb .ensures)
+returns c = search (needs, sets-rgb)
 
 pub define-rgb-spec : {M : Type 1} → statement M
 define-rgb-spec =

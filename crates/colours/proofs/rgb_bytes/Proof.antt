@@ -20,7 +20,8 @@ pixel-requires c κs = search needs
 returns : tie.Need-returns
 unfolding ofTable registerOf
 returns c =
-    let within : min (c .before .before .before .args .index) 255 ≡ c .before .before .before .args .index = omega arith in
+    let a = c .before .before .before .args in
+    let within : min (a .index) 255 ≡ a .index = omega arith in
     rw within (c .pixel .ensures)
 
 element-copy-out-pixel-2 : tie.Need-element-copy-out-pixel-2
@@ -32,7 +33,8 @@ pixel-requires-2 c κs = search needs
 returns-2 : tie.Need-returns-2
 unfolding ofTable registerOf
 returns-2 c =
-    let held : min (c .before .before .before .args .index) 255 ≡ 255 = omega arith in
+    let a = c .before .before .before .args in
+    let held : min (a .index) 255 ≡ 255 = omega arith in
     rw held (c .pixel2 .ensures)
 
 pub rgb-bytes-spec : {M : Type 1} → statement M

@@ -1,3 +1,4 @@
+-- `dcs::close` meets its contract: no byte is left, or one path for each byte that can end a payload, each by its law of an end.
 use Rattle.dcs.proofs.SessionLaws.{endings-laws}
 use borrow.Author.Needs.{needs}
 use Rattle.dcs.proofs.close.Statement.{statement}

@@ -1,3 +1,4 @@
+-- `dcs::end` meets its contract, which says the record that it returns.
 use Rattle.dcs.proofs.SessionLaws.{endings-laws}
 use borrow.Author.Needs.{needs}
 use Rattle.dcs.proofs.end.Statement.{statement}

@@ -1,3 +1,4 @@
+-- `dcs::escape` meets its contract: no byte is left, a `\` completes the sequence, or any other byte interrupts it.
 use Rattle.dcs.proofs.SessionLaws.{endings-laws}
 use borrow.Author.Needs.{needs}
 use Rattle.dcs.proofs.escape.Statement.{statement}

@@ -1,3 +1,4 @@
+-- `dcs::feed` meets its contract: the call is refused at once (9, 12 and 13), or is what `feed_in` makes of the session's phase.
 use Rattle.dcs.proofs.SessionLaws.{feedings}
 use borrow.Author.Needs.{needs}
 use Rattle.dcs.proofs.feed.Statement.{statement}

@@ -1,3 +1,4 @@
+-- `dcs::feed_in` meets its contract: one path for each phase, by what its callees say and the law of that phase.
 use Rattle.dcs.proofs.SessionLaws.{feedings}
 use borrow.Author.Needs.{needs}
 use Rattle.dcs.proofs.feed_in.Statement.{statement}

@@ -1,3 +1,5 @@
+-- `dcs::feed_lead` meets its contract: the header goes on, begins the payload or is refused, and there is a law for each. That
+-- the header consumes no more bytes than there are is what the payload's call asks.
 use Rattle.dcs.proofs.SessionLaws.{leads}
 use borrow.Author.Needs.{needs}
 use Rattle.dcs.proofs.feed_lead.Statement.{statement}
@@ -18,8 +20,8 @@ enum-told-2 c = search needs
 settings-from-requires : tie.Need-settings-from-requires
 settings-from-requires c κs = search needs
 
-begin-requires : tie.Need-begin-requires
-begin-requires c κs = search needs
+start-requires : tie.Need-start-requires
+start-requires c κs = search needs
 
 feed-payload-requires : tie.Need-feed-payload-requires
 feed-payload-requires c κs = search (needs, leads)
@@ -54,7 +56,7 @@ feed-lead-spec =
     tell-requires
     enum-told-2
     settings-from-requires
-    begin-requires
+    start-requires
     feed-payload-requires
     enum-known-led
     fail-requires

@@ -1,3 +1,5 @@
+-- `dcs::feed_payload` meets its contract: the payload session is fed the bytes from `from` on, and its answer is passed on. That it
+-- counts no more bytes than it was fed is what `pass_on` asks.
 use Rattle.dcs.proofs.SessionLaws.{payloads}
 use borrow.Author.Needs.{needs}
 use Rattle.dcs.proofs.feed_payload.Statement.{statement}

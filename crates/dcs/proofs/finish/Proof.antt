@@ -1,3 +1,4 @@
+-- `dcs::finish` meets its contract: refused by 9 or 12, then by 8, or what the payload session's finish says.
 use Rattle.dcs.proofs.SessionLaws.{finishings}
 use borrow.Author.Needs.{needs}
 use Rattle.dcs.proofs.finish.Statement.{statement}
@@ -6,11 +7,11 @@ use Rattle.dcs.proofs.finish.Tie as tie
 finish-refusal-requires : tie.Need-finish-refusal-requires
 finish-refusal-requires c κs = search needs
 
-judge-end-requires : tie.Need-judge-end-requires
-judge-end-requires c κs = search needs
+end-refusal-requires : tie.Need-end-refusal-requires
+end-refusal-requires c κs = search needs
 
-enum-known-judged : tie.Need-enum-known-judged
-enum-known-judged c = search needs
+enum-known-verdict : tie.Need-enum-known-verdict
+enum-known-verdict c = search needs
 
 returns : tie.Need-returns
 returns c = search (needs, finishings)
@@ -32,8 +33,8 @@ finish-spec =
     tie.close
     (tie.spec
     finish-refusal-requires
-    judge-end-requires
-    enum-known-judged
+    end-refusal-requires
+    enum-known-verdict
     returns
     enum-told
     finish-requires

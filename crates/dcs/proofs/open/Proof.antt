@@ -1,3 +1,4 @@
+-- `dcs::open` meets its contract: the payload session is reserved, and the phase is before the introducer.
 use Rattle.dcs.proofs.SessionLaws.{openings-laws}
 use borrow.Author.Needs.{needs}
 use Rattle.dcs.proofs.open.Statement.{statement}

@@ -1,3 +1,4 @@
+-- `dcs::pass_on` meets its contract: one path for each answer of the payload session. What it asks of its caller keeps the sums in range.
 use native.Mathlib.Omega.{arith}
 use Rattle.dcs.proofs.SessionLaws.{count-more, count-stopped, count-ended, payloads}
 use Rattle.dcs.specs.Session.{passedTold}
@@ -8,20 +9,20 @@ use Rattle.dcs.proofs.pass_on.Tie as tie
 enum-known-answer : tie.Need-enum-known-answer
 enum-known-answer c = search needs
 
-add-t12 : tie.Need-add-t12
-add-t12 c = omega (arith, count-more (c .before .answer .given .1))
+add-more : tie.Need-add-t12
+add-more c = omega (arith, count-more (c .before .answer .given .1))
 
 enum-known-answer-2 : tie.Need-enum-known-answer-2
 enum-known-answer-2 c = search needs
 
-add-t15 : tie.Need-add-t15
-add-t15 c = omega (arith, count-stopped (c .before .answer2 .given .1))
+add-stopped : tie.Need-add-t15
+add-stopped c = omega (arith, count-stopped (c .before .answer2 .given .1))
 
 enum-known-answer-3 : tie.Need-enum-known-answer-3
 enum-known-answer-3 c = search needs
 
-add-close : tie.Need-add-close
-add-close c = omega (arith, count-ended (c .before .answer3 .given .1))
+add-ended : tie.Need-add-close
+add-ended c = omega (arith, count-ended (c .before .answer3 .given .1))
 
 close-requires : tie.Need-close-requires
 close-requires c κs = search needs
@@ -50,11 +51,11 @@ pass-on-spec =
     tie.close
     (tie.spec
     enum-known-answer
-    add-t12
+    add-more
     enum-known-answer-2
-    add-t15
+    add-stopped
     enum-known-answer-3
-    add-close
+    add-ended
     close-requires
     enum-known-answer-4
     returns

@@ -1,3 +1,4 @@
+-- `dcs::tell` meets its contract: the answer with the session in the phase that was told.
 use Rattle.dcs.proofs.SessionLaws.{told-as}
 use borrow.Author.Needs.{needs}
 use Rattle.dcs.proofs.tell.Statement.{statement}

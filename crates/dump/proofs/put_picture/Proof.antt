@@ -9,7 +9,10 @@ has-picture-requires : tie.Need-has-picture-requires
 has-picture-requires c κs = search needs
 
 put-rows-requires : tie.Need-put-rows-requires
-put-rows-requires c κs = picture-fits (now (c .before .before .before .before .before .args .canvas)) _ _ _ _ (c .before .before .has-picture .ensures) (c .before .if1 .taken)
+put-rows-requires c κs =
+    let there = c .before in
+    let asked = there .before in
+    picture-fits (now (asked .before .before .before .args .canvas)) _ _ _ _ (asked .has-picture .ensures) (there .if1 .taken)
 
 same-length : tie.Need-same-length
 same-length c = search needs

@@ -23,12 +23,16 @@ Inv-loop out₀ at canvas stride width height place₀ y₀ out place y =
 abbrev μ-loop : tie.MeasureT-loop
 μ-loop out₀ at canvas stride width height place₀ y₀ out place y = height - y
 
+-- a turn's loop, back to the function's start
+abbrev start-of : tie.At-loop Inv-loop μ-loop → tie.Start Inv-loop μ-loop
+start-of loop = loop .before .before .before
+
 -- the row that a turn writes lies on the canvas
 room : (c : tie.In-loop Inv-loop μ-loop)
-    → 4 * (c .before .loop .y * c .before .before .before .before .args .stride + c .before .before .before .before .args .width)
-    ≤ length (now (c .before .before .before .before .args .canvas))
+    → 4 * (c .before .loop .y * start-of (c .before) .args .stride + start-of (c .before) .args .width)
+    ≤ length (now (start-of (c .before) .args .canvas))
 room c =
-    let start = c .before .before .before .before in
+    let start = start-of (c .before) in
     rectangle-room _ _ _ (start .args .height) (c .before .loop .y) (start .pre .1) (start .pre .2) (c .loop-test .taken)
 
 loop-holds : tie.Need-loop-holds Inv-loop μ-loop
@@ -48,10 +52,10 @@ loop-less c = omega arith
 
 loop-again : tie.Need-loop-again Inv-loop μ-loop
 loop-again c =
-    let now-at = c .before .before .before .before .before .loop in
-    let wrote = c .before .before .put-row in (
-      row-more _ _ _ _ (now-at .y) _ _ _ (omega arith) (wrote .ensures) (now-at .inv .0),
-      wrote .kept .0 ∙ now-at .inv .1,
+    let wrote = c .before .before in
+    let now-at = wrote .before .before .before .loop in (
+      row-more _ _ _ _ (now-at .y) _ _ _ (omega arith) (wrote .put-row .ensures) (now-at .inv .0),
+      wrote .put-row .kept .0 ∙ now-at .inv .1,
       omega arith,
     )
 

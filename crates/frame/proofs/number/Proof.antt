@@ -1,3 +1,4 @@
+-- `number` meets its contract: each refusal's own number, one path a case, by the laws of NumberLaws.
 use Rattle.frame.proofs.NumberLaws.{numbering}
 use Rattle.frame.specs.Numbers.{numberOf}
 use borrow.Author.Needs.{needs}

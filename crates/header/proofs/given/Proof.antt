@@ -1,3 +1,4 @@
+-- `header::given` meets its contract: the header has not so many values, or the value is held at 65,535.
 use borrow.Author.Needs.{needs}
 use Rattle.header.proofs.SettingsLaws.{settings}
 use Rattle.header.proofs.given.Statement.{statement}

@@ -1,3 +1,4 @@
+-- `header::header_byte` meets its contract: one path for each kind of byte, each by its law, which has the tests before it as premises.
 use borrow.Author.Needs.{needs}
 use Rattle.header.proofs.LeadLaws.{headers}
 use Rattle.header.proofs.header_byte.Statement.{statement}

@@ -1,3 +1,4 @@
+-- `header::introduced_byte` meets its contract: `P` leads to the header, and any other byte is refused.
 use borrow.Author.Needs.{needs}
 use Rattle.header.proofs.LeadLaws.{introducers}
 use Rattle.header.proofs.introduced_byte.Statement.{statement}

@@ -1,3 +1,4 @@
+-- `header::lead_byte` meets its contract: at each of the three places the byte does what that place's function says.
 use borrow.Author.Needs.{needs}
 use Rattle.header.proofs.LeadLaws.{leading}
 use Rattle.header.proofs.lead_byte.Statement.{statement}

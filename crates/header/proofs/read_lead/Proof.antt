@@ -1,3 +1,5 @@
+-- `header::read_lead` meets its contract. The loop's invariant: from the place and the values that it has come to, the bytes that are
+-- left lead to where all bytes lead; and it ends since fewer are left each time.
 use Prim.Native.Nat.{_-_}
 use borrow.Author.Needs.{needs}
 use lib.ListN.{length, drop}

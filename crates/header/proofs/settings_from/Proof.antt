@@ -1,3 +1,4 @@
+-- `header::settings_from` meets its contract: P1 and P2 are the first two values of the header that `q` closed.
 use borrow.Author.Needs.{needs}
 use Rattle.header.proofs.SettingsLaws.{settings}
 use Rattle.header.proofs.settings_from.Statement.{statement}

@@ -1,3 +1,4 @@
+-- `header::start_byte` meets its contract: 1B, 90, and any other byte, which is refused.
 use borrow.Author.Needs.{needs}
 use Rattle.header.proofs.LeadLaws.{introducers}
 use Rattle.header.proofs.start_byte.Statement.{statement}

@@ -19,16 +19,20 @@ returns-2 c =
     let s = c .before .before in
     clamp-high (s .args .v) (toZ-ofZ w32 (s .args .v) (s .fits .v)) (c .if2 .taken)
 
-within : (c : tie.Else2) → c .before .before .args .v ≡ pos (held (c .before .before .args .v))
+abbrev Entry : tie.Else2 → tie.Start
+Entry c = c .before .before
+
+-- past both tests the number is its own percent
+within : (c : tie.Else2) → Entry c .args .v ≡ pos (held (Entry c .args .v))
 within c =
-    let s = c .before .before in
+    let s = Entry c in
     clamp-within (s .args .v) (toZ-ofZ w32 (s .args .v) (s .fits .v)) (c .before .if1 .left) (c .if2 .left)
 
 cast-result : tie.Need-cast-result
-cast-result c = cast-fits (within c) (omega (arith, held-le (c .before .before .args .v)))
+cast-result c = cast-fits (within c) (omega (arith, held-le (Entry c .args .v)))
 
 returns-3 : tie.Need-returns-3
-returns-3 c = cast-is (within c) (omega (arith, held-le (c .before .before .args .v)))
+returns-3 c = cast-is (within c) (omega (arith, held-le (Entry c .args .v)))
 
 pub clamp-percent-spec : {M : Type 1} → statement M
 clamp-percent-spec = tie.close (tie.spec returns returns-2 cast-result returns-3)

@@ -6,6 +6,7 @@ use Rattle.hls.proofs.Steps.{byte-none, byte-full, byte-between, Betwee
 use Rattle.hls.proofs.floor_to_byte.Statement.{statement}
 use Rattle.hls.proofs.floor_to_byte.Tie as tie
 
+-- between the two tests the number may be cast
 inside : (c : tie.Then2) → Between (c .before .before .args .w)
 unfolding ofBits
 inside c = byte-between (c .before .before .args .w) (c .before .if1 .taken) (c .if2 .taken)

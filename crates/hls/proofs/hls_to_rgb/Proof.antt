@@ -70,17 +70,20 @@ floor-to-byte-requires-3 c κs = search needs
 returns-2 : tie.Need-returns-2
 unfolding ofBits over channelByte
 returns-2 c =
-    let u = c .before .before .before .before .before .before in
-    let k = u .before .before in
-    let m = k .before .before .before .before in
+    let third = c .before .before .before in
+    let first = third .before .before in
+    let u = first .before in
+    let saturated = u .before .before in
+    let lit = saturated .before .before in
+    let m = lit .before .before in
     let a = m .before .before in
     beside-too (a .args .h) (a .args .l) (a .args .s)
     (colour-is (a .args .h) (a .args .l) (a .args .s) (toZ-ofZ w32 (a .args .s) (a .fits .s)) (m .before .if1 .left)
     (m .rem-euclid-360 .ensures ∙ ap modulo360 (toZ-ofZ w32 (a .args .h) (a .fits .h)))
-    (k .before .before .clamp-percent .ensures ∙ ap held (toZ-ofZ w32 (a .args .l) (a .fits .l)))
-    (k .clamp-percent2 .ensures ∙ ap held (toZ-ofZ w32 (a .args .s) (a .fits .s)))
+    (lit .clamp-percent .ensures ∙ ap held (toZ-ofZ w32 (a .args .l) (a .fits .l)))
+    (saturated .clamp-percent2 .ensures ∙ ap held (toZ-ofZ w32 (a .args .s) (a .fits .s)))
     (u .upper-end .ensures)
-    (c .before .before .before .before .before .hue-to-rgb .ensures) (c .before .before .before .before .hue-to-rgb2 .ensures) (c .before .before .before .hue-to-rgb3 .ensures)
+    (first .hue-to-rgb .ensures) (third .before .hue-to-rgb2 .ensures) (third .hue-to-rgb3 .ensures)
     (c .before .before .floor-to-byte .ensures) (c .before .floor-to-byte2 .ensures) (c .floor-to-byte3 .ensures))
 
 pub hls-to-rgb-spec : {M : Type 1} → statement M

@@ -12,6 +12,7 @@ use Rattle.hls.proofs.percent_to_byte.Tie as tie
 clamp-percent-requires : tie.Need-clamp-percent-requires
 clamp-percent-requires c κs = search needs
 
+-- what the callee gives is the percent held
 clamped : (c : tie.After-clamp-percent) → c .clamp-percent .result ≡ held (c .before .args .value)
 clamped c = c .clamp-percent .ensures ∙ ap held (toZ-ofZ w32 (c .before .args .value) (c .before .fits .value))
 

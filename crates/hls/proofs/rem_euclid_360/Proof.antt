@@ -14,7 +14,9 @@ use Rattle.hls.proofs.rem_euclid_360.Tie as tie
 rem-rest : tie.Need-rem-rest
 rem-rest c = (lit< tt, quot-fits (c .args .h) (toZ-ofZ w32 (c .args .h) (c .fits .h)) (c .fits .h))
 
-mended : (c : tie.Then1) → toZ w32 (ofZ w32 (remZ (toZ w32 (ofZ w32 (c .before .args .h))) (pos 360))) +ℤ pos 360 ≡ pos (modulo360 (c .before .args .h))
+-- a remainder below 0, brought up by 360
+mended : (c : tie.Then1)
+    → toZ w32 (ofZ w32 (remZ (toZ w32 (ofZ w32 (c .before .args .h))) (pos 360))) +ℤ pos 360 ≡ pos (modulo360 (c .before .args .h))
 mended c = rest-below (c .before .args .h) (rest-is (c .before .args .h) (c .before .fits .h)) (c .if1 .taken)
 
 add-result : tie.Need-add-result
@@ -26,6 +28,7 @@ cast-result c = cast-fits (mended c) (modulo-lt (c .before .args .h))
 returns : tie.Need-returns
 returns c = cast-is (mended c) (modulo-lt (c .before .args .h))
 
+-- any other stays as it is
 kept : (c : tie.Else1) → remZ (toZ w32 (ofZ w32 (c .before .args .h))) (pos 360) ≡ pos (modulo360 (c .before .args .h))
 kept c =
     let h = c .before .args .h in

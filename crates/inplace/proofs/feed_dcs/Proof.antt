@@ -1,4 +1,4 @@
--- A feed over a lent session, at the DCS session.
+-- `inplace::feed_dcs` meets its contract: the walk of Lent, at the DCS session, over what `dcs::feed` is proved to do.
 use base.Logic.{id⊢}
 use contract.Running.{givenOf, tables, tablesOf}
 use denote.Triple.Spec.{tripleOf}

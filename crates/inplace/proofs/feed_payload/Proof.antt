@@ -1,4 +1,4 @@
--- A feed over a lent session, at the payload session.
+-- `inplace::feed_payload` meets its contract: the walk of Lent, at the payload session, over what `payload::feed` is proved to do.
 use base.Logic.{id⊢}
 use contract.Running.{givenOf, tables, tablesOf}
 use denote.Triple.Spec.{tripleOf}

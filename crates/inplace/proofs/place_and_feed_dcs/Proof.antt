@@ -1,4 +1,4 @@
--- The function with plain parameters, at the DCS session.
+-- `inplace::place_and_feed_dcs` meets its contract: the walk of Placed, at the DCS session, over what `feed_dcs` is proved to do.
 use base.Logic.{id⊢}
 use contract.Running.{givenOf, tables, tablesOf}
 use denote.Triple.Spec.{tripleOf}

@@ -1,4 +1,4 @@
--- The function with plain parameters, at the payload session.
+-- `inplace::place_and_feed_payload` meets its contract: the walk of Placed, at the payload session, over what `feed_payload` is proved to do.
 use base.Logic.{id⊢}
 use contract.Running.{givenOf, tables, tablesOf}
 use denote.Triple.Spec.{tripleOf}

@@ -1,3 +1,5 @@
+-- `numbers::ends_payload` meets its contract, path by path. A path that leaves early has not made the later tests of the definition:
+-- what they say there is given by arithmetic. Assumes nothing.
 use Prim.Native.Nat.{ℕ, _≤_, _<_}
 use native.Mathlib.Omega.{arith}
 use borrow.Author.Needs.{needs}

@@ -1,3 +1,4 @@
+-- `numbers::is_sixel` meets its contract: the two tests of the code are those of the definition. Assumes nothing.
 use borrow.Author.Needs.{needs}
 use Rattle.numbers.specs.Bytes.{sixel}
 use Rattle.numbers.proofs.Laws.{tests}

@@ -1,3 +1,5 @@
+-- `numbers::more_repeat` meets its contract: one law of `Laws` for a byte that is no digit, a digit more, and a number that saturates.
+-- Assumes nothing.
 use Prim.Native.Nat.{_<_}
 use native.Mathlib.Omega.{arith}
 use Rattle.numbers.proofs.Laws.{steps}

@@ -1,3 +1,4 @@
+-- `payload_part` meets its contract: the part that was found, or an empty one, by a law of `parts` for each path.
 use Rattle.oneshot.proofs.PartLaws.{parts}
 use borrow.Author.Needs.{needs}
 use Rattle.oneshot.proofs.payload_part.Statement.{statement}

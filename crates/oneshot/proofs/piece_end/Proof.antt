@@ -1,3 +1,4 @@
+-- `piece_end` meets its contract: one law of `pieces` for each of its three ways to end a piece.
 use Rattle.oneshot.proofs.FeedLaws.{pieces}
 use borrow.Author.Needs.{needs}
 use Rattle.oneshot.proofs.piece_end.Statement.{statement}

@@ -1,3 +1,4 @@
+-- `read` meets its contract: a law of `wholes` for a payload that was found, for a refused header and for an opening that is refused.
 use Rattle.oneshot.proofs.WholeLaws.{wholes}
 use borrow.Author.Needs.{needs}
 use Rattle.oneshot.proofs.read.Statement.{statement}

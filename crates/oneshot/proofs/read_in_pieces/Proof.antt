@@ -1,18 +1,76 @@
+-- `read_in_pieces` meets its contract: its loop stays `Midway`, what is left of the part grows shorter with each turn, and the laws of
+-- ReadLaws say of a `Turn` what each answer of its feed leads to.
 use borrow.Author.Needs.{needs}
-use Prim.Native.Nat.{_+_, _-_, _≤_}
+use Prim.Native.Nat.{ℕ, _-_, _≤_}
 use native.Mathlib.Omega.{arith}
 use denote.Ref.{now}
+use mir.Syntax.{w64}
+use mir.Val.{Fits}
 use lib.ListN.{length}
-use Rattle.oneshot.proofs.FeedLaws.{Midway, piece-end}
-use Rattle.oneshot.proofs.ReadLaws.{part-read, parts-read}
+use Rattle.oneshot.proofs.FeedLaws.{Midway, Piece, piece-end}
+use Rattle.oneshot.proofs.ReadLaws.{Turn, stop-in, read-in, part-read, parts-read}
 use Rattle.oneshot.proofs.read_in_pieces.Statement.{statement}
 use Rattle.oneshot.proofs.read_in_pieces.Tie as tie
 
 abbrev Inv-loop : tie.InvT-loop
-Inv-loop stride palette canvas₀ part chunk allowance session₀ at₀ canvas session at = Midway allowance session₀ canvas₀ part canvas session at
+Inv-loop stride palette canvas₀ part chunk allowance session₀ at₀ canvas session at =
+    Midway allowance session₀ canvas₀ part canvas session at
 
 abbrev μ-loop : tie.MeasureT-loop
 μ-loop stride palette canvas₀ part chunk allowance session₀ at₀ canvas session at = length part - at
+
+-- the steps that lead to a turn of the loop
+abbrev opening-of : tie.At-loop Inv-loop μ-loop → tie.After-open Inv-loop μ-loop
+opening-of loop =
+    let lent = loop .before .before in
+    lent .before .before
+
+abbrev start-of : tie.At-loop Inv-loop μ-loop → tie.Start Inv-loop μ-loop
+start-of loop =
+    let lent = opening-of loop .before .before in
+    lent .before .before
+
+-- the piece that a turn feeds
+piece-of : (c : tie.After-piece-end Inv-loop μ-loop)
+    → Piece (c .before .loop .at) (c .piece-end .result) (length (now (start-of (c .before) .args .part)))
+piece-of c = piece-end (start-of (c .before) .args .chunk) (c .before .loop .inv .within) (c .piece-end .ensures)
+
+-- a turn of the loop, once its piece is fed
+module _ (c : tie.After-session2 Inv-loop μ-loop) where
+  abbrev fed : tie.After-feed Inv-loop μ-loop
+  fed = c .before .before .before
+
+  abbrev cut : tie.After-piece-end Inv-loop μ-loop
+  cut = fed .before .before .before
+
+  abbrev here : tie.At-loop Inv-loop μ-loop
+  here = cut .before
+
+  abbrev start : tie.Start Inv-loop μ-loop
+  start = start-of here
+
+  abbrev opened : tie.After-open Inv-loop μ-loop
+  opened = opening-of here
+
+  turn : Turn (start .args .limits) (start .args .stride) (start .args .settings) (start .args .palette)
+      (now (start .args .canvas)) (now (start .args .part)) (start .args .allowance)
+      (opened .«open» .result) (opened .«open» .last .1 .1 .1 .1 .0)
+      (here .loop .session) (here .loop .canvas) (here .loop .at) (fed .feed .result) (fed .feed .last .1 .0)
+  turn =
+      record {
+        opens = start .pre .0;
+        opened = opened .«open» .ensures;
+        enough = start .pre .1;
+        midway = here .loop .inv;
+        chunk = start .args .chunk;
+        end = cut .piece-end .result;
+        ends = cut .piece-end .ensures;
+        fed = fed .feed .ensures;
+      }
+
+  -- no place in the part is above what a `usize` holds
+  place-fits : {n : ℕ} → n ≤ length (now (start .args .part)) → Fits w64 n
+  place-fits h = omega (arith, h, start .good .1 .1 .1 .1 .1 .0 .0)
 
 open-requires : tie.Need-open-requires Inv-loop μ-loop
 open-requires c κs = search (needs, parts-read)
@@ -24,57 +82,44 @@ piece-end-requires : tie.Need-piece-end-requires Inv-loop μ-loop
 piece-end-requires c κs = search (needs, parts-read)
 
 sub-feed : tie.Need-sub-feed Inv-loop μ-loop
-sub-feed c =
-    let start = c .before .before .before .before .before .before .before .before .before .before in
-    let g = piece-end (start .args .chunk) (c .before .before .loop .inv .within) (c .before .piece-end .ensures) in
-    omega (arith, g .from)
+sub-feed c = piece-of (c .before) .from
 
 part-feed-start : tie.Need-part-feed-start Inv-loop μ-loop
-part-feed-start c =
-    let start = c .before .before .before .before .before .before .before .before .before .before in
-    let g = piece-end (start .args .chunk) (c .before .before .loop .inv .within) (c .before .piece-end .ensures) in
-    search (needs, g .from)
+part-feed-start c = search (needs, piece-of (c .before) .from)
 
 part-feed-end : tie.Need-part-feed-end Inv-loop μ-loop
-part-feed-end c =
-    let start = c .before .before .before .before .before .before .before .before .before .before in
-    let g = piece-end (start .args .chunk) (c .before .before .loop .inv .within) (c .before .piece-end .ensures) in
-    search (needs, g .to)
+part-feed-end c = search (needs, piece-of (c .before) .to)
 
 feed-requires : tie.Need-feed-requires Inv-loop μ-loop
 feed-requires c κs = search (needs, parts-read)
+
+-- a stop
 
 enum-known-answer : tie.Need-enum-known-answer Inv-loop μ-loop
 enum-known-answer c = search (needs, parts-read)
 
 add-at : tie.Need-add-at Inv-loop μ-loop
 add-at c =
-    let here = c .before .before .before in
-    let start = here .before .before .before .before .before .before .before .before .before .before .before .before .before .before .before in
-    let within : here .before .before .before .before .before .before .before .loop .at + c .before .answer .given .0 .0 ≤ length (now (start .args .part)) = search (parts-read, start .pre .0, start .pre .1, here .before .before .before .before .before .before .before .before .before .before .before .«open» .ensures, here .before .before .before .before .before .before .before .loop .inv, here .before .before .before .before .before .before .piece-end .ensures, here .before .before .before .feed .ensures) in
-    omega (arith, within, start .good .1 .1 .1 .1 .1 .0 .0)
+    let stopped = c .before in
+    let k = stopped .before .before in
+    place-fits k (stop-in (turn k) (stopped .answer .given .1))
 
 loop-less : tie.Need-loop-less Inv-loop μ-loop
-loop-less c =
-    let here = c .before .before .before in
-    let start = here .before .before .before .before .before .before .before .before .before .before .before .before .before .before .before in
-    search (needs, parts-read, start .pre .0, start .pre .1, here .before .before .before .before .before .before .before .before .before .before .before .«open» .ensures, here .before .before .before .before .before .before .before .loop .inv, here .before .before .before .before .before .before .piece-end .ensures, here .before .before .before .feed .ensures)
+loop-less c = search (needs, parts-read, turn (c .before .before .before))
 
 loop-again : tie.Need-loop-again Inv-loop μ-loop
-loop-again c =
-    let here = c .before .before .before in
-    let start = here .before .before .before .before .before .before .before .before .before .before .before .before .before .before .before in
-    search (needs, parts-read, start .pre .0, start .pre .1, here .before .before .before .before .before .before .before .before .before .before .before .«open» .ensures, here .before .before .before .before .before .before .before .loop .inv, here .before .before .before .before .before .before .piece-end .ensures, here .before .before .before .feed .ensures)
+loop-again c = search (needs, parts-read, turn (c .before .before .before))
+
+-- a piece that was all read
 
 enum-known-answer-2 : tie.Need-enum-known-answer-2 Inv-loop μ-loop
 enum-known-answer-2 c = search (needs, parts-read)
 
 add-at-2 : tie.Need-add-at-2 Inv-loop μ-loop
 add-at-2 c =
-    let here = c .before .before .before in
-    let start = here .before .before .before .before .before .before .before .before .before .before .before .before .before .before .before in
-    let within : here .before .before .before .before .before .before .before .loop .at + c .before .answer2 .given .0 .0 ≤ length (now (start .args .part)) = search (parts-read, start .pre .0, start .pre .1, here .before .before .before .before .before .before .before .before .before .before .before .«open» .ensures, here .before .before .before .before .before .before .before .loop .inv, here .before .before .before .before .before .before .piece-end .ensures, here .before .before .before .feed .ensures) in
-    omega (arith, within, start .good .1 .1 .1 .1 .1 .0 .0)
+    let all-read = c .before in
+    let k = all-read .before .before in
+    place-fits k (read-in (turn k) (all-read .answer2 .given .1))
 
 finish-requires : tie.Need-finish-requires Inv-loop μ-loop
 finish-requires c κs = search (needs, parts-read)
@@ -84,22 +129,22 @@ same-length c = search (needs, parts-read)
 
 returns : tie.Need-returns Inv-loop μ-loop
 returns c =
-    let here = c .before .before .before .before .before .before .before .before in
-    let start = here .before .before .before .before .before .before .before .before .before .before .before .before .before .before .before in
-    let args = start .args in
-    part-read (args .limits) (args .stride) (args .settings) (args .palette) (now (args .canvas)) (start .pre .0) (here .before .before .before .before .before .before .before .before .before .before .before .«open» .ensures) (start .pre .1) (here .before .before .before .before .before .before .before .loop .inv) (args .chunk) (here .before .before .before .before .before .before .piece-end .ensures) (here .before .before .before .feed .ensures) (c .before .before .before .before .before .before .answer2 .given .1) (c .before .before .before .before .if1 .taken) (c .before .before .finish .ensures)
+    let finished = c .before .before in
+    let last = finished .before .before in
+    let all-read = last .before .before in
+    part-read (turn (all-read .before .before)) (all-read .answer2 .given .1) (last .if1 .taken) (finished .finish .ensures)
 
 loop-less-2 : tie.Need-loop-less-2 Inv-loop μ-loop
 loop-less-2 c =
-    let here = c .before .before .before .before in
-    let start = here .before .before .before .before .before .before .before .before .before .before .before .before .before .before .before in
-    search (needs, parts-read, start .pre .0, start .pre .1, here .before .before .before .before .before .before .before .before .before .before .before .«open» .ensures, here .before .before .before .before .before .before .before .loop .inv, here .before .before .before .before .before .before .piece-end .ensures, here .before .before .before .feed .ensures)
+    let all-read = c .before .before in
+    search (needs, parts-read, turn (all-read .before .before))
 
 loop-again-2 : tie.Need-loop-again-2 Inv-loop μ-loop
 loop-again-2 c =
-    let here = c .before .before .before .before in
-    let start = here .before .before .before .before .before .before .before .before .before .before .before .before .before .before .before in
-    search (needs, parts-read, start .pre .0, start .pre .1, here .before .before .before .before .before .before .before .before .before .before .before .«open» .ensures, here .before .before .before .before .before .before .before .loop .inv, here .before .before .before .before .before .before .piece-end .ensures, here .before .before .before .feed .ensures)
+    let all-read = c .before .before in
+    search (needs, parts-read, turn (all-read .before .before))
+
+-- an end
 
 enum-told : tie.Need-enum-told Inv-loop μ-loop
 enum-told c = search (needs, parts-read)
@@ -112,9 +157,10 @@ same-length-2 c = search (needs, parts-read)
 
 returns-2 : tie.Need-returns-2 Inv-loop μ-loop
 returns-2 c =
-    let here = c .before .before .before .before .before .before in
-    let start = here .before .before .before .before .before .before .before .before .before .before .before .before .before .before .before in
-    search (needs, parts-read, start .pre .0, start .pre .1, here .before .before .before .before .before .before .before .before .before .before .before .«open» .ensures, here .before .before .before .before .before .before .before .loop .inv, here .before .before .before .before .before .before .piece-end .ensures, here .before .before .before .feed .ensures)
+    let ended = c .before .before .before in
+    search (needs, parts-read, turn (ended .before .before .before))
+
+-- a refusal
 
 enum-known-answer-3 : tie.Need-enum-known-answer-3 Inv-loop μ-loop
 enum-known-answer-3 c = search (needs, parts-read)
@@ -127,9 +173,8 @@ same-length-3 c = search (needs, parts-read)
 
 returns-3 : tie.Need-returns-3 Inv-loop μ-loop
 returns-3 c =
-    let here = c .before .before .before .before in
-    let start = here .before .before .before .before .before .before .before .before .before .before .before .before .before .before .before in
-    search (needs, parts-read, start .pre .0, start .pre .1, here .before .before .before .before .before .before .before .before .before .before .before .«open» .ensures, here .before .before .before .before .before .before .before .loop .inv, here .before .before .before .before .before .before .piece-end .ensures, here .before .before .before .feed .ensures)
+    let refused = c .before .before in
+    search (needs, parts-read, turn (refused .before .before))
 
 pub read-in-pieces-spec : {M : Type 1} → statement M
 read-in-pieces-spec =

@@ -1,4 +1,6 @@
-use Rattle.owlgantry.proofs.ReportLaws.{copies}
+-- `owlgantry_raw_copy` meets its contract: the number of each answer of `copy_picture` (`copy-as`).
+use Rattle.canvas.specs.Copy.{numberOf}
+use Rattle.owlgantry.proofs.ReportLaws.{copy-as}
 use borrow.Author.Needs.{needs}
 use Rattle.owlgantry.proofs.owlgantry_raw_copy.Statement.{statement}
 use Rattle.owlgantry.proofs.owlgantry_raw_copy.Tie as tie
@@ -19,19 +21,22 @@ same-length : tie.Need-same-length
 same-length c = search needs
 
 returns : tie.Need-returns
-returns c = search (needs, copies)
+unfolding numberOf
+returns c = search (needs, copy-as)
 
 same-length-2 : tie.Need-same-length-2
 same-length-2 c = search needs
 
 returns-2 : tie.Need-returns-2
-returns-2 c = search (needs, copies)
+unfolding numberOf
+returns-2 c = search (needs, copy-as)
 
 same-length-3 : tie.Need-same-length-3
 same-length-3 c = search needs
 
 returns-3 : tie.Need-returns-3
-returns-3 c = search (needs, copies)
+unfolding numberOf
+returns-3 c = search (needs, copy-as)
 
 pub owlgantry-raw-copy-spec : {M : Type 1} → statement M
 owlgantry-raw-copy-spec =

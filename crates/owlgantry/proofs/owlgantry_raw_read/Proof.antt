@@ -1,3 +1,5 @@
+-- `owlgantry_raw_read` meets its contract: what `read` and `payload_part` promise, told as numbers (`read-out`); the part is no
+-- longer than the bytes, so that its place can be computed (`part-short`).
 use Rattle.owlgantry.proofs.ReportLaws.{readings}
 use borrow.Author.Needs.{needs}
 use Rattle.owlgantry.proofs.owlgantry_raw_read.Statement.{statement}

@@ -1,3 +1,4 @@
+-- `owlgantry_raw_standard_palette` meets its contract: the table that is written is the standard palette's.
 use Rattle.owlgantry.proofs.ReportLaws.{standard-table}
 use borrow.Author.Needs.{needs}
 use Rattle.owlgantry.proofs.owlgantry_raw_standard_palette.Statement.{statement}

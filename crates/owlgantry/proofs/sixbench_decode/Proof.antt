@@ -1,3 +1,5 @@
+-- `sixbench_decode` meets its contract: a reading in pieces of any length comes to the reading of the whole, under the house's limits
+-- and so of a size that one number holds (`benched`).
 use Rattle.owlgantry.proofs.BenchLaws.{benched}
 use borrow.Author.Needs.{needs}
 use Rattle.owlgantry.proofs.sixbench_decode.Statement.{statement}

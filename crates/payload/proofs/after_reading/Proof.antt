@@ -1,3 +1,4 @@
+-- `after_reading` meets its contract: ground, length and settings are the session's, the rest is given.
 use Rattle.payload.specs.Session.{sessionWith}
 use borrow.Author.Needs.{needs}
 use Rattle.payload.proofs.after_reading.Statement.{statement}

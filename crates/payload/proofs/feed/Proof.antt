@@ -1,3 +1,4 @@
+-- `feed` meets its contract: a refusal, an end that is repeated, or reading, which the judgement has shown to fit.
 use Rattle.payload.proofs.SessionLaws.{feedings}
 use borrow.Author.Needs.{needs}
 use Rattle.payload.proofs.feed.Statement.{statement}

@@ -1,3 +1,4 @@
+-- `feed_live` meets its contract: what the loop read, answered, with the palette that was lent as a table.
 use Rattle.payload.proofs.SessionLaws.{feedings}
 use borrow.Author.Needs.{needs}
 use Rattle.payload.proofs.feed_live.Statement.{statement}

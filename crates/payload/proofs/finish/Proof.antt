@@ -1,3 +1,4 @@
+-- `finish` meets its contract: a refusal, or a finish of what the judgement has shown to fit.
 use Rattle.payload.proofs.SessionLaws.{finishings}
 use borrow.Author.Needs.{needs}
 use Rattle.payload.proofs.finish.Statement.{statement}

@@ -1,4 +1,4 @@
-use Rattle.bytewise.proofs.StepLaws.{settle-room}
+-- `finish_live` meets its contract: the refusal of the pending command, or the report of the frame that ending it led to.
 use Rattle.payload.proofs.SessionLaws.{finishings}
 use borrow.Author.Needs.{needs}
 use Rattle.payload.proofs.finish_live.Statement.{statement}
@@ -7,8 +7,8 @@ use Rattle.payload.proofs.finish_live.Tie as tie
 table-requires : tie.Need-table-requires
 table-requires c κs = search needs
 
-end-command-requires : tie.Need-end-command-requires
-end-command-requires c κs = search needs
+end-pending-requires : tie.Need-end-pending-requires
+end-pending-requires c κs = search needs
 
 enum-known-outcome : tie.Need-enum-known-outcome
 enum-known-outcome c = search needs
@@ -16,14 +16,11 @@ enum-known-outcome c = search needs
 refuse-finish-requires : tie.Need-refuse-finish-requires
 refuse-finish-requires c κs = search needs
 
+same-length : tie.Need-same-length
+same-length c = search needs
+
 returns : tie.Need-returns
 returns c = search (needs, finishings)
-
-grow-requires : tie.Need-grow-requires
-grow-requires c κs =
-    let done = c .before .before .before .before .before .before in
-    let start = done .before .before .before .before .before .before .before .before in
-    settle-room (start .args .session .frame) (start .args .session .ground) _ _ (start .pre) (done .end-command .ensures)
 
 report-for-requires : tie.Need-report-for-requires
 report-for-requires c κs = search needs
@@ -31,8 +28,8 @@ report-for-requires c κs = search needs
 of-table-requires : tie.Need-of-table-requires
 of-table-requires c κs = search needs
 
-same-length : tie.Need-same-length
-same-length c = search needs
+same-length-2 : tie.Need-same-length-2
+same-length-2 c = search needs
 
 returns-2 : tie.Need-returns-2
 returns-2 c = search (needs, finishings)
@@ -42,12 +39,12 @@ finish-live-spec =
     tie.close
     (tie.spec
     table-requires
-    end-command-requires
+    end-pending-requires
     enum-known-outcome
     refuse-finish-requires
+    same-length
     returns
-    grow-requires
     report-for-requires
     of-table-requires
-    same-length
+    same-length-2
     returns-2)

@@ -1,3 +1,4 @@
+-- `is_transparent` meets its contract: one case for each kind of parameter.
 use Rattle.payload.proofs.SessionLaws.{openings-made}
 use Rattle.payload.specs.Session.{clearFor}
 use borrow.Author.Needs.{needs}

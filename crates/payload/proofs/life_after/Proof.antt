@@ -1,3 +1,4 @@
+-- `life_after` meets its contract: one case for each outcome.
 use Rattle.payload.proofs.SessionLaws.{life-as}
 use Rattle.payload.specs.Session.{lifeAfter}
 use borrow.Author.Needs.{needs}
@@ -10,14 +11,11 @@ enum-told c = search needs
 enum-told-2 : tie.Need-enum-told-2
 enum-told-2 c = search needs
 
-enum-told-3 : tie.Need-enum-told-3
-enum-told-3 c = search needs
-
 enum-known-outcome : tie.Need-enum-known-outcome
 enum-known-outcome c = search needs
 
-enum-told-4 : tie.Need-enum-told-4
-enum-told-4 c = search needs
+enum-told-3 : tie.Need-enum-told-3
+enum-told-3 c = search needs
 
 returns : tie.Need-returns
 unfolding lifeAfter
@@ -35,21 +33,15 @@ returns-4 : tie.Need-returns-4
 unfolding lifeAfter
 returns-4 c = search (needs, life-as)
 
-returns-5 : tie.Need-returns-5
-unfolding lifeAfter
-returns-5 c = search (needs, life-as)
-
 pub life-after-spec : {M : Type 1} → statement M
 life-after-spec =
     tie.close
     (tie.spec
     enum-told
     enum-told-2
-    enum-told-3
     enum-known-outcome
-    enum-told-4
+    enum-told-3
     returns
     returns-2
     returns-3
-    returns-4
-    returns-5)
+    returns-4)

@@ -1,3 +1,4 @@
+-- `new_session` meets its contract: background, rows and frame are its callees', put together by one law.
 use Rattle.payload.proofs.SessionLaws.{openings-made}
 use borrow.Author.Needs.{needs}
 use Rattle.payload.proofs.new_session.Statement.{statement}

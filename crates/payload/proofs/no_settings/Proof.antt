@@ -1,5 +1,6 @@
+-- `no_settings` meets its contract, which is its value.
 use mathlib.Core.Path.{refl}
-use Rattle.payload.specs.Begin.{noSettings}
+use Rattle.payload.specs.Deferred.{noSettings}
 use Rattle.payload.proofs.no_settings.Statement.{statement}
 use Rattle.payload.proofs.no_settings.Tie as tie
 

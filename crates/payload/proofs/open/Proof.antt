@@ -1,3 +1,4 @@
+-- `open` meets its contract: where the opening may be, the canvas has a pixel to paint.
 use Rattle.payload.proofs.SessionLaws.{openings-made}
 use borrow.Author.Needs.{needs}
 use Rattle.payload.proofs.open.Statement.{statement}

@@ -1,3 +1,4 @@
+-- `open_if` meets its contract: answer, life and session are its callees', put together by one law.
 use Rattle.payload.proofs.SessionLaws.{openings-made}
 use borrow.Author.Needs.{needs}
 use Rattle.payload.proofs.open_if.Statement.{statement}

@@ -1,3 +1,4 @@
+-- `paint_if` meets its contract: the pixel is painted, or nothing is written.
 use Rattle.payload.proofs.SessionLaws.{openings-made}
 use borrow.Author.Needs.{needs}
 use Rattle.payload.proofs.paint_if.Statement.{statement}

@@ -1,3 +1,4 @@
+-- `ratio_for` meets its contract: 0 stands for no ratio.
 use Rattle.payload.proofs.SessionLaws.{finishings}
 use borrow.Author.Needs.{needs}
 use Rattle.payload.proofs.ratio_for.Statement.{statement}

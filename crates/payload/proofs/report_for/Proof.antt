@@ -1,3 +1,4 @@
+-- `report_for` meets its contract: ratio and transparency are its callees', the rest are the frame's numbers.
 use Rattle.payload.proofs.SessionLaws.{finishings}
 use borrow.Author.Needs.{needs}
 use Rattle.payload.proofs.report_for.Statement.{statement}

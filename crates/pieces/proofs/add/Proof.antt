@@ -1,3 +1,4 @@
+-- `add` meets its contract: a sum, or the largest number; the needs are found by search.
 use borrow.Author.Needs.{needs}
 use Rattle.pieces.specs.Pieces.{heldSum}
 use Rattle.pieces.proofs.add.Statement.{statement}

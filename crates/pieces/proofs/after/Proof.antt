@@ -1,3 +1,4 @@
+-- `after` meets its contract: the reader with its counts added up (`after-as`).
 use borrow.Author.Needs.{needs}
 use Rattle.pieces.proofs.ReaderLaws.{after-as}
 use Rattle.pieces.proofs.after.Statement.{statement}

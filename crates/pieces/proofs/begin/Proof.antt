@@ -1,3 +1,4 @@
+-- `begin` meets its contract: a reader with nothing counted (`began-as`).
 use borrow.Author.Needs.{needs}
 use Rattle.pieces.proofs.ReaderLaws.{began-as}
 use Rattle.pieces.proofs.begin.Statement.{statement}

@@ -1,3 +1,4 @@
+-- `call` meets its contract: a feed, what its answer tells, and the counts after it (`calls`).
 use borrow.Author.Needs.{needs}
 use Rattle.pieces.proofs.ReaderLaws.{calls}
 use Rattle.pieces.proofs.call.Statement.{statement}

@@ -1,3 +1,4 @@
+-- `count` meets its contract: three saturated sums (`counted-as`).
 use borrow.Author.Needs.{needs}
 use Rattle.pieces.proofs.ReaderLaws.{counted-as}
 use Rattle.pieces.proofs.count.Statement.{statement}

@@ -1,3 +1,4 @@
+-- `finish` meets its contract: a refusal is repeated, and any other reader's session is finished (`finishings`).
 use borrow.Author.Needs.{needs}
 use Rattle.pieces.proofs.ReaderLaws.{finishings}
 use Rattle.pieces.proofs.finish.Statement.{statement}

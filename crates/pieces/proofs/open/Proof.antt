@@ -1,3 +1,4 @@
+-- `open` meets its contract: a ready session or a refused one; six times a width that was accepted fits (`ready-width`).
 use Prim.Native.Nat.{_≤_}
 use native.Mathlib.Omega.{arith}
 use borrow.Author.Needs.{needs}
@@ -13,8 +14,10 @@ enum-told c = search needs
 
 mul-begin : tie.Need-mul-begin
 mul-begin c =
-    let opened = c .before .before .before .before in
-    let small : opened .before .args .limits .width ≤ 1000000 = search (ready-width, opened .«open» .ensures, c .before .enum-told .given) in
+    let ready = c .before in
+    let opened = ready .before .before .before in
+    let small : opened .before .args .limits .width ≤ 1000000 =
+    search (ready-width, opened .«open» .ensures, ready .enum-told .given) in
     omega (arith, small)
 
 begin-requires : tie.Need-begin-requires

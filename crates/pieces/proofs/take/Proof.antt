@@ -1,3 +1,4 @@
+-- `take` meets its contract: a reader that reads takes the whole piece, and one that has ended stays as it is (`takes`).
 use borrow.Author.Needs.{needs}
 use Rattle.pieces.proofs.TakeLaws.{takes}
 use Rattle.pieces.proofs.take.Statement.{statement}

@@ -1,3 +1,4 @@
+-- `take_all` meets its contract: its loop is `Midway`, the calls so far and those to come are the whole, and each stop leaves less.
 use borrow.Author.Needs.{needs}
 use Prim.Native.Nat.{_-_}
 use native.Mathlib.Omega.{arith}
@@ -35,7 +36,8 @@ returns c = search (needs, loop-laws)
 
 add-at : tie.Need-add-at Inv-loop μ-loop
 add-at c =
-    let call = c .before .before .before .before .before .before in
+    let lent = c .before .before .before in
+    let call = lent .before .before .before in
     let loop = call .before .before .before in
     let start = loop .before .before .before in
     omega (arith, again-within (loop .loop .inv) (call .call .ensures), start .good .1 .1 .0 .0)

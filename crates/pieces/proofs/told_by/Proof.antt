@@ -1,3 +1,4 @@
+-- `told_by` meets its contract: a law of `tells-laws` for each of a feed's four answers.
 use borrow.Author.Needs.{needs}
 use Rattle.pieces.proofs.ReaderLaws.{tells-laws}
 use Rattle.pieces.proofs.told_by.Statement.{statement}

@@ -1,4 +1,6 @@
-use Prim.Native.Nat.{_≤_, _<_}
+-- `process` meets its contract. The loop's invariant is `Going`: the bytes that are left lead to where all lead. It is kept by what the fast
+-- machine reads and by a step of the reference machine, and each pass leaves less to do.
+use Prim.Native.Nat.{_+_, _<_}
 use mathlib.Core.Path.{_∙_}
 use native.Mathlib.Nat.{lt-of-lt-of-le}
 use native.Mathlib.Omega.{arith}
@@ -6,132 +8,147 @@ use borrow.Author.Needs.{needs}
 use denote.Ref.{now}
 use lib.ListN.{length}
 use Rattle.colours.specs.Palette.{ofTable}
-use Rattle.bytewise.specs.Feed.{feedFrom}
-use Rattle.bytewise.proofs.FeedLaws.{Going, left-over, going-done, turn-ink, turn-reads, turn-settles, turn-stops, going-read, going-settled, turns}
-use Rattle.reading.proofs.RideLaws.{going-rode, ride-left}
+use Rattle.reference.specs.Feed.{feedFrom}
+use Rattle.reference.proofs.FeedLaws.{Going, left-over, going-done, step-ink, step-within, step-less, step-stops, going-on, looping}
+use Rattle.reading.proofs.LoopLaws.{advance-ink, advance-left, going-advanced}
 use Rattle.reading.proofs.process.Statement.{statement}
 use Rattle.reading.proofs.process.Tie as tie
-use Rattle.reading.proofs.process.Reads as reads
-use Rattle.reading.proofs.process.Lts as lts
-use Rattle.reading.proofs.reached.Reads as reached-reads
-use Rattle.reading.proofs.turn.Reads as turn-reads
-use Rattle.reading.proofs.ride.resume.Reads as resume-reads
-use Rattle.reading.proofs.ride.ride.Reads as ride-reads
 
 abbrev Inv-loop : tie.InvT-loop
 Inv-loop ground colors₀ canvas₀ bytes allowance now₀ consumed₀ ink₀ colors canvas now consumed ink =
-    Going ground allowance bytes (feedFrom ground allowance bytes 0 0 now₀ (ofTable colors₀) canvas₀) (length canvas₀) (ofTable colors) canvas now consumed ink
+    Going ground allowance bytes (feedFrom ground allowance bytes 0 0 now₀ (ofTable colors₀) canvas₀) (length canvas₀) (ofTable colors) canvas now
+    consumed
+    ink
 
 abbrev μ-loop : tie.MeasureT-loop
-μ-loop ground colors₀ canvas₀ bytes allowance now₀ consumed₀ ink₀ colors canvas now consumed ink =
-    left-over bytes consumed now
+μ-loop ground colors₀ canvas₀ bytes allowance now₀ consumed₀ ink₀ colors canvas now consumed ink = left-over bytes consumed now
 
--- where a turn's ride leads
-rode : (c : tie.After-resume Inv-loop μ-loop)
-    → Going (c .before .before .before .before .before .before .before .before .before .before .args .ground) (c .before .before .before .before .before .before .before .before .before .before .args .allowance) (now (c .before .before .before .before .before .before .before .before .before .before .args .bytes))
-    (feedFrom (c .before .before .before .before .before .before .before .before .before .before .args .ground) (c .before .before .before .before .before .before .before .before .before .before .args .allowance) (now (c .before .before .before .before .before .before .before .before .before .before .args .bytes)) 0 0 (c .before .before .before .before .before .before .before .before .before .before .args .frame) (ofTable (now (c .before .before .before .before .before .before .before .before .before .before .args .colors))) (now (c .before .before .before .before .before .before .before .before .before .before .args .canvas)))
-    (length (now (c .before .before .before .before .before .before .before .before .before .before .args .canvas))) (ofTable (c .before .before .before .ride .last .1 .1 .0)) (c .before .before .before .ride .last .1 .1 .1 .0) (c .resume .result) (c .before .before .before .ride .result .at) (c .before .before .before .ride .result .ink)
-rode c = going-rode (c .before .before .before .before .before .before .before .loop .inv) (c .before .before .before .ride .ensures) (c .resume .ensures) (c .before .before .before .ride .kept .1 .1 .1 .0)
+-- the loop, and the start, where the fast machine has read on
+abbrev loop-at : tie.After-read-fast Inv-loop μ-loop → tie.At-loop Inv-loop μ-loop
+loop-at c = c .before .before .before .before
 
--- it leaves no more to do than there was
-left : (c : tie.After-resume Inv-loop μ-loop)
-    → left-over (now (c .before .before .before .before .before .before .before .before .before .before .args .bytes)) (c .before .before .before .ride .result .at) (c .resume .result) ≤ left-over (now (c .before .before .before .before .before .before .before .before .before .before .args .bytes)) (c .before .before .before .before .before .before .before .loop .consumed) (c .before .before .before .before .before .before .before .loop .now)
-left c = ride-left (c .before .before .before .before .before .before .before .loop .inv) (c .before .before .before .ride .ensures) (c .resume .ensures)
+abbrev start : tie.After-read-fast Inv-loop μ-loop → tie.Start Inv-loop μ-loop
+start c = loop-at c .before .before .before
 
--- a byte is left after it
-more : (c : tie.Else1 Inv-loop μ-loop) → c .before .before .before .before .ride .result .at < length (now (c .before .before .before .before .before .before .before .before .before .before .before .args .bytes))
-more c = omega (arith, rode (c .before) .within, c .if1 .left)
+-- the invariant holds there, with the frame that is resumed
+abbrev read : tie.After-resume Inv-loop μ-loop → tie.After-read-fast Inv-loop μ-loop
+read c = c .before .before .before
 
--- src/process.rt:65:5
+advanced : (c : tie.After-resume Inv-loop μ-loop)
+    → Going (start (read c) .args .ground) (start (read c) .args .allowance) (now (start (read c) .args .bytes))
+    (feedFrom (start (read c) .args .ground) (start (read c) .args .allowance) (now (start (read c) .args .bytes)) 0 0 (start (read c) .args .frame)
+    (ofTable (now (start (read c) .args .colors)))
+    (now (start (read c) .args .canvas)))
+    (length (now (start (read c) .args .canvas)))
+    (ofTable (read c .read-fast .last .1 .1 .0))
+    (read c .read-fast .last .1 .1 .1 .0)
+    (c .resume .result)
+    (read c .read-fast .result .end)
+    (loop-at (read c) .loop .ink + read c .read-fast .result .ink)
+advanced c =
+    going-advanced (loop-at (read c) .loop .inv) (read c .read-fast .ensures) (c .resume .ensures) (read c .read-fast .kept .1 .1 .1 .0)
+
 loop-holds : tie.Need-loop-holds Inv-loop μ-loop
-loop-holds c = search (needs, turns)
+loop-holds c = search (needs, looping)
 
--- src/process.rt:66:13
-ride-requires : tie.Need-ride-requires Inv-loop μ-loop
-ride-requires c κs = let i = c .before .before .before .loop .inv in (i .fits, i .within, i .spent)
+sub-read-fast : tie.Need-sub-read-fast Inv-loop μ-loop
+sub-read-fast c = c .before .before .before .loop .inv .spent
 
--- src/process.rt:69:9
+read-fast-requires : tie.Need-read-fast-requires Inv-loop μ-loop
+read-fast-requires c κs = let i = c .before .before .before .loop .inv in (i .fits, i .within)
+
 resume-requires : tie.Need-resume-requires Inv-loop μ-loop
 resume-requires c κs = search needs
 
--- src/process.rt:73:13
+add-ink : tie.Need-add-ink Inv-loop μ-loop
+add-ink c =
+    let r = read (c .before) in
+    omega (arith, advance-ink (loop-at r .loop .inv) (r .read-fast .ensures) (c .before .resume .ensures), start r .fits .allowance)
+
 reached-requires : tie.Need-reached-requires Inv-loop μ-loop
 reached-requires c κs = search needs
 
--- src/process.rt:73:13
 same-length : tie.Need-same-length Inv-loop μ-loop
-same-length c = rode (c .before .before) .long
+same-length c = advanced (c .before .before .before) .long
 
--- src/process.rt:73:13
 returns : tie.Need-returns Inv-loop μ-loop
-returns c = going-done (rode (c .before .before)) (omega (arith, c .before .if1 .taken)) (c .reached .ensures)
+returns c =
+    let all = c .before in
+    going-done (advanced (all .before .before)) (omega (arith, all .if1 .taken)) (c .reached .ensures)
 
--- src/process.rt:75:20
+-- the frame that is resumed, where a byte is left after it
+abbrev resumed : tie.Else1 Inv-loop μ-loop → tie.After-resume Inv-loop μ-loop
+resumed c = c .before .before
+
+more : (c : tie.Else1 Inv-loop μ-loop) → read (resumed c) .read-fast .result .end < length (now (start (read (resumed c)) .args .bytes))
+more c = omega (arith, advanced (resumed c) .within, c .if1 .left)
+
 shared-slice-read-byte : tie.Need-shared-slice-read-byte Inv-loop μ-loop
 shared-slice-read-byte c = more (c .before)
 
--- src/process.rt:76:63
-sub-turn : tie.Need-sub-turn Inv-loop μ-loop
-sub-turn c = rode (c .before .before .before .before) .spent
+-- that byte is left, where it is read
+abbrev left : tie.After-read-byte Inv-loop μ-loop → tie.Else1 Inv-loop μ-loop
+left c = c .before .before .before .before
 
--- src/process.rt:76:13
-turn-requires : tie.Need-turn-requires Inv-loop μ-loop
-turn-requires c κs = rode (c .before .before .before .before) .fits
+sub-read-byte : tie.Need-sub-read-byte Inv-loop μ-loop
+sub-read-byte c = let e = c .before .before .before in advanced (resumed e) .spent
 
--- src/process.rt:81:28
+read-byte-requires : tie.Need-read-byte-requires Inv-loop μ-loop
+read-byte-requires c κs = let e = c .before .before .before in advanced (resumed e) .fits
+
 enum-told : tie.Need-enum-told Inv-loop μ-loop
 enum-told c = search needs
 
--- src/process.rt:81:28
 add-consumed : tie.Need-add-consumed Inv-loop μ-loop
-add-consumed c = omega (arith, more (c .before .before .before .before .before .before .before .before .before), c .before .before .before .before .before .before .before .before .before .before .before .before .before .before .before .before .before .before .before .before .good .1 .1 .1 .1 .0 .0)
+add-consumed c =
+    let byte = c .before .before .before .before .before .before in
+    let e = left byte in
+    omega (arith, step-within (advanced (resumed e)) (byte .read-byte .ensures) (more e), start (read (resumed e)) .good .1 .1 .1 .1 .0 .0)
 
--- src/process.rt:82:23
-add-ink : tie.Need-add-ink Inv-loop μ-loop
-add-ink c = omega (arith, turn-ink (rode (c .before .before .before .before .before .before .before .before .before .before .before)) (c .before .before .before .before .before .before .turn .ensures), c .before .before .before .before .before .before .before .before .before .before .before .before .before .before .before .before .before .before .before .before .before .fits .allowance)
+add-ink-2 : tie.Need-add-ink-2 Inv-loop μ-loop
+add-ink-2 c =
+    let byte = c .before .before .before .before .before .before .before in
+    let e = left byte in
+    omega (arith, step-ink (advanced (resumed e)) (byte .read-byte .ensures), start (read (resumed e)) .fits .allowance)
 
--- src/process.rt:65:5
 loop-less : tie.Need-loop-less Inv-loop μ-loop
-loop-less c = lt-of-lt-of-le (turn-reads (rode (c .before .before .before .before .before .before .before .before .before .before .before)) (c .before .before .before .before .before .before .turn .ensures) (more (c .before .before .before .before .before .before .before .before .before .before))) (left (c .before .before .before .before .before .before .before .before .before .before .before))
+loop-less c =
+    let told = c .before .before in
+    let byte = told .before .before .before .before .before in
+    let e = left byte in
+    let r = read (resumed e) in
+    lt-of-lt-of-le (step-less (advanced (resumed e)) (byte .read-byte .ensures) (more e) (told .enum-told .given .1))
+    (advance-left (loop-at r .loop .inv) (r .read-fast .ensures) (resumed e .resume .ensures))
 
--- src/process.rt:65:5
 loop-again : tie.Need-loop-again Inv-loop μ-loop
-loop-again c = going-read (rode (c .before .before .before .before .before .before .before .before .before .before .before)) (c .before .before .before .before .before .before .turn .ensures) (more (c .before .before .before .before .before .before .before .before .before .before)) (c .before .before .before .before .before .before .turn .kept .1 .1 .1 .0) (c .before .enum-told .given .1)
+loop-again c =
+    let told = c .before .before in
+    let byte = told .before .before .before .before .before in
+    let e = left byte in
+    going-on (advanced (resumed e)) (byte .read-byte .ensures) (more e) (byte .read-byte .kept .1 .1 .1 .0) (told .enum-told .given .1)
 
-enum-told-2 : tie.Need-enum-told-2 Inv-loop μ-loop
-enum-told-2 c = search needs
-
--- src/process.rt:65:5
-loop-less-2 : tie.Need-loop-less-2 Inv-loop μ-loop
-loop-less-2 c = lt-of-lt-of-le (turn-settles (rode (c .before .before .before .before .before .before .before .before .before .before)) (c .before .before .before .before .before .turn .ensures) (c .enum-told2 .given .1)) (left (c .before .before .before .before .before .before .before .before .before .before))
-
--- src/process.rt:65:5
-loop-again-2 : tie.Need-loop-again-2 Inv-loop μ-loop
-loop-again-2 c = going-settled (rode (c .before .before .before .before .before .before .before .before .before .before)) (c .before .before .before .before .before .turn .ensures) (more (c .before .before .before .before .before .before .before .before .before)) (c .before .before .before .before .before .turn .kept .1 .1 .1 .0) (c .enum-told2 .given .1)
-
--- src/process.rt:85:18
 reached-requires-2 : tie.Need-reached-requires-2 Inv-loop μ-loop
 reached-requires-2 c κs = search needs
 
--- src/process.rt:85:18
 same-length-2 : tie.Need-same-length-2 Inv-loop μ-loop
-same-length-2 c = c .before .before .before .before .before .turn .kept .1 .1 .1 .0 ∙ rode (c .before .before .before .before .before .before .before .before .before .before) .long
+same-length-2 c =
+    let byte = c .before .before .before .before .before in
+    byte .read-byte .kept .1 .1 .1 .0 ∙ advanced (resumed (left byte)) .long
 
--- src/process.rt:85:18
 returns-2 : tie.Need-returns-2 Inv-loop μ-loop
-returns-2 c = turn-stops (rode (c .before .before .before .before .before .before .before .before .before .before)) (c .before .before .before .before .before .turn .ensures) (more (c .before .before .before .before .before .before .before .before .before)) (c .before .match .keys3) (c .reached2 .ensures)
+returns-2 c =
+    let byte = c .before .before .before .before .before in
+    let e = left byte in
+    step-stops (advanced (resumed e)) (byte .read-byte .ensures) (more e) (c .before .match .keys2) (c .reached2 .ensures)
 
--- src/process.rt:88:5
 reached-requires-3 : tie.Need-reached-requires-3 Inv-loop μ-loop
 reached-requires-3 c κs = search needs
 
--- src/process.rt:51:1
 same-length-3 : tie.Need-same-length-3 Inv-loop μ-loop
-same-length-3 c = search (needs, turns)
+same-length-3 c = search (needs, looping)
 
--- src/process.rt:51:1
 returns-3 : tie.Need-returns-3 Inv-loop μ-loop
-returns-3 c = search (needs, turns)
+returns-3 c = search (needs, looping)
 
 pub process-spec : {M : Type 1} → statement M
 process-spec =
@@ -140,22 +157,21 @@ process-spec =
     Inv-loop
     μ-loop
     loop-holds
-    ride-requires
+    sub-read-fast
+    read-fast-requires
     resume-requires
+    add-ink
     reached-requires
     same-length
     returns
     shared-slice-read-byte
-    sub-turn
-    turn-requires
+    sub-read-byte
+    read-byte-requires
     enum-told
     add-consumed
-    add-ink
+    add-ink-2
     loop-less
     loop-again
-    enum-told-2
-    loop-less-2
-    loop-again-2
     reached-requires-2
     same-length-2
     returns-2

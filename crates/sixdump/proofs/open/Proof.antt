@@ -13,7 +13,8 @@ use Rattle.sixdump.proofs.open.Lts as lts
 use Rattle.colours.proofs.Palette.standard.Reads as standard-reads
 use Rattle.pieces.proofs.open.Reads as open-reads
 
-opened-as : {r : Reader} {p q : Palette} (l : Limits) (stride size : ℕ) → p ≡ q → r ≡ openedBy l stride p size → r ≡ openedBy l stride q size
+opened-as : {r : Reader} {p q : Palette} (l : Limits) (stride size : ℕ)
+    → p ≡ q → r ≡ openedBy l stride p size → r ≡ openedBy l stride q size
 opened-as l stride size same e = e ∙ ap (λ (p : Palette). openedBy l stride p size) same
 
 ruleset opened = (opened-as)

@@ -1,4 +1,4 @@
--- `sixprobe::run` is safe and ends.
+-- `sixprobe::run` is safe and ends: the buffers keep their lengths, and the turns are counted down.
 -- Assumes nothing.
 use native.Mathlib.Omega.{arith}
 use mathlib.Core.Path.{_≡_}
@@ -8,7 +8,8 @@ use Rattle.sixprobe.proofs.run.Statement.{statement}
 use Rattle.sixprobe.proofs.run.Tie as tie
 
 abbrev Inv-loop : tie.InvT-loop
-Inv-loop block₀ line₀ canvas₀ state₀ unread₀ turns₀ block line canvas state unread turns = (length block ≡ length block₀) × (length line ≡ length line₀) × (length canvas ≡ length canvas₀)
+Inv-loop block₀ line₀ canvas₀ state₀ unread₀ turns₀ block line canvas state unread turns =
+    (length block ≡ length block₀) × (length line ≡ length line₀) × (length canvas ≡ length canvas₀)
 
 abbrev μ-loop : tie.MeasureT-loop
 μ-loop block₀ line₀ canvas₀ state₀ unread₀ turns₀ block line canvas state unread turns = turns

@@ -34,10 +34,11 @@ loop-less c = omega arith
 
 loop-again : tie.Need-loop-again Inv-loop μ-loop
 loop-again c =
-    let now-at = c .before .before .before .before .before .before .loop in
-    let wrote = c .before .before .put-byte in (
-      one-more _ (now-at .i) _ _ _ (wrote .ensures) (now-at .inv .0) (omega arith),
-      wrote .kept .0 ∙ now-at .inv .1,
+    let wrote = c .before .before in
+    let entered = wrote .before .before .before in
+    let now-at = entered .before .loop in (
+      one-more _ (now-at .i) _ _ _ (wrote .put-byte .ensures) (now-at .inv .0) (omega arith),
+      wrote .put-byte .kept .0 ∙ now-at .inv .1,
       omega arith,
     )
 

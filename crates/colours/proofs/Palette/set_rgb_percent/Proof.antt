@@ -1,7 +1,6 @@
--- `colours::Palette::set_rgb_percent` meets its contract, by those of the functions that it calls.
+-- `colours::Palette::set_rgb_percent` meets its contract: a table taken out, set and put back is the palette set (`put-back-rgb`).
 -- Assumes nothing.
-use Rattle.colours.specs.Palette.{setRgb}
-use Rattle.colours.proofs.Laws.{put-back}
+use Rattle.colours.proofs.Laws.{put-back-rgb}
 use borrow.Author.Needs.{needs}
 use Rattle.colours.proofs.Palette.set_rgb_percent.Statement.{statement}
 use Rattle.colours.proofs.Palette.set_rgb_percent.Tie as tie
@@ -16,10 +15,7 @@ of-table-requires : tie.Need-of-table-requires
 of-table-requires c κs = search needs
 
 returns : tie.Need-returns
-returns c =
-    let start : tie.Start = c .before .before .before .before in
-    put-back (λ p. setRgb p (start .args .index)) (start .fits .r) (start .fits .g) (start .fits .b)
-    (c .before .before .before .table .ensures) (c .before .define-rgb .ensures) (c .of-table .ensures)
+returns c = search (needs, put-back-rgb)
 
 pub set-rgb-percent-spec : {M : Type 1} → statement M
 set-rgb-percent-spec =

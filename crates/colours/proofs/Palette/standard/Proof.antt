@@ -1,6 +1,6 @@
 -- `colours::Palette::standard` meets its contract, by those of the functions that it calls.
 -- Assumes nothing.
-use Rattle.colours.specs.Palette.{ofTable, standard}
+use Rattle.colours.specs.Palette.{standard}
 use borrow.Author.Needs.{needs}
 use Rattle.colours.proofs.Palette.standard.Statement.{statement}
 use Rattle.colours.proofs.Palette.standard.Tie as tie

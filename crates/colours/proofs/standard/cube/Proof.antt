@@ -87,7 +87,8 @@ loop3-again : tie.Need-loop3-again Inv-loop3 μ-loop3 Inv-loop2 μ-loop2 Inv-loo
 loop3-again c = (
   search needs,
   filled-as (omega arith)
-      (filled-more (c .before .before .loop3 .inv .1) (is-cube _ _ _ _ (c .percents .ensures) (omega arith) (omega arith) (omega arith)) (omega arith)),
+      (filled-more (c .before .before .loop3 .inv .1)
+      (is-cube _ _ _ _ (c .percents .ensures) (omega arith) (omega arith) (omega arith)) (omega arith)),
 )
 
 add-g : tie.Need-add-g Inv-loop3 μ-loop3 Inv-loop2 μ-loop2 Inv-loop μ-loop

@@ -41,7 +41,10 @@ loop-less : tie.Need-loop-less Inv-loop μ-loop
 loop-less c = search needs
 
 loop-again : tie.Need-loop-again Inv-loop μ-loop
-loop-again c = (search needs, filled-more (c .before .before .loop .inv .1) (is-grey _ _ (c .percents .ensures) (omega arith)) (omega arith))
+loop-again c = (
+  search needs,
+  filled-more (c .before .before .loop .inv .1) (is-grey _ _ (c .percents .ensures) (omega arith)) (omega arith),
+)
 
 returns : tie.Need-returns Inv-loop μ-loop
 returns c =

@@ -33,16 +33,7 @@ put-requires-3 : tie.Need-put-requires-3
 put-requires-3 c κs = search needs
 
 returns : tie.Need-returns
-returns c =
-    let cubed : tie.After-put2 = c .before .before .before .before in
-    let based : tie.After-put = cubed .before .before .before .before in
-    end-to-end
-    (based .before .before .base .ensures)
-    (cubed .before .before .cube .ensures)
-    (c .before .before .greys .ensures)
-    (based .put .ensures)
-    (cubed .put2 .ensures)
-    (c .put3 .ensures)
+returns c = search (needs, end-to-end)
 
 pub numbers-spec : {M : Type 1} → statement M
 numbers-spec =

@@ -1,4 +1,4 @@
--- `colours::standard::percents` meets its contract, by those of the functions that it calls.
+-- `colours::standard::percents` meets its contract: the bytes of three percents, packed (`packs-percents`).
 -- Assumes nothing.
 use Rattle.colours.proofs.StandardLaws.{packs-percents}
 use borrow.Author.Needs.{needs}

@@ -1,3 +1,4 @@
+-- `dcs::memory::ending_number` meets its contract: one path for each ending.
 use Rattle.dcs.specs.Memory.{endingNumber}
 use Rattle.dcs.proofs.MemoryLaws.{codes-as}
 use borrow.Author.Needs.{needs}

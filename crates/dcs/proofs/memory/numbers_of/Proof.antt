@@ -1,3 +1,5 @@
+-- `dcs::memory::numbers_of` meets its contract: the payload session's numbers, with the phase and the header's nine written over
+-- the places 34 to 43, are the session's.
 use Rattle.dcs.specs.Memory.{nineWritten}
 use Rattle.dcs.proofs.MemoryLaws.{numbers-told}
 use borrow.Author.Needs.{needs}

@@ -1,3 +1,4 @@
+-- `dcs::memory::phase_from` meets its contract: the code's tests of the number are the definition's, one after the other.
 use Rattle.numbers.proofs.Laws.{tests}
 use Rattle.dcs.specs.Memory.{phaseFrom}
 use borrow.Author.Needs.{needs}

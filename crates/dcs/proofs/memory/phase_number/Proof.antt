@@ -1,3 +1,4 @@
+-- `dcs::memory::phase_number` meets its contract: one path for each phase.
 use Rattle.dcs.specs.Memory.{phaseNumber}
 use Rattle.dcs.proofs.MemoryLaws.{codes-as}
 use borrow.Author.Needs.{needs}

@@ -1,3 +1,4 @@
+-- `dcs::memory::place_number` meets its contract: one path for each place.
 use Rattle.dcs.specs.Memory.{placeNumber}
 use Rattle.dcs.proofs.MemoryLaws.{codes-as}
 use borrow.Author.Needs.{needs}

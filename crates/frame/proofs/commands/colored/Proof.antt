@@ -1,3 +1,4 @@
+-- `colored` meets its contract: it is `settled` for a frame whose pen has the colour.
 use borrow.Author.Needs.{needs}
 use Rattle.frame.specs.Commands.{withColor}
 use Rattle.frame.proofs.commands.colored.Statement.{statement}

@@ -1,3 +1,4 @@
+-- `define` meets its contract: one law for each space. The casts are exact, since each value is within a signed number.
 use Rattle.frame.proofs.CommandLaws.{colored}
 use borrow.Author.Needs.{needs}
 use Rattle.frame.proofs.commands.define.Statement.{statement}
@@ -7,47 +8,36 @@ use Rattle.frame.proofs.commands.define.Lts as lts
 use Rattle.colours.proofs.define_hls.Reads as define-hls-reads
 use Rattle.colours.proofs.define_rgb.Reads as define-rgb-reads
 
--- src/commands.rt:119:47
 cast-define-hls : tie.Need-cast-define-hls
 cast-define-hls c = search (needs, colored)
 
--- src/commands.rt:119:57
 cast-define-hls-2 : tie.Need-cast-define-hls-2
 cast-define-hls-2 c = search (needs, colored)
 
--- src/commands.rt:119:67
 cast-define-hls-3 : tie.Need-cast-define-hls-3
 cast-define-hls-3 c = search (needs, colored)
 
--- src/commands.rt:119:9
 define-hls-requires : tie.Need-define-hls-requires
 define-hls-requires c κs = search needs
 
--- src/commands.rt:120:9
 returns : tie.Need-returns
 returns c = search (needs, colored)
 
--- src/commands.rt:123:47
 cast-define-rgb : tie.Need-cast-define-rgb
 cast-define-rgb c = search (needs, colored)
 
--- src/commands.rt:123:57
 cast-define-rgb-2 : tie.Need-cast-define-rgb-2
 cast-define-rgb-2 c = search (needs, colored)
 
--- src/commands.rt:123:67
 cast-define-rgb-3 : tie.Need-cast-define-rgb-3
 cast-define-rgb-3 c = search (needs, colored)
 
--- src/commands.rt:123:9
 define-rgb-requires : tie.Need-define-rgb-requires
 define-rgb-requires c κs = search needs
 
--- src/commands.rt:114:1
 returns-2 : tie.Need-returns-2
 returns-2 c = search (needs, colored)
 
--- src/commands.rt:114:1
 returns-3 : tie.Need-returns-3
 returns-3 c = search (needs, colored)
 

@@ -1,3 +1,4 @@
+-- `end_command` meets its contract: one law for each kind of command, from what its callees ensure.
 use borrow.Author.Needs.{needs}
 use Rattle.frame.proofs.CommandLaws.{endings}
 use Rattle.frame.proofs.commands.end_command.Statement.{statement}

@@ -1,3 +1,4 @@
+-- `end_repeat` meets its contract: a number above the limit is refused, any other is the pen's repeat.
 use borrow.Author.Needs.{needs}
 use Rattle.frame.proofs.CommandLaws.{endings}
 use Rattle.frame.proofs.commands.end_repeat.Statement.{statement}

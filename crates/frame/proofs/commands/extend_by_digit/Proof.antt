@@ -1,3 +1,4 @@
+-- `extend_by_digit` meets its contract: a repeat's number or a value of the others, by one law for each.
 use borrow.Author.Needs.{needs}
 use Rattle.frame.proofs.CommandLaws.{begins}
 use Rattle.frame.proofs.commands.extend_by_digit.Statement.{statement}

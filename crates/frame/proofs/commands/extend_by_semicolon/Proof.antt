@@ -1,3 +1,4 @@
+-- `extend_by_semicolon` meets its contract: the values are those after a `;`, and the rest of the frame is kept.
 use borrow.Author.Needs.{needs}
 use Rattle.frame.proofs.CommandLaws.{begins}
 use Rattle.frame.proofs.commands.extend_by_semicolon.Statement.{statement}

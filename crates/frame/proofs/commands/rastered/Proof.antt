@@ -1,3 +1,4 @@
+-- `rastered` meets its contract: one law for each of the three answers of `measure`.
 use borrow.Author.Needs.{needs}
 use Rattle.frame.proofs.CommandLaws.{rastered}
 use Rattle.frame.proofs.commands.rastered.Statement.{statement}

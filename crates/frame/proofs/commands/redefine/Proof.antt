@@ -1,3 +1,5 @@
+-- `redefine` meets its contract: five values define the register, any other count leaves the palette.
+-- A value fits a signed number because `value` holds it so.
 use Rattle.frame.proofs.CommandLaws.{colored}
 use borrow.Author.Needs.{needs}
 use Rattle.frame.proofs.commands.redefine.Statement.{statement}
@@ -8,35 +10,27 @@ use Rattle.frame.proofs.commands.define.Reads as define-reads
 use Rattle.numbers.proofs.Parameters.count.Reads as count-reads
 use Rattle.numbers.proofs.Parameters.value.Reads as value-reads
 
--- src/commands.rt:131:8
 count-requires : tie.Need-count-requires
 count-requires c κs = search needs
 
--- src/commands.rt:132:13
 value-requires : tie.Need-value-requires
 value-requires c κs = search needs
 
--- src/commands.rt:133:13
 value-requires-2 : tie.Need-value-requires-2
 value-requires-2 c κs = search needs
 
--- src/commands.rt:134:13
 value-requires-3 : tie.Need-value-requires-3
 value-requires-3 c κs = search needs
 
--- src/commands.rt:135:13
 value-requires-4 : tie.Need-value-requires-4
 value-requires-4 c κs = search needs
 
--- src/commands.rt:136:9
 define-requires : tie.Need-define-requires
 define-requires c κs = search (needs, colored)
 
--- src/commands.rt:128:1
 returns : tie.Need-returns
 returns c = search (needs, colored)
 
--- src/commands.rt:128:1
 returns-2 : tie.Need-returns-2
 returns-2 c = search (needs, colored)
 

@@ -1,3 +1,4 @@
+-- `refused` meets its contract by unfolding it.
 use mathlib.Core.Path.{refl}
 use Rattle.frame.specs.Commands.{refusedAs}
 use Rattle.frame.proofs.commands.refused.Statement.{statement}

@@ -1,3 +1,4 @@
+-- `select` meets its contract: the palette is redefined first, and the colour is read from it then.
 use borrow.Author.Needs.{needs}
 use Rattle.frame.proofs.CommandLaws.{colored}
 use Rattle.frame.proofs.commands.select.Statement.{statement}
@@ -6,8 +7,11 @@ use Rattle.frame.proofs.commands.select.Tie as tie
 finish-requires : tie.Need-finish-requires
 finish-requires c κs = search needs
 
-register-of-requires : tie.Need-register-of-requires
-register-of-requires c κs = search needs
+value-requires : tie.Need-value-requires
+value-requires c κs = search needs
+
+register-at-requires : tie.Need-register-at-requires
+register-at-requires c κs = search needs
 
 redefine-requires : tie.Need-redefine-requires
 redefine-requires c κs = search needs
@@ -21,4 +25,4 @@ returns c = search (needs, colored)
 pub select-spec : {M : Type 1} → statement M
 select-spec =
     tie.close
-    (tie.spec finish-requires register-of-requires redefine-requires rgb-bytes-requires returns)
+    (tie.spec finish-requires value-requires register-at-requires redefine-requires rgb-bytes-requires returns)

@@ -1,3 +1,4 @@
+-- `without_command` meets its contract: the values are those that `Parameters::new` opens for no place.
 use mathlib.Core.Path.{ap}
 use Rattle.numbers.specs.declared.Parameters.{Parameters}
 use Rattle.frame.specs.declared.Kind.the-variants as kinds

@@ -1,3 +1,4 @@
+-- `kept` meets its contract: a size of 0 leaves the old one, by one law for each path.
 use borrow.Author.Needs.{needs}
 use Rattle.frame.proofs.CommandLaws.{rastered}
 use Rattle.frame.proofs.rasters.kept.Statement.{statement}

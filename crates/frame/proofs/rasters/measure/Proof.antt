@@ -1,3 +1,4 @@
+-- `measure` meets its contract: no size, an area or a refusal, by one law for each of the three answers.
 use borrow.Author.Needs.{needs}
 use Rattle.frame.proofs.CommandLaws.{rastered}
 use Rattle.frame.proofs.rasters.measure.Statement.{statement}

@@ -1,3 +1,4 @@
+-- `quotient` meets its contract: one law for each quotient. The products do not overflow, since both values have 32 bits.
 use borrow.Author.Needs.{needs}
 use Rattle.frame.proofs.CommandLaws.{rastered}
 use Rattle.frame.proofs.rasters.quotient.Statement.{statement}

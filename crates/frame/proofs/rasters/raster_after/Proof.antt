@@ -1,3 +1,4 @@
+-- `raster_after` meets its contract: the ratio and the two sizes are what the callees say, in one record.
 use borrow.Author.Needs.{needs}
 use Rattle.frame.proofs.CommandLaws.{rastered}
 use Rattle.frame.proofs.rasters.raster_after.Statement.{statement}

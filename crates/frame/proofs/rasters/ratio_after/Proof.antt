@@ -1,3 +1,4 @@
+-- `ratio_after` meets its contract: with fewer than two values the old ratio stays, else the quotient of both, held at 1, is the new one.
 use borrow.Author.Needs.{needs}
 use Rattle.frame.proofs.CommandLaws.{rastered}
 use Rattle.frame.proofs.rasters.ratio_after.Statement.{statement}

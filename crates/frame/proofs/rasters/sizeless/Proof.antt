@@ -1,3 +1,4 @@
+-- `sizeless` meets its contract: two tests, one after the other, are their conjunction.
 use borrow.Author.Needs.{needs}
 use Rattle.frame.proofs.CommandLaws.{rastered}
 use Rattle.frame.proofs.rasters.sizeless.Statement.{statement}

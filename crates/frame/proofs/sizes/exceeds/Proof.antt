@@ -1,3 +1,4 @@
+-- `exceeds` meets its contract: the quotient says what the product would, without its overflow.
 use borrow.Author.Needs.{needs}
 use Rattle.frame.proofs.SizeLaws.{tested}
 use Rattle.frame.proofs.sizes.exceeds.Statement.{statement}

@@ -1,3 +1,4 @@
+-- `grown_area` meets its contract: the three refusals and the area, by one law for each.
 use borrow.Author.Needs.{needs}
 use Rattle.frame.proofs.SizeLaws.{sized}
 use Rattle.frame.proofs.sizes.grown_area.Statement.{statement}

@@ -1,3 +1,4 @@
+-- `raster_area` meets its contract: a size above a limit is refused, any other is `grown_area`'s.
 use borrow.Author.Needs.{needs}
 use Rattle.frame.proofs.SizeLaws.{sized}
 use Rattle.frame.proofs.sizes.raster_area.Statement.{statement}

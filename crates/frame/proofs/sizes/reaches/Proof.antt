@@ -1,3 +1,4 @@
+-- `reaches` meets its contract: the difference says what the sum would, without its overflow.
 use borrow.Author.Needs.{needs}
 use Rattle.frame.proofs.SizeLaws.{tested}
 use Rattle.frame.proofs.sizes.reaches.Statement.{statement}

@@ -1,3 +1,4 @@
+-- `sixel_area` meets its contract: one law for each of its three answers. The sums of the middle one stay below the limits that were tested.
 use native.Mathlib.Omega.{arith}
 use borrow.Author.Needs.{needs}
 use Rattle.frame.proofs.SizeLaws.{ends-columns, ends-rows, sized}
@@ -13,11 +14,21 @@ returns c = search (needs, sized)
 within-requires-2 : tie.Need-within-requires-2
 within-requires-2 c κs = search needs
 
+-- the start, where the sixel was found not to be visible
+abbrev start : tie.Else1 → tie.Start
+start c = c .before .before .before .before
+
 add-grown-area : tie.Need-add-grown-area
-add-grown-area c = omega (arith, ends-columns (c .before .before .before .before .before .before .before .args .frame .pen) _ _ (c .before .before .within2 .ensures) (c .before .if2 .taken))
+add-grown-area c =
+    let tested = c .before .before in
+    let s = start (tested .before) in
+    omega (arith, ends-columns (s .args .frame .pen) _ _ (tested .within2 .ensures) (c .before .if2 .taken), s .good .1)
 
 add-grown-area-2 : tie.Need-add-grown-area-2
-add-grown-area-2 c = omega (arith, ends-rows (c .before .before .before .before .before .before .before .before .args .frame .pen) _ _ (c .before .before .before .within2 .ensures) (c .before .before .if2 .taken), c .before .before .before .before .before .before .before .before .good .1)
+add-grown-area-2 c =
+    let tested = c .before .before .before in
+    let s = start (tested .before) in
+    omega (arith, ends-rows (s .args .frame .pen) _ _ (tested .within2 .ensures) (c .before .before .if2 .taken), s .good .1)
 
 grown-area-requires : tie.Need-grown-area-requires
 grown-area-requires c κs = search needs

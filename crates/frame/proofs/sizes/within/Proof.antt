@@ -1,3 +1,4 @@
+-- `within` meets its contract: two tests, one after the other, are their conjunction.
 use borrow.Author.Needs.{needs}
 use Rattle.frame.proofs.SizeLaws.{tested}
 use Rattle.frame.proofs.sizes.within.Statement.{statement}

@@ -1,3 +1,4 @@
+-- `Parameters::digit` meets its contract: a law of `Laws` for a digit, and one for any other byte. Assumes nothing.
 use Rattle.numbers.proofs.Laws.{steps}
 use borrow.Author.Needs.{needs}
 use Rattle.numbers.proofs.Parameters.digit.Statement.{statement}

@@ -1,3 +1,4 @@
+-- `Parameters::finish` meets its contract: a law of `Laws` for a number that was begun, and one for none. Assumes nothing.
 use Rattle.numbers.proofs.Laws.{steps}
 use borrow.Author.Needs.{needs}
 use Rattle.numbers.proofs.Parameters.finish.Statement.{statement}

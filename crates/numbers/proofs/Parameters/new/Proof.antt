@@ -1,3 +1,4 @@
+-- `Parameters::new` meets its contract: it is the definition's opened record. Assumes nothing.
 use mathlib.Core.Path.{refl}
 use Rattle.numbers.specs.Step.{opened}
 use Rattle.numbers.proofs.Parameters.new.Statement.{statement}

@@ -1,3 +1,4 @@
+-- `Parameters::push` meets its contract: `;` by its own law of `Laws`, and every other byte by that of a digit. Assumes nothing.
 use Rattle.numbers.proofs.Laws.{steps}
 use borrow.Author.Needs.{needs}
 use Rattle.numbers.proofs.Parameters.push.Statement.{statement}

@@ -1,3 +1,4 @@
+-- `Parameters::semicolon` meets its contract: what is stored, marked as begun. Assumes nothing.
 use mathlib.Core.Path.{ap}
 use Rattle.numbers.specs.Step.{marked, withSemicolon}
 use borrow.Author.Needs.{needs}

@@ -1,3 +1,4 @@
+-- `Parameters::value` meets its contract: a law of `Laws` for a value that is there, and two for one that is not. Assumes nothing.
 use Rattle.numbers.proofs.Laws.{steps}
 use borrow.Author.Needs.{needs}
 use Rattle.numbers.proofs.Parameters.value.Statement.{statement}

@@ -1,53 +1,55 @@
+-- `memory::parameters_from` meets its contract. Each read is within the nine numbers, and what is cast is a remainder of 32 bits.
+-- Assumes nothing.
 use mathlib.Core.Path.{refl}
 use Rattle.numbers.specs.Memory.{parametersFrom}
 use borrow.Author.Needs.{needs}
 use Rattle.numbers.proofs.memory.parameters_from.Statement.{statement}
 use Rattle.numbers.proofs.memory.parameters_from.Tie as tie
 
-array-read-t6 : tie.Need-array-read-t6
-array-read-t6 c = search needs
+value-0-read : tie.Need-array-read-t6
+value-0-read c = search needs
 
-cast-t8 : tie.Need-cast-t8
-cast-t8 c = search needs
+value-0-fits : tie.Need-cast-t8
+value-0-fits c = search needs
 
-array-read-t11 : tie.Need-array-read-t11
-array-read-t11 c = search needs
+value-1-read : tie.Need-array-read-t11
+value-1-read c = search needs
 
-cast-t13 : tie.Need-cast-t13
-cast-t13 c = search needs
+value-1-fits : tie.Need-cast-t13
+value-1-fits c = search needs
 
-array-read-t16 : tie.Need-array-read-t16
-array-read-t16 c = search needs
+value-2-read : tie.Need-array-read-t16
+value-2-read c = search needs
 
-cast-t18 : tie.Need-cast-t18
-cast-t18 c = search needs
+value-2-fits : tie.Need-cast-t18
+value-2-fits c = search needs
 
-array-read-t21 : tie.Need-array-read-t21
-array-read-t21 c = search needs
+value-3-read : tie.Need-array-read-t21
+value-3-read c = search needs
 
-cast-t23 : tie.Need-cast-t23
-cast-t23 c = search needs
+value-3-fits : tie.Need-cast-t23
+value-3-fits c = search needs
 
-array-read-t26 : tie.Need-array-read-t26
-array-read-t26 c = search needs
+value-4-read : tie.Need-array-read-t26
+value-4-read c = search needs
 
-cast-t28 : tie.Need-cast-t28
-cast-t28 c = search needs
+value-4-fits : tie.Need-cast-t28
+value-4-fits c = search needs
 
-array-read-t6-2 : tie.Need-array-read-t6-2
-array-read-t6-2 c = search needs
+count-read : tie.Need-array-read-t6-2
+count-read c = search needs
 
-array-read-t7 : tie.Need-array-read-t7
-array-read-t7 c = search needs
+current-read : tie.Need-array-read-t7
+current-read c = search needs
 
-cast-t28-2 : tie.Need-cast-t28-2
-cast-t28-2 c = search needs
+current-fits : tie.Need-cast-t28-2
+current-fits c = search needs
 
-array-read-t26-2 : tie.Need-array-read-t26-2
-array-read-t26-2 c = search needs
+pending-read : tie.Need-array-read-t26-2
+pending-read c = search needs
 
-array-read-t22 : tie.Need-array-read-t22
-array-read-t22 c = search needs
+places-read : tie.Need-array-read-t22
+places-read c = search needs
 
 returns : tie.Need-returns
 unfolding parametersFrom
@@ -57,19 +59,19 @@ pub parameters-from-spec : {M : Type 1} → statement M
 parameters-from-spec =
     tie.close
     (tie.spec
-    array-read-t6
-    cast-t8
-    array-read-t11
-    cast-t13
-    array-read-t16
-    cast-t18
-    array-read-t21
-    cast-t23
-    array-read-t26
-    cast-t28
-    array-read-t6-2
-    array-read-t7
-    cast-t28-2
-    array-read-t26-2
-    array-read-t22
+    value-0-read
+    value-0-fits
+    value-1-read
+    value-1-fits
+    value-2-read
+    value-2-fits
+    value-3-read
+    value-3-fits
+    value-4-read
+    value-4-fits
+    count-read
+    current-read
+    current-fits
+    pending-read
+    places-read
     returns)

@@ -1,3 +1,4 @@
+-- `find` meets its contract: a header was begun, or all bytes are payload (`finds`).
 use Rattle.oneshot.proofs.SearchLaws.{finds}
 use borrow.Author.Needs.{needs}
 use Rattle.oneshot.proofs.search.find.Statement.{statement}

@@ -1,3 +1,4 @@
+-- `header_start` meets its contract: the loop has found no introducer before `at` (`Looking`), and each turn goes one byte on.
 use borrow.Author.Needs.{needs}
 use Rattle.oneshot.proofs.SearchLaws.{lookings, introducer-short, Looking}
 use Prim.Native.Nat.{_-_}
@@ -22,7 +23,10 @@ introducer-length-requires : tie.Need-introducer-length-requires Inv-loop μ-loo
 introducer-length-requires c κs = search (needs, lookings)
 
 add-place : tie.Need-add-place Inv-loop μ-loop
-add-place c = omega (arith, introducer-short _ (c .before .introducer-length .ensures), c .before .before .before .before .before .good .0 .1)
+add-place c =
+    let found = c .before in
+    let loop = found .before .before in
+    omega (arith, introducer-short _ (found .introducer-length .ensures), loop .before .before .good .0 .1)
 
 add-at : tie.Need-add-at Inv-loop μ-loop
 add-at c = search (needs, lookings)

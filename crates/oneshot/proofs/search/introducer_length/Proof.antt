@@ -1,3 +1,4 @@
+-- `introducer_length` meets its contract: a law of `introducers` for each of its six returns.
 use Rattle.oneshot.proofs.SearchLaws.{introducers}
 use borrow.Author.Needs.{needs}
 use Rattle.oneshot.proofs.search.introducer_length.Statement.{statement}

@@ -1,3 +1,4 @@
+-- `read_header` meets its contract: a law of `headings` for each answer of the header's reading.
 use borrow.Author.Needs.{needs}
 use Rattle.oneshot.proofs.SearchLaws.{headings}
 use Rattle.oneshot.proofs.search.read_header.Statement.{statement}

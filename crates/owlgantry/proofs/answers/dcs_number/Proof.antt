@@ -1,5 +1,6 @@
+-- `dcs_number` meets its contract: each of a feed's four answers, by `by-case`.
 use Rattle.owlgantry.specs.Sessions.{dcsNumber}
-use Rattle.owlgantry.proofs.SessionCalls.{told-as}
+use Rattle.owlgantry.proofs.ReportLaws.{by-case}
 use borrow.Author.Needs.{needs}
 use Rattle.owlgantry.proofs.answers.dcs_number.Statement.{statement}
 use Rattle.owlgantry.proofs.answers.dcs_number.Tie as tie
@@ -24,19 +25,19 @@ cast-result c = search needs
 
 returns : tie.Need-returns
 unfolding dcsNumber
-returns c = search (needs, told-as)
+returns c = search (needs, by-case dcsNumber)
 
 returns-2 : tie.Need-returns-2
 unfolding dcsNumber
-returns-2 c = search (needs, told-as)
+returns-2 c = search (needs, by-case dcsNumber)
 
 returns-3 : tie.Need-returns-3
 unfolding dcsNumber
-returns-3 c = search (needs, told-as)
+returns-3 c = search (needs, by-case dcsNumber)
 
 returns-4 : tie.Need-returns-4
 unfolding dcsNumber
-returns-4 c = search (needs, told-as)
+returns-4 c = search (needs, by-case dcsNumber)
 
 pub dcs-number-spec : {M : Type 1} → statement M
 dcs-number-spec =

@@ -1,5 +1,7 @@
+-- `dcs_report` meets its contract: each of a feed's four answers by `by-case`, and an end by its kind and byte (`told-end`).
 use Rattle.owlgantry.specs.Sessions.{dcsReport}
-use Rattle.owlgantry.proofs.SessionCalls.{told-as}
+use Rattle.owlgantry.proofs.ReportLaws.{by-case}
+use Rattle.owlgantry.proofs.SessionCalls.{told-end}
 use borrow.Author.Needs.{needs}
 use Rattle.owlgantry.proofs.answers.dcs_report.Statement.{statement}
 use Rattle.owlgantry.proofs.answers.dcs_report.Tie as tie
@@ -24,19 +26,19 @@ enum-told c = search needs
 
 returns : tie.Need-returns
 unfolding dcsReport
-returns c = search (needs, told-as)
+returns c = search (needs, by-case dcsReport, told-end)
 
 returns-2 : tie.Need-returns-2
 unfolding dcsReport
-returns-2 c = search (needs, told-as)
+returns-2 c = search (needs, by-case dcsReport, told-end)
 
 returns-3 : tie.Need-returns-3
 unfolding dcsReport
-returns-3 c = search (needs, told-as)
+returns-3 c = search (needs, by-case dcsReport, told-end)
 
 returns-4 : tie.Need-returns-4
 unfolding dcsReport
-returns-4 c = search (needs, told-as)
+returns-4 c = search (needs, by-case dcsReport, told-end)
 
 pub dcs-report-spec : {M : Type 1} → statement M
 dcs-report-spec =

@@ -1,5 +1,6 @@
+-- `ending_byte` meets its contract: each of its three cases, by `by-case`.
 use Rattle.owlgantry.specs.Sessions.{endingByte}
-use Rattle.owlgantry.proofs.SessionCalls.{told-as}
+use Rattle.owlgantry.proofs.ReportLaws.{by-case}
 use borrow.Author.Needs.{needs}
 use Rattle.owlgantry.proofs.answers.ending_byte.Statement.{statement}
 use Rattle.owlgantry.proofs.answers.ending_byte.Tie as tie
@@ -21,15 +22,15 @@ cast-result-2 c = search needs
 
 returns : tie.Need-returns
 unfolding endingByte
-returns c = search (needs, told-as)
+returns c = search (needs, by-case endingByte)
 
 returns-2 : tie.Need-returns-2
 unfolding endingByte
-returns-2 c = search (needs, told-as)
+returns-2 c = search (needs, by-case endingByte)
 
 returns-3 : tie.Need-returns-3
 unfolding endingByte
-returns-3 c = search (needs, told-as)
+returns-3 c = search (needs, by-case endingByte)
 
 pub ending-byte-spec : {M : Type 1} → statement M
 ending-byte-spec =

@@ -1,3 +1,4 @@
+-- `finish_report` meets its contract: the first seven of a report's nine numbers are its own (`seven-told`).
 use Rattle.owlgantry.proofs.SessionCalls.{seven-told}
 use borrow.Author.Needs.{needs}
 use Rattle.owlgantry.proofs.answers.finish_report.Statement.{statement}

@@ -1,5 +1,6 @@
+-- `opening_number` meets its contract: an opening is ready or refused, by `by-case`.
 use Rattle.owlgantry.specs.Sessions.{openingNumber}
-use Rattle.owlgantry.proofs.SessionCalls.{told-as}
+use Rattle.owlgantry.proofs.ReportLaws.{by-case}
 use borrow.Author.Needs.{needs}
 use Rattle.owlgantry.proofs.answers.opening_number.Statement.{statement}
 use Rattle.owlgantry.proofs.answers.opening_number.Tie as tie
@@ -18,11 +19,11 @@ cast-result c = search needs
 
 returns : tie.Need-returns
 unfolding openingNumber
-returns c = search (needs, told-as)
+returns c = search (needs, by-case openingNumber)
 
 returns-2 : tie.Need-returns-2
 unfolding openingNumber
-returns-2 c = search (needs, told-as)
+returns-2 c = search (needs, by-case openingNumber)
 
 pub opening-number-spec : {M : Type 1} → statement M
 opening-number-spec =

@@ -1,5 +1,6 @@
+-- `payload_number` meets its contract: each of a feed's four answers, by `by-case`.
 use Rattle.owlgantry.specs.Sessions.{payloadNumber}
-use Rattle.owlgantry.proofs.SessionCalls.{told-as}
+use Rattle.owlgantry.proofs.ReportLaws.{by-case}
 use borrow.Author.Needs.{needs}
 use Rattle.owlgantry.proofs.answers.payload_number.Statement.{statement}
 use Rattle.owlgantry.proofs.answers.payload_number.Tie as tie
@@ -24,19 +25,19 @@ cast-result c = search needs
 
 returns : tie.Need-returns
 unfolding payloadNumber
-returns c = search (needs, told-as)
+returns c = search (needs, by-case payloadNumber)
 
 returns-2 : tie.Need-returns-2
 unfolding payloadNumber
-returns-2 c = search (needs, told-as)
+returns-2 c = search (needs, by-case payloadNumber)
 
 returns-3 : tie.Need-returns-3
 unfolding payloadNumber
-returns-3 c = search (needs, told-as)
+returns-3 c = search (needs, by-case payloadNumber)
 
 returns-4 : tie.Need-returns-4
 unfolding payloadNumber
-returns-4 c = search (needs, told-as)
+returns-4 c = search (needs, by-case payloadNumber)
 
 pub payload-number-spec : {M : Type 1} → statement M
 payload-number-spec =

@@ -1,5 +1,6 @@
+-- `payload_report` meets its contract: each of a feed's four answers, by `by-case`.
 use Rattle.owlgantry.specs.Sessions.{payloadReport}
-use Rattle.owlgantry.proofs.SessionCalls.{told-as}
+use Rattle.owlgantry.proofs.ReportLaws.{by-case}
 use borrow.Author.Needs.{needs}
 use Rattle.owlgantry.proofs.answers.payload_report.Statement.{statement}
 use Rattle.owlgantry.proofs.answers.payload_report.Tie as tie
@@ -21,19 +22,19 @@ enum-told c = search needs
 
 returns : tie.Need-returns
 unfolding payloadReport
-returns c = search (needs, told-as)
+returns c = search (needs, by-case payloadReport)
 
 returns-2 : tie.Need-returns-2
 unfolding payloadReport
-returns-2 c = search (needs, told-as)
+returns-2 c = search (needs, by-case payloadReport)
 
 returns-3 : tie.Need-returns-3
 unfolding payloadReport
-returns-3 c = search (needs, told-as)
+returns-3 c = search (needs, by-case payloadReport)
 
 returns-4 : tie.Need-returns-4
 unfolding payloadReport
-returns-4 c = search (needs, told-as)
+returns-4 c = search (needs, by-case payloadReport)
 
 pub payload-report-spec : {M : Type 1} → statement M
 payload-report-spec =

@@ -1,3 +1,4 @@
+-- `owlgantry_raw_dcs_feed` meets its contract: the feed by value of the session that the memory holds (`dcs-fed`).
 use Rattle.owlgantry.proofs.SessionCalls.{dcs-fed}
 use borrow.Author.Needs.{needs}
 use Rattle.owlgantry.proofs.dcs_session.owlgantry_raw_dcs_feed.Statement.{statement}
@@ -26,7 +27,11 @@ same-length c = search needs
 
 returns : tie.Need-returns
 returns c =
-    dcs-fed _ _ _ _ _ _ _ (c .before .before .before .before .before .before .before .before .before .session-from .ensures) (c .before .before .before .before .before .before .before .feed .ensures) (c .before .before .before .numbers-of .ensures)
+    let stored = c .before .before .before in
+    let painted = stored .before .before .before in
+    let fed = painted .before in
+    let made = fed .before .before in
+    dcs-fed _ _ _ _ _ _ _ (made .session-from .ensures) (fed .feed .ensures) (stored .numbers-of .ensures)
     (c .before .before .table-of .ensures) (c .before .dcs-report .ensures) (c .dcs-number .ensures)
 
 pub owlgantry-raw-dcs-feed-spec : {M : Type 1} → statement M

@@ -1,3 +1,4 @@
+-- `owlgantry_raw_dcs_open` meets its contract: the memory gets the session that `open` made (`dcs-opened`).
 use Rattle.owlgantry.proofs.SessionCalls.{dcs-opened}
 use borrow.Author.Needs.{needs}
 use Rattle.owlgantry.proofs.dcs_session.owlgantry_raw_dcs_open.Statement.{statement}

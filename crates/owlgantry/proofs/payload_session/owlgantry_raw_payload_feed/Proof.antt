@@ -1,3 +1,4 @@
+-- `owlgantry_raw_payload_feed` meets its contract: the feed by value of the session that the memory holds (`payload-fed`).
 use Rattle.owlgantry.proofs.SessionCalls.{payload-fed}
 use borrow.Author.Needs.{needs}
 use Rattle.owlgantry.proofs.payload_session.owlgantry_raw_payload_feed.Statement.{statement}
@@ -26,7 +27,11 @@ same-length c = search needs
 
 returns : tie.Need-returns
 returns c =
-    payload-fed _ _ _ _ _ _ _ (c .before .before .before .before .before .before .before .before .before .session-from .ensures) (c .before .before .before .before .before .before .before .feed .ensures) (c .before .before .before .numbers-of .ensures)
+    let stored = c .before .before .before in
+    let painted = stored .before .before .before in
+    let fed = painted .before in
+    let made = fed .before .before in
+    payload-fed _ _ _ _ _ _ _ (made .session-from .ensures) (fed .feed .ensures) (stored .numbers-of .ensures)
     (c .before .before .table-of .ensures) (c .before .payload-report .ensures) (c .payload-number .ensures)
 
 pub owlgantry-raw-payload-feed-spec : {M : Type 1} → statement M

@@ -1,3 +1,4 @@
+-- `owlgantry_raw_payload_open` meets its contract: the memory gets the session that `open` made (`payload-opened`).
 use Rattle.owlgantry.proofs.SessionCalls.{payload-opened}
 use borrow.Author.Needs.{needs}
 use Rattle.owlgantry.proofs.payload_session.owlgantry_raw_payload_open.Statement.{statement}

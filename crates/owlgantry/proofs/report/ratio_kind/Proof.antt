@@ -1,4 +1,6 @@
-use Rattle.owlgantry.proofs.ReportLaws.{as-numbers}
+-- `ratio_kind` meets its contract: the raster's kind, or that of P1, by `by-case`.
+use Rattle.owlgantry.proofs.ReportLaws.{by-case}
+use Rattle.payload.specs.declared.Ratio.{Ratio}
 use Rattle.payload.specs.Meant.{ratioMeant}
 use Rattle.owlgantry.specs.Reading.{ratioKind}
 use borrow.Author.Needs.{needs}
@@ -16,11 +18,11 @@ given-kind-requires c κs = search needs
 
 returns : tie.Need-returns
 unfolding ratioKind ratioMeant
-returns c = search (needs, as-numbers)
+returns c = search (needs, by-case (λ (x : Ratio). ratioKind (ratioMeant x)))
 
 returns-2 : tie.Need-returns-2
 unfolding ratioKind ratioMeant
-returns-2 c = search (needs, as-numbers)
+returns-2 c = search (needs, by-case (λ (x : Ratio). ratioKind (ratioMeant x)))
 
 pub ratio-kind-spec : {M : Type 1} → statement M
 ratio-kind-spec =

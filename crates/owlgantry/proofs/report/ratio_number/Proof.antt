@@ -1,4 +1,6 @@
-use Rattle.owlgantry.proofs.ReportLaws.{as-numbers}
+-- `ratio_number` meets its contract: the raster's number, or that of P1, by `by-case`.
+use Rattle.owlgantry.proofs.ReportLaws.{by-case}
+use Rattle.payload.specs.declared.Ratio.{Ratio}
 use Rattle.payload.specs.Meant.{ratioMeant}
 use Rattle.owlgantry.specs.Reading.{ratioNumber}
 use borrow.Author.Needs.{needs}
@@ -19,11 +21,11 @@ given-number-requires c κs = search needs
 
 returns : tie.Need-returns
 unfolding ratioNumber ratioMeant
-returns c = search (needs, as-numbers)
+returns c = search (needs, by-case (λ (x : Ratio). ratioNumber (ratioMeant x)))
 
 returns-2 : tie.Need-returns-2
 unfolding ratioNumber ratioMeant
-returns-2 c = search (needs, as-numbers)
+returns-2 c = search (needs, by-case (λ (x : Ratio). ratioNumber (ratioMeant x)))
 
 pub ratio-number-spec : {M : Type 1} → statement M
 ratio-number-spec =

@@ -1,4 +1,5 @@
-use Rattle.owlgantry.proofs.ReportLaws.{as-numbers}
+-- `refusal_number` meets its contract: a finish is a picture or refused (`refusal-as`).
+use Rattle.owlgantry.proofs.ReportLaws.{refusal-as}
 use Rattle.payload.specs.Meant.{finishMeant}
 use Rattle.owlgantry.specs.Reading.{refusalNumber}
 use borrow.Author.Needs.{needs}
@@ -19,11 +20,11 @@ cast-result c = search needs
 
 returns : tie.Need-returns
 unfolding refusalNumber finishMeant
-returns c = search (needs, as-numbers)
+returns c = search (needs, refusal-as)
 
 returns-2 : tie.Need-returns-2
 unfolding refusalNumber finishMeant
-returns-2 c = search (needs, as-numbers)
+returns-2 c = search (needs, refusal-as)
 
 pub refusal-number-spec : {M : Type 1} → statement M
 refusal-number-spec =

@@ -1,3 +1,4 @@
+-- `size_or_number` meets its contract: a size within the house's limits fits the two halves of a number.
 use Rattle.owlgantry.proofs.BenchLaws.{width-fits, height-fits, numbered}
 use borrow.Author.Needs.{needs}
 use native.Mathlib.Omega.{arith}

@@ -1,3 +1,4 @@
+-- `color_from` meets its contract: each of the four bytes is a remainder by 256, and so fits a byte.
 use mathlib.Core.Path.{refl}
 use Rattle.payload.specs.Codes.{colorFrom}
 use borrow.Author.Needs.{needs}

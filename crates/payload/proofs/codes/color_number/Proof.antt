@@ -1,3 +1,4 @@
+-- `color_number` meets its contract: four reads of the pixel, joined.
 use Rattle.payload.specs.Codes.{colorNumber}
 use borrow.Author.Needs.{needs}
 use Rattle.payload.proofs.codes.color_number.Statement.{statement}

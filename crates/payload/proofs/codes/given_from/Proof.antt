@@ -1,3 +1,4 @@
+-- `given_from` meets its contract: a number below 65,536 has 16 bits.
 use Rattle.numbers.proofs.Laws.{tests}
 use Rattle.payload.specs.Codes.{givenFrom}
 use borrow.Author.Needs.{needs}

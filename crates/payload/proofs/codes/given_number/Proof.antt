@@ -1,3 +1,4 @@
+-- `given_number` meets its contract: one case for each kind of parameter.
 use Rattle.payload.specs.Codes.{givenNumber}
 use Rattle.payload.proofs.CodeLaws.{codes-as}
 use borrow.Author.Needs.{needs}

@@ -1,3 +1,4 @@
+-- `kind_from` meets its contract: its tests are the definition's, one after the other.
 use borrow.Author.Needs.{needs}
 use Rattle.numbers.proofs.Laws.{tests}
 use Rattle.payload.specs.Codes.{kindFrom}

@@ -1,3 +1,4 @@
+-- `kind_number` meets its contract: one case for each kind.
 use Rattle.payload.specs.Codes.{kindNumber}
 use Rattle.payload.proofs.CodeLaws.{codes-as}
 use borrow.Author.Needs.{needs}

@@ -1,3 +1,4 @@
+-- `life_from` meets its contract: its tests are the definition's, and a remainder by 256 fits a byte.
 use Rattle.numbers.proofs.Laws.{tests}
 use Rattle.payload.specs.Codes.{lifeFrom}
 use borrow.Author.Needs.{needs}

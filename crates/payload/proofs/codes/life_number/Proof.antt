@@ -1,3 +1,4 @@
+-- `life_number` meets its contract: one case for each life.
 use Rattle.payload.specs.Codes.{lifeNumber}
 use Rattle.payload.proofs.CodeLaws.{codes-as}
 use borrow.Author.Needs.{needs}

@@ -1,3 +1,4 @@
+-- `command_from` meets its contract: eleven reads, nine of them the values.
 use Rattle.payload.proofs.CodeLaws.{read-back}
 use Rattle.payload.specs.Memory.{nineFrom}
 use borrow.Author.Needs.{needs}

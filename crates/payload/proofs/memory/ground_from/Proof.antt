@@ -1,3 +1,4 @@
+-- `ground_from` meets its contract: seven reads, one of them a colour.
 use Rattle.payload.proofs.CodeLaws.{read-back}
 use borrow.Author.Needs.{needs}
 use Rattle.payload.proofs.memory.ground_from.Statement.{statement}

@@ -1,3 +1,4 @@
+-- `numbers_of` meets its contract: the 48 numbers in their order, by one law with the coded ones as variables.
 use Rattle.payload.proofs.CodeLaws.{numbers-told}
 use borrow.Author.Needs.{needs}
 use Rattle.payload.proofs.memory.numbers_of.Statement.{statement}

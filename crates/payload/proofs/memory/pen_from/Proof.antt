@@ -1,3 +1,4 @@
+-- `pen_from` meets its contract: five reads, one of them a colour.
 use Rattle.payload.proofs.CodeLaws.{read-back}
 use borrow.Author.Needs.{needs}
 use Rattle.payload.proofs.memory.pen_from.Statement.{statement}

@@ -1,3 +1,4 @@
+-- `raster_from` meets its contract: three reads, and a remainder by 256 fits a byte.
 use mathlib.Core.Path.{refl}
 use Rattle.payload.specs.Memory.{rasterFrom}
 use borrow.Author.Needs.{needs}

@@ -1,3 +1,4 @@
+-- `session_from` meets its contract: its parts' contracts, put together by one law.
 use Rattle.payload.proofs.CodeLaws.{read-back}
 use borrow.Author.Needs.{needs}
 use Rattle.payload.proofs.memory.session_from.Statement.{statement}
@@ -6,8 +7,11 @@ use Rattle.payload.proofs.memory.session_from.Tie as tie
 pen-from-requires : tie.Need-pen-from-requires
 pen-from-requires c κs = search needs
 
-sheet-from-requires : tie.Need-sheet-from-requires
-sheet-from-requires c κs = search needs
+area-from-requires : tie.Need-area-from-requires
+area-from-requires c κs = search needs
+
+extent-from-requires : tie.Need-extent-from-requires
+extent-from-requires c κs = search needs
 
 raster-from-requires : tie.Need-raster-from-requires
 raster-from-requires c κs = search needs
@@ -18,8 +22,8 @@ command-from-requires c κs = search needs
 ground-from-requires : tie.Need-ground-from-requires
 ground-from-requires c κs = search needs
 
-element-copy-out-t11 : tie.Need-element-copy-out-t11
-element-copy-out-t11 c = search needs
+element-copy-out-t12 : tie.Need-element-copy-out-t12
+element-copy-out-t12 c = search needs
 
 settings-from-requires : tie.Need-settings-from-requires
 settings-from-requires c κs = search needs
@@ -41,11 +45,12 @@ session-from-spec =
     tie.close
     (tie.spec
     pen-from-requires
-    sheet-from-requires
+    area-from-requires
+    extent-from-requires
     raster-from-requires
     command-from-requires
     ground-from-requires
-    element-copy-out-t11
+    element-copy-out-t12
     settings-from-requires
     element-copy-out-life-from
     life-from-requires

@@ -1,3 +1,4 @@
+-- `settings_from` meets its contract: two reads, each a parameter.
 use Rattle.payload.proofs.CodeLaws.{read-back}
 use borrow.Author.Needs.{needs}
 use Rattle.payload.proofs.memory.settings_from.Statement.{statement}

@@ -1,3 +1,4 @@
+-- `table_of` meets its contract: the palette's table.
 use Rattle.payload.proofs.CodeLaws.{table-of}
 use borrow.Author.Needs.{needs}
 use Rattle.payload.proofs.memory.table_of.Statement.{statement}

@@ -1,0 +1,5 @@
+pub mod RunSteps
+pub mod BlendLaws
+pub mod RunLaws
+pub mod ArgumentLaws
+pub mod AdvanceLaws

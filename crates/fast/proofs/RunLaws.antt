@@ -1,0 +1,171 @@
+-- Laws of a run: one for each path through a function of `run`, and that a run leads where its sixels lead one by one.
+use Prim.Native.Nat.{ℕ, zero, suc, _+_, _-_, _*_, _≤_, _<_}
+use mathlib.Core.Bool.{Bool, true, false, cond}
+use mathlib.Core.List.{List, []}
+use mathlib.Core.Path.{_≡_, refl, sym, ap, ap₂, _∙_, subst}
+use native.Mathlib.Nat.{add-zero, not-suc-le-zero}
+use native.Mathlib.Numerals.{add-one}
+use native.Mathlib.Omega.{arith}
+use borrow.Author.Tests.{eq-eqb, ne-eqb}
+use lib.Count.{ones}
+use lib.Dec.{eqb}
+use lib.ListN.{length, getD}
+use Rattle.numbers.specs.Bytes.{sixel}
+use Rattle.numbers.proofs.Laws.{cond-yes, cond-no}
+use Rattle.colours.specs.declared.Palette.{Palette}
+use Rattle.canvas.specs.Picture.{rowsOf}
+use Rattle.canvas.specs.Paint.{sixelPainted}
+use Rattle.canvas.proofs.Covers.{by-test, split}
+use Rattle.canvas.proofs.Grid.{rows-room}
+use Rattle.frame.specs.declared.Frame.{Frame}
+use Rattle.frame.specs.declared.Ground.{Ground}
+use Rattle.frame.specs.declared.Kind.the-variants as kinds
+use Rattle.fast.specs.declared.Advance.{Advance}
+use Rattle.frame.specs.declared.sizes.Needed.{Needed}
+use Rattle.frame.specs.declared.sizes.Needed.the-variants as needs
+use Rattle.frame.specs.Sizes.{sixelArea}
+use Rattle.frame.specs.Commands.{withRepeat}
+use Rattle.reference.specs.Step.{Fits, Holds, areaGrown, penAfter, extentAfter, inked}
+use Rattle.fast.specs.Argument.{onwards}
+use Rattle.fast.specs.Advance.{advanceTo, afterAdvance, Advances}
+use Rattle.fast.specs.Run.{Sixels, planned, runInk, runPainted, runAdvance, runCanvas}
+use Rattle.frame.proofs.SizeLaws.{sixel-reach}
+use Rattle.reference.proofs.StepLaws.{needed-holds, held-room, sixel-room}
+use Rattle.reference.proofs.FeedLaws.{Going}
+use Rattle.fast.proofs.RunSteps.{ink-few, going-as, wide, high, ranFrame, ranCanvas, run-going}
+
+-- ---- a run that was painted
+
+pub going-here : (g : Ground) (allowance : ℕ) (bytes : List ℕ) (p : Palette) (l : List ℕ) (f : Frame) (i spent : ℕ) → i ≤ length bytes
+    → spent ≤ allowance → Fits f g (length l) → Going g allowance bytes (onwards g allowance bytes i spent f p l) (length l) p l f i spent
+going-here g allowance bytes p l f i spent within few fits =
+    record { same = refl; within = within; spent = few; fits = fits; long = refl }
+
+-- while no command is pending and no repeat was given
+module _ (f : Frame) (g : Ground) (bytes : List ℕ) (i : ℕ) (l : List ℕ) (p : Palette) (fits : Fits f g (length l))
+    (none : f .command .kind ≡ kinds.Data) (once : f .pen .repeat ≡ 1) where
+  run-after : (n w h : ℕ) → Sixels bytes i (i + n) → 1 ≤ n → sixelArea (withRepeat (f .pen) n) (f .area) g ≡ needs.Area w h
+      → (allowance spent : ℕ) → spent + 6 * n ≤ allowance
+      → Going g allowance bytes (onwards g allowance bytes i spent f p l) (length l) p (runCanvas (planned f n) g w h bytes i l)
+      (inked (planned f n) (runInk bytes i n) w h)
+      (i + n)
+      (spent + runInk bytes i n)
+  unfolding planned withRepeat runCanvas ranCanvas ranFrame areaGrown
+  run-after zero w h s some area allowance spent enough = absurd (not-suc-le-zero some)
+  run-after (suc n) w h s some area allowance spent enough =
+      let reach = sixel-reach (withRepeat (f .pen) (suc n)) (f .area) g w h area in
+      let here = going-here g allowance bytes p l f i spent (omega (arith, s .within)) (omega arith) fits in
+      going-as (sym (ap₂ (λ (x y : ℕ). runCanvas (planned f (suc n)) g x y bytes i l) (reach .0) (reach .1)))
+      (sym (ap₂ (λ (x y : ℕ). inked (planned f (suc n)) (runInk bytes i (suc n)) x y) (reach .0) (reach .1)))
+      refl
+      refl
+      (run-going here (suc n) none once s enough area n (omega arith))
+
+  run-advances : (n w h left : ℕ) → Sixels bytes i (i + n) → 1 ≤ n → sixelArea (withRepeat (f .pen) n) (f .area) g ≡ needs.Area w h → 6 * n ≤ left
+      → Advances g bytes i left f p l (runAdvance (planned f n) w h bytes i) p (runCanvas (planned f n) g w h bytes i l)
+  unfolding planned withRepeat runAdvance advanceTo afterAdvance inked
+  run-advances n w h left s some area enough =
+      record {
+        onward = omega arith;
+        within = s .within;
+        ink = omega (arith, ink-few bytes i n s);
+        fits = run-after n w h s some area (6 * n) 0 (omega arith) .fits;
+        same = λ allowance spent few. run-after n w h s some area allowance spent (omega arith) .same;
+      }
+
+-- the same of the frame that was planned
+module _ {x : Needed} {whole : Frame} (f : Frame) (g : Ground) (bytes : List ℕ) (i n w h room : ℕ) (plan : whole ≡ planned f n)
+    (fits : Fits f g room) (s : Sixels bytes i (i + n)) (needed : x ≡ sixelArea (whole .pen) (whole .area) g) (area : x ≡ needs.Area w h) where
+  planned-area : sixelArea (planned f n .pen) (planned f n .area) g ≡ needs.Area w h
+  planned-area = ap (λ (y : Frame). sixelArea (y .pen) (y .area) g) (sym plan) ∙ sym needed ∙ area
+
+  pub planned-holds : Fits whole g room × Holds whole g w h × Sixels bytes i (i + whole .pen .repeat)
+  unfolding planned withRepeat
+  planned-holds =
+      let same : Fits (planned f n) g room = record { rows = fits .rows; width = fits .width; height = fits .height } in
+      let both = needed-holds (planned f n) g room w h same refl planned-area in
+      subst (λ (y : Frame). Fits y g room × Holds y g w h × Sixels bytes i (i + y .pen .repeat)) (sym plan) (both .0, both .1, s)
+
+pub painted-advances : {x : Needed} {whole : Frame} {l l′ : List ℕ} {r : Advance} (f : Frame) (g : Ground) (bytes : List ℕ) (i n w h : ℕ)
+    → whole ≡ planned f n → Fits f g (length l) → f .command .kind ≡ kinds.Data → f .pen .repeat ≡ 1 → Sixels bytes i (i + n) → 1 ≤ n
+    → x ≡ sixelArea (whole .pen) (whole .area) g → x ≡ needs.Area w h
+    → (r ≡ runAdvance whole w h bytes i) × (l′ ≡ runCanvas whole g w h bytes i l)
+    → (p : Palette) (left : ℕ) → 6 * n ≤ left → Advances g bytes i left f p l r p l′
+unfolding planned
+painted-advances {l = l} f g bytes i n w h plan fits none once s some needed area done p left enough =
+    let room = planned-area f g bytes i n w h (length l) plan fits s needed area in
+    rw (done .0, done .1, plan) (run-advances f g bytes i l p fits none once n w h left s some room enough)
+
+-- nothing was taken
+pub nothing-advances : {r : Advance} (f : Frame) (g : Ground) (bytes : List ℕ) (i left : ℕ) (p : Palette) (l : List ℕ) → Fits f g (length l)
+    → i ≤ length bytes → r ≡ advanceTo f false i 0 → Advances g bytes i left f p l r p l
+unfolding afterAdvance advanceTo
+nothing-advances f g bytes i left p l fits within e =
+    rw e
+    (record {
+      onward = omega arith;
+      within = within;
+      ink = omega arith;
+      fits = record { rows = fits .rows; width = fits .width; height = fits .height };
+      same = λ allowance spent few. rw (add-zero spent);
+    })
+
+-- ---- the paths through a run's functions
+
+pub mark-none : (ink : ℕ) → ink ≡ 0 → _≡_ {A = ℕ} 0 (cond (eqb ink 0) 0 1)
+mark-none ink e = sym (cond-yes _ _ (eq-eqb _ _ e))
+
+pub mark-some : (ink : ℕ) → (ink ≡ 0 → ⊥) → _≡_ {A = ℕ} 1 (cond (eqb ink 0) 0 1)
+mark-some ink n = sym (cond-no _ _ (ne-eqb _ _ n))
+
+pub sixels-none : (bytes : List ℕ) (i : ℕ) → i ≤ length bytes → Sixels bytes i (i + 0)
+sixels-none bytes i h = record { within = omega arith; each = λ k h₁ h₂. absurd (let z : k < k = omega arith in omega (arith, z)) }
+
+pub sixels-more : {t : Bool} (bytes : List ℕ) (i n : ℕ) → Sixels bytes i (i + n) → i + n < length bytes → t ≡ sixel (getD bytes (i + n) 0) → t ≡ true
+    → Sixels bytes i (i + (n + 1))
+sixels-more bytes i n s more e t =
+    record {
+      within = omega arith;
+      each = λ k h₁ h₂. split k (i + n) (λ below. s .each k h₁ below)
+          (λ above. let here : k ≡ i + n = omega arith in ap (λ (j : ℕ). sixel (getD bytes j 0)) here ∙ sym e ∙ t);
+    }
+
+-- one sixel more
+pub ink-more : (bytes : List ℕ) (i n : ℕ) → runInk bytes i n + ones (getD bytes (i + n) 0 - 63) ≡ runInk bytes i (n + 1)
+unfolding runInk
+ink-more bytes i n = rw (add-one n)
+
+pub painted-more : (stride column row : ℕ) (px bytes : List ℕ) (i n : ℕ) (l : List ℕ)
+    → sixelPainted stride (column + n) row 1 (getD bytes (i + n) 0 - 63) px (runPainted stride column row px bytes i n l)
+    ≡ runPainted stride column row px bytes i (n + 1) l
+unfolding runPainted
+painted-more stride column row px bytes i n l = rw (add-one n)
+
+-- the ink of a run that has room is at most the canvas's bytes
+pub ink-room : (stride column row room : ℕ) (bytes : List ℕ) (i n count : ℕ) → Sixels bytes i (i + count) → n < count → column + count ≤ stride
+    → row + 6 ≤ rowsOf room stride
+    → runInk bytes i n + 6 ≤ room
+ink-room stride column row room bytes i n count s more columns rows =
+    let part : Sixels bytes i (i + n) = record { within = omega (arith, s .within); each = λ k h₁ h₂. s .each k h₁ (omega arith) } in
+    let six : 6 ≤ rowsOf room stride = omega arith in
+    omega (arith, ink-few bytes i n part, rows-room room stride 6 six)
+
+-- the frame after a run, by its mark
+inked-mark : (f : Frame) (ink w h : ℕ) → inked f (cond (eqb ink 0) 0 1) w h ≡ inked f ink w h
+unfolding inked extentAfter
+inked-mark f ink w h = by-test (eqb ink 0) (λ t. rw t) (λ t. rw t)
+
+pub painted-as : {next : Frame} {r : Advance} {l₁ l₂ : List ℕ} {m ink : ℕ} (f : Frame) (g : Ground) (w h : ℕ) (bytes : List ℕ) (i : ℕ) (l : List ℕ)
+    → l₁ ≡ areaGrown f g w h l
+    → (ink ≡ runInk bytes i (f .pen .repeat))
+    × (l₂ ≡ runPainted (g .stride) (f .pen .column) (f .pen .row) (f .pen .color) bytes i (f .pen .repeat) l₁)
+    → m ≡ cond (eqb ink 0) 0 1 → next ≡ inked f m w h → r ≡ advanceTo next false (i + f .pen .repeat) ink
+    → (r ≡ runAdvance f w h bytes i) × (l₂ ≡ runCanvas f g w h bytes i l)
+unfolding runAdvance runCanvas
+painted-as {ink = ink} f g w h bytes i l e₁ e₂ e₃ e₄ e₅ =
+    let after = e₄ ∙ ap (λ (x : ℕ). inked f x w h) e₃ ∙ inked-mark f ink w h ∙ ap (λ (x : ℕ). inked f x w h) (e₂ .0) in (
+      e₅ ∙ ap₂ (λ (x : Frame) (y : ℕ). advanceTo x false (i + f .pen .repeat) y) after (e₂ .0),
+      e₂ .1 ∙ ap (runPainted (g .stride) (f .pen .column) (f .pen .row) (f .pen .color) bytes i (f .pen .repeat)) e₁,
+    )
+
+pub ruleset marks = (mark-none, mark-some)

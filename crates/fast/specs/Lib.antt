@@ -1,0 +1,4 @@
+pub mod Argument
+pub mod Advance
+pub mod Run
+pub mod Blend

@@ -1,0 +1,241 @@
+// The fast machine: some bytes at once, while no command is pending. A run of sixels, one repeated sixel, a colour or a repeat with
+// the whole of its argument, `$` or `-`. What the reference machine refuses, stops for or leaves unread is left to it.
+mod argument;
+mod run;
+
+ghost use mathlib.Core.Path.{_≡_};
+ghost use Prim.Native.Nat.{ℕ, _+_, _<_};
+ghost use mathlib.Core.List.{List};
+ghost use lib.ListN.{length, getD};
+ghost use mathlib.Core.Bool.{true, false};
+ghost use Rattle.numbers.specs.Bytes.{sixel, bang, hash};
+ghost use Rattle.colours.specs.Palette.{ofTable};
+ghost use Rattle.colours.specs.declared.Palette.{Palette};
+ghost use Rattle.frame.specs.declared.Ground.{Ground};
+ghost use Rattle.frame.specs.declared.Kind.the-variants as kinds;
+ghost use Rattle.frame.specs.declared.sizes.Needed.the-variants.{Area};
+ghost use Rattle.frame.specs.Sizes.{sixelArea};
+ghost use Rattle.reference.specs.Step.{Fits, Holds, movedTo};
+ghost use Rattle.fast.specs.Advance.{advanceTo, selectedTo, Advances};
+use argument::last_number;
+use argument::read_definition;
+use frame::Extent;
+use frame::Frame;
+use frame::Ground;
+use frame::Pen;
+use frame::VisibleArea;
+use frame::commands::define;
+use frame::commands::register_at;
+use frame::sizes::Needed;
+use frame::sizes::larger;
+use frame::sizes::sixel_area;
+use reference::after_sixel;
+use reference::grow;
+use reference::row_below;
+use run::read_run;
+
+// What some bytes change of a frame, whether a command was read, the place after them, and their ink. An advance that ends where it
+// began took nothing. All of it is numbers, so that the loop has no frame to copy.
+pub struct Advance {
+    pub pen: Pen,
+    pub area: VisibleArea,
+    pub extent: Extent,
+    pub settled: bool,
+    pub end: usize,
+    pub ink: usize,
+}
+
+// To a frame, whose command was read or not.
+fn advance_to(frame: Frame, settled: bool, end: usize, ink: usize) -> Advance
+    ensures { λ r. ⌜ r ≡ advanceTo frame settled end ink ⌝ }
+{
+    let pen = frame.pen;
+    let area = frame.area;
+    let extent = frame.extent;
+    Advance {
+        pen,
+        area,
+        extent,
+        settled,
+        end,
+        ink,
+    }
+}
+
+// No byte is taken: the next is the reference machine's.
+pub fn nothing(frame: Frame, from: usize) -> Advance
+    ensures { λ r. ⌜ r ≡ advanceTo frame false from 0 ⌝ }
+{
+    advance_to(frame, false, from, 0)
+}
+
+fn selected(frame: Frame, colors: &[u32; 256], value: u32, end: usize) -> Advance
+    ensures { λ r. ⌜ r ≡ selectedTo frame (ofTable (now (colors .entry))) value end ⌝ }
+{
+    let register = register_at(value);
+    let color = colours::rgb_bytes(colors, register);
+    let mut pen = frame.pen;
+    pen.register = register;
+    pen.color = color;
+    let mut next = frame;
+    next.pen = pen;
+    advance_to(next, true, end, 0)
+}
+
+// A colour command.
+fn read_color(frame: Frame, colors: &mut [u32; 256], bytes: &[u8], from: usize) -> Advance
+    requires { ⌜ (frame .command .kind ≡ kinds.Data) × (from < length (now bytes)) × (getD (now bytes) from 0 ≡ hash) ⌝ }
+    ensures { λ r. ⌜ ((g : Ground) (l : List ℕ) (left : ℕ) → Fits frame g (length l)
+        → Advances g (now (bytes .entry)) from left frame (ofTable (now (colors .entry))) l r (ofTable (now (colors .exit))) l) ⌝ }
+{
+    let only = last_number(bytes, from + 1);
+    if 0 < only.end {
+        return selected(frame, colors, only.value, only.end);
+    }
+    let whole = read_definition(bytes, from + 1);
+    if 0 < whole.end {
+        define(
+            colors,
+            register_at(whole.first),
+            whole.space,
+            whole.x,
+            whole.y,
+            whole.z,
+        );
+        return selected(frame, colors, whole.first, whole.end);
+    }
+    nothing(frame, from)
+}
+
+// A repeat command.
+fn read_repeat(frame: Frame, ground: Ground, bytes: &[u8], from: usize) -> Advance
+    requires { ⌜ (frame .command .kind ≡ kinds.Data) × (from < length (now bytes)) × (getD (now bytes) from 0 ≡ bang) ⌝ }
+    ensures { λ r. ⌜ ((p : Palette) (l : List ℕ) (left : ℕ) → Fits frame ground (length l)
+        → Advances ground (now (bytes .entry)) from left frame p l r p l) ⌝ }
+{
+    let number = last_number(bytes, from + 1);
+    if number.end == 0 {
+        return nothing(frame, from);
+    }
+    let count = number.value as usize;
+    if ground.limits.repeats < count {
+        return nothing(frame, from);
+    }
+    let repeat = larger(1, count);
+    let mut next = frame;
+    next.pen.repeat = repeat;
+    advance_to(next, true, number.end, 0)
+}
+
+// `$` and `-`.
+fn move_to(frame: Frame, row: usize, from: usize) -> Advance
+    requires { ⌜ from + 1 < 18446744073709551616 ⌝ }
+    ensures { λ r. ⌜ r ≡ advanceTo (movedTo frame row) false (from + 1) 0 ⌝ }
+{
+    let mut next = frame;
+    next.pen.column = 0;
+    next.pen.row = row;
+    advance_to(next, false, from + 1, 0)
+}
+
+// Paints one sixel on an area that holds it, unless its ink exceeds what is left. The reference machine has the same, called from
+// there alone, so that the compiler can inline each into its own loop.
+fn paint_repeated(
+    frame: Frame,
+    ground: Ground,
+    canvas: &mut [u8],
+    bytes: &[u8],
+    from: usize,
+    left: usize,
+    width: usize,
+    height: usize,
+) -> Advance
+    requires { ⌜ Fits frame ground (length (now canvas)) × Holds frame ground width height
+        × (frame .command .kind ≡ kinds.Data) × (from < length (now bytes)) × (sixel (getD (now bytes) from 0) ≡ true)
+        × (sixelArea (frame .pen) (frame .area) ground ≡ Area width height) ⌝ }
+    ensures { λ r. ⌜ ((p : Palette)
+        → Advances ground (now (bytes .entry)) from left frame p (now (canvas .entry)) r p (now (canvas .exit))) ⌝ }
+{
+    let bits = bytes[from] - 63;
+    let ones = u32::count_ones(bits as u32) as usize;
+    let ink = ones * frame.pen.repeat;
+    if left < ink {
+        return nothing(frame, from);
+    }
+    grow(frame, ground, canvas, width, height);
+    let color = frame.pen.color;
+    canvas::paint_sixel(
+        canvas,
+        ground.stride,
+        frame.pen.column,
+        frame.pen.row,
+        frame.pen.repeat,
+        bits,
+        color,
+    );
+    advance_to(
+        after_sixel(frame, bits, width, height),
+        false,
+        from + 1,
+        ink,
+    )
+}
+
+// One sixel, repeated or not.
+fn read_repeated(
+    frame: Frame,
+    ground: Ground,
+    canvas: &mut [u8],
+    bytes: &[u8],
+    from: usize,
+    left: usize,
+) -> Advance
+    requires { ⌜ Fits frame ground (length (now canvas)) × (frame .command .kind ≡ kinds.Data) × (from < length (now bytes))
+        × (sixel (getD (now bytes) from 0) ≡ true) ⌝ }
+    ensures { λ r. ⌜ ((p : Palette)
+        → Advances ground (now (bytes .entry)) from left frame p (now (canvas .entry)) r p (now (canvas .exit))) ⌝ }
+{
+    match sixel_area(frame, ground) {
+        Needed::Area { width, height } => {
+            paint_repeated(frame, ground, canvas, bytes, from, left, width, height)
+        }
+        Needed::Refused(_) => nothing(frame, from),
+    }
+}
+
+// What stands at a place.
+// Inner: asks that the visible area has room on the canvas, that no command is pending, and that the place is among the bytes.
+pub fn read_ahead(
+    frame: Frame,
+    ground: Ground,
+    colors: &mut [u32; 256],
+    canvas: &mut [u8],
+    bytes: &[u8],
+    from: usize,
+    left: usize,
+) -> Advance
+    requires { ⌜ Fits frame ground (length (now canvas)) × (frame .command .kind ≡ kinds.Data) × (from < length (now bytes)) ⌝ }
+    ensures { λ r. ⌜ Advances ground (now (bytes .entry)) from left frame (ofTable (now (colors .entry))) (now (canvas .entry))
+        r (ofTable (now (colors .exit))) (now (canvas .exit)) ⌝ }
+{
+    let byte = bytes[from];
+    if numbers::is_sixel(byte) {
+        if frame.pen.repeat == 1 {
+            return read_run(frame, ground, canvas, bytes, from, left);
+        }
+        return read_repeated(frame, ground, canvas, bytes, from, left);
+    }
+    if byte == b'#' {
+        return read_color(frame, colors, bytes, from);
+    }
+    if byte == b'!' {
+        return read_repeat(frame, ground, bytes, from);
+    }
+    if byte == b'$' {
+        return move_to(frame, frame.pen.row, from);
+    }
+    if byte == b'-' {
+        return move_to(frame, row_below(frame.pen.row), from);
+    }
+    nothing(frame, from)
+}

@@ -1,4 +1,0 @@
-pub mod RunSteps
-pub mod RunLaws
-pub mod ArgumentLaws
-pub mod LeapLaws
