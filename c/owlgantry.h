@@ -21,7 +21,7 @@
 #include <stdint.h>
 
 /* The version that the file VERSION names; CHANGELOG.md says what it brings. */
-#define OWLGANTRY_VERSION "0.4.1"
+#define OWLGANTRY_VERSION "0.5.0"
 
 #if SIZE_MAX != UINT64_MAX
 #error "the reader is made for machines whose size_t has 64 bits"
@@ -34,9 +34,9 @@ extern "C" {
 #define OWLGANTRY_REGISTERS 256
 #define OWLGANTRY_SESSION_NUMBERS 48
 
-/* What every function answers but the palette's and the benchmark's (rule 5.1; in which order, rules 5.2 and 5.3). A
- * feed that is refused by 1 to 7 fails the session, by 9, 12 or 13 it leaves the session as it was. The palette stays as
- * it was, and the canvas shows what was read before the refused byte or command (rule 5.6). */
+/* What every function answers but the palette's (rule 5.1; in which order, rules 5.2 and 5.3). A feed that is refused by
+ * 1 to 7 fails the session, by 9, 12 or 13 it leaves the session as it was. The palette stays as it was, and the canvas
+ * shows what was read before the refused byte or command (rule 5.6). */
 enum owlgantry_refusal {
     OWLGANTRY_DONE = 0,          /* no refusal */
     OWLGANTRY_INTRODUCER = 1,    /* DCS: does not begin with 90, or with 1B and `P` */
@@ -141,11 +141,6 @@ uint64_t owlgantry_raw_dcs_feed(uint64_t session[OWLGANTRY_SESSION_NUMBERS], uin
 uint64_t owlgantry_raw_dcs_finish(uint64_t session[OWLGANTRY_SESSION_NUMBERS],
                                   const uint32_t registers[OWLGANTRY_REGISTERS], uint8_t *canvas, size_t canvas_length,
                                   uint32_t palette[OWLGANTRY_REGISTERS], uint64_t report[7]);
-
-/* Reads a payload under the house's limits with the standard palette, in pieces of `chunk` bytes (0: all at once).
- * Answers width x 2^32 + height, or the refusal's number. Made to be timed. */
-uint64_t sixbench_decode(uint8_t *canvas, size_t canvas_length, size_t stride, const uint8_t *bytes,
-                         size_t bytes_length, size_t chunk);
 
 #ifdef __cplusplus
 }

@@ -63,10 +63,6 @@ static void check_nulls(void) {
          OWLGANTRY_OPENING);
     same(name, "nothing to read", owlgantry_read(house, canvas, NULL, 0, palette, &picture, &part), 0);
     same(name, "the picture of nothing", picture.width * picture.height, 1);
-    same(name, "no payload", sixbench_decode(canvas.bytes, canvas.length, 1, NULL, 0, 0), ((uint64_t)1 << 32) + 1);
-    same(name, "no canvas", sixbench_decode(NULL, 0, 1, NULL, 0, 0), OWLGANTRY_OPENING);
-    same(name, "a payload", sixbench_decode(canvas.bytes, canvas.length, 1, (const uint8_t *)"~", 1, 1),
-         ((uint64_t)1 << 32) + 6);
 }
 
 static void check_reading(const char *bytes, uint64_t answer, size_t place) {

@@ -2,6 +2,7 @@
 use crate::canvas::Canvas;
 use crate::ffi::{self, Registers};
 use crate::picture::Picture;
+use crate::timing::sixbench_decode;
 use owlgantry::Limits;
 
 /// The house's largest picture, for which the lent canvas has room.
@@ -54,8 +55,7 @@ impl Lent {
     pub fn decode(&mut self, payload: &[u8], piece: usize) -> Size {
         let (canvas, length) = (self.canvas.as_mut_ptr(), self.canvas.len());
         // SAFETY: canvas and payload have their slices' lengths, and the canvas is exclusive.
-        let answer =
-            unsafe { ffi::sixbench_decode(canvas, length, self.stride, payload.as_ptr(), payload.len(), piece) };
+        let answer = unsafe { sixbench_decode(canvas, length, self.stride, payload.as_ptr(), payload.len(), piece) };
         assert!(answer >= 1 << 32, "refused {answer}");
         ((answer >> 32) as usize, (answer & 0xffff_ffff) as usize)
     }

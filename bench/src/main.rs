@@ -14,6 +14,7 @@ mod readers;
 mod sessions;
 mod table;
 mod tables;
+mod timing;
 
 use exports::{ROWS, STRIDE};
 use tables::Run;

@@ -5,6 +5,8 @@
 //! to; the types of the functions below see to both.
 use crate::ffi::{self, Numbers, Registers};
 use crate::Limits;
+use std::alloc::{alloc_zeroed, Layout};
+use std::mem::MaybeUninit;
 
 /// A session's memory.
 #[derive(Clone)]
@@ -17,11 +19,23 @@ impl Memory {
     const FAILED: Self = Self { numbers: [0; ffi::SESSION_NUMBERS], registers: [0; ffi::REGISTERS] };
 }
 
+/// So many zeros, more than none, where memory for them can be had. Only the allocator knows which memory is zeros already:
+/// a large canvas is not written to before the picture is.
+pub fn zeros(length: usize) -> Option<Vec<u8>> {
+    let layout = Layout::array::<u8>(length).ok().filter(|layout| layout.size() > 0)?;
+    // SAFETY: the layout's size is not 0.
+    let start = unsafe { alloc_zeroed(layout) };
+    // SAFETY: the block is the vector's allocator's, is not null, and has just that layout; all its bytes are 0.
+    (!start.is_null()).then(|| unsafe { Vec::from_raw_parts(start, length, length) })
+}
+
 pub fn standard_palette() -> Registers {
-    let mut out = [0; ffi::REGISTERS];
-    // SAFETY: `out` is 256 numbers and exclusive.
-    unsafe { ffi::owlgantry_raw_standard_palette(&mut out) };
-    out
+    let mut out = MaybeUninit::<Registers>::uninit();
+    // SAFETY: `out` is 256 numbers and exclusive, and the call writes each of them.
+    unsafe {
+        ffi::owlgantry_raw_standard_palette(out.as_mut_ptr());
+        out.assume_init()
+    }
 }
 
 pub fn read(

@@ -1,15 +1,23 @@
 use crate::room::Room;
+use crate::stream::Session;
 use crate::{
-    read, DcsSettings, Limits, Palette, Reading, Result, SixelDcsStreamDecoder, SixelImage, SixelStreamDecoder,
+    look, read, DcsSettings, Limits, Palette, PayloadSession, Reading, Result, SixelDcsStreamDecoder, SixelImage,
+    SixelStreamDecoder,
 };
 
 /// Owns limits and a palette, and decodes pictures one after another.
 ///
-/// What is allocated: where the limits allow at most 1,048,576 pixels (width x height), a canvas of that size, from the
-/// start. Else a canvas of 64 x 6 pixels, whose width and height double as the picture needs it; so it comes to less than
-/// twice as many pixels as the limits allow. A picture that outgrows its canvas is read again from its first byte on the
-/// larger one, and so a streaming decoder buffers the bytes that it has read. The finished picture is copied into the
-/// image. A canvas that can't be had is [`SixelError::OutOfMemory`](crate::SixelError::OutOfMemory).
+/// What is allocated: a canvas, which becomes the image. A picture that outgrows it is read again from its first byte on a
+/// larger one. No canvas has twice as many pixels as the limits allow, but for a first one of 64 x 6. A canvas that can't be
+/// had is [`SixelError::OutOfMemory`](crate::SixelError::OutOfMemory).
+///
+/// - [`Self::decode`] and [`Self::decode_from_dcs`] have all bytes before them and look ahead: at the raster where one
+///   stands before the sixels, else at the first bands and how many there are. So nearly every picture is allocated once,
+///   in its own size. Where the look was too small, a second one goes through every command.
+/// - A streaming decoder starts with a canvas of the limits' size where they allow at most 1,048,576 pixels (width x
+///   height). Else it starts with 64 x 6. A picture that outgrows this gets the size that its bytes up to there need, and
+///   at least twice the width or four times the height, whichever was too small. For that the bytes that it has read are
+///   buffered. Its finish moves the rows together and gives back what is left of the canvas.
 ///
 /// [`Self::decode_onto`] allocates nothing.
 #[derive(Clone, Debug)]
@@ -57,25 +65,24 @@ impl SixelDecoder {
 
     /// Reads a DCS sequence, wherever it stands in the bytes; bytes without an introducer are a payload.
     pub fn decode(&mut self, data: &[u8]) -> Result<SixelImage> {
-        let mut room = Room::new(self.limits)?;
-        let mut after = self.palette.clone();
-        // The caller's limits are judged first: the room's are never wider.
-        read(self.limits, room.stride(), room.canvas(), b"", &mut after).picture?;
-        let (limits, stride) = (room.limits(), room.stride());
-        let first = read(limits, stride, room.canvas(), data, &mut after).picture;
-        let picture = first.or_else(|refusal| {
-            room.retry(refusal, |limits, stride, canvas| read(limits, stride, canvas, data, &mut after).picture)
-        })?;
-        let image = room.image(picture)?;
-        self.palette = after;
-        Ok(image)
+        let Self { limits, palette } = self;
+        let payload = look::after_header(data);
+        let mut room = Room::for_payload(*limits, payload)?;
+        let picture =
+            room.read(payload, |limits, stride, canvas| read(limits, stride, canvas, data, palette).picture)?;
+        Ok(room.image(picture))
     }
 
     /// Reads a payload whose header was read by somebody else.
     pub fn decode_from_dcs(&mut self, payload: &[u8], settings: DcsSettings) -> Result<SixelImage> {
-        let mut frame = self.begin_frame(settings)?;
-        let _ = frame.feed(payload)?;
-        frame.finish()
+        let Self { limits, palette } = self;
+        let mut room = Room::for_payload(*limits, payload)?;
+        let picture = room.read(payload, |limits, stride, canvas| {
+            let mut session = PayloadSession::open(limits, stride, settings, canvas, palette)?;
+            let _ = session.feed_all(canvas, payload)?;
+            session.finish(canvas, palette)
+        })?;
+        Ok(room.image(picture))
     }
 
     /// Reads as [`Self::decode`] does, onto a canvas that is lent, and allocates nothing.

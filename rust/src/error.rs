@@ -57,12 +57,20 @@ impl Refusal {
         self as u8
     }
 
-    /// A call's answer: 0 is none.
+    /// A call's answer: 0 is none. A feed may be of one byte, and so nothing is searched then.
+    #[inline]
     pub(crate) fn judge(answer: u64) -> std::result::Result<(), Self> {
+        if answer == 0 {
+            return Ok(());
+        }
+        Err(Self::numbered(answer))
+    }
+
+    #[cold]
+    fn numbered(answer: u64) -> Self {
         match Self::ALL.into_iter().find(|refusal| u64::from(refusal.number()) == answer) {
-            None if answer == 0 => Ok(()),
+            Some(refusal) => refusal,
             None => unreachable!("the reader answers 0 to 14, not {answer}"),
-            Some(refusal) => Err(refusal),
         }
     }
 
@@ -101,7 +109,7 @@ pub enum SixelError {
     NoSixelData,
     /// Any other refusal.
     InvalidData(Refusal),
-    /// The canvas, the kept bytes or the image can't be allocated.
+    /// The canvas or the kept bytes can't be allocated.
     OutOfMemory,
 }
 

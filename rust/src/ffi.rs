@@ -95,12 +95,4 @@ extern "C" {
         palette: *mut Registers,
         report: *mut [u64; 7],
     ) -> u64;
-    pub fn sixbench_decode(
-        canvas: *mut u8,
-        canvas_length: usize,
-        stride: usize,
-        bytes: *const u8,
-        bytes_length: usize,
-        chunk: usize,
-    ) -> u64;
 }

@@ -8,7 +8,8 @@
 //!   at an allowance, and allocate nothing.
 //!
 //! Both answer a refusal with the number that [`Refusal`] lists. What the reader answers and paints is proved; this crate
-//! around it is plain Rust and tested. Its unsafe code is one module of FFI calls: slices become pointers and lengths.
+//! around it is plain Rust and tested. Its unsafe code is one module: FFI calls, where slices become pointers and lengths,
+//! and the zeros of a new canvas.
 //!
 //! ```
 //! let mut decoder = owlgantry::SixelDecoder::new();
@@ -28,6 +29,7 @@ mod ffi;
 mod frames;
 mod image;
 mod limits;
+mod look;
 mod palette;
 mod room;
 mod session;

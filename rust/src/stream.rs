@@ -1,8 +1,8 @@
 //! A session on a canvas of its own.
 use crate::room::Room;
 use crate::{
-    DcsSession, DcsSettings, DcsStatus, Fed, Limits, Palette, PayloadSession, PayloadStatus, Picture, Refusal, Result,
-    SixelError, SixelImage,
+    look, DcsSession, DcsSettings, DcsStatus, Fed, Limits, Palette, PayloadSession, PayloadStatus, Picture, Refusal,
+    Result, SixelError, SixelImage,
 };
 
 type Judged<T> = std::result::Result<T, Refusal>;
@@ -20,6 +20,8 @@ pub trait Session: Sized {
     /// Whether it stopped for ink, and what it did.
     fn feed_some(&mut self, canvas: &mut [u8], bytes: &[u8]) -> Judged<(bool, Fed<Self::Status>)>;
     fn end(self, canvas: &mut [u8], palette: &mut Palette) -> Judged<Picture>;
+    /// The part of what it has read that is payload.
+    fn payload(bytes: &[u8]) -> &[u8];
 
     /// A stop comes only where the ink would pass what a number can hold.
     fn feed_all(&mut self, canvas: &mut [u8], bytes: &[u8]) -> Judged<Fed<Self::Status>> {
@@ -55,6 +57,10 @@ impl Session for PayloadSession {
     fn end(self, canvas: &mut [u8], palette: &mut Palette) -> Judged<Picture> {
         self.finish(canvas, palette)
     }
+
+    fn payload(bytes: &[u8]) -> &[u8] {
+        bytes
+    }
 }
 
 impl Session for DcsSession {
@@ -72,56 +78,76 @@ impl Session for DcsSession {
     fn end(self, canvas: &mut [u8], palette: &mut Palette) -> Judged<Picture> {
         self.finish(canvas, palette)
     }
+
+    fn payload(bytes: &[u8]) -> &[u8] {
+        look::after_header(bytes)
+    }
 }
 
-/// A session, its canvas, and a buffer of the bytes that it has read, which are read again on a larger canvas.
+/// A session and its canvas.
 pub struct Stream<S> {
     settings: DcsSettings,
     room: Room,
     session: S,
-    kept: Vec<u8>,
+    /// A buffer of the bytes that it has read, which are read again on a larger canvas. There is none once the canvas has
+    /// room for whatever the limits allow.
+    kept: Option<Vec<u8>>,
 }
 
 impl<S: Session> Stream<S> {
     pub fn open(limits: Limits, settings: DcsSettings, palette: &Palette) -> Result<Self> {
-        let mut room = Room::new(limits)?;
-        // The caller's limits are judged first: the room's are never wider.
-        S::open_on(limits, room.stride(), settings, room.canvas(), palette)?;
-        let session = S::open_on(room.limits(), room.stride(), settings, room.canvas(), palette)?;
-        Ok(Self { settings, room, session, kept: Vec::new() })
+        let mut room = Room::for_stream(limits)?;
+        let session = S::open_on(limits, room.stride(), settings, room.canvas(), palette)?;
+        let kept = room.may_retry().then(Vec::new);
+        Ok(Self { settings, room, session, kept })
     }
 
     pub fn feed(&mut self, bytes: &[u8], palette: &Palette) -> Result<Fed<S::Status>> {
-        let Self { settings, room, session, kept } = self;
-        let fed = session.feed_all(room.canvas(), bytes).or_else(|refusal| {
-            let (larger, fed) = room.retry(refusal, |limits, stride, canvas| {
-                let mut larger = S::open_on(limits, stride, *settings, canvas, palette)?;
-                let _ = larger.feed_all(canvas, kept)?;
-                let fed = larger.feed_all(canvas, bytes)?;
-                Ok((larger, fed))
-            })?;
-            *session = larger;
-            Ok::<_, SixelError>(fed)
-        })?;
-        if room.may_retry() {
-            kept.try_reserve(fed.consumed).map_err(|_| SixelError::OutOfMemory)?;
-            kept.extend_from_slice(&bytes[..fed.consumed]);
+        let Some(kept) = &mut self.kept else {
+            return Ok(self.session.feed_all(self.room.canvas(), bytes)?);
+        };
+        // Before anything is read: else a larger canvas would miss these bytes.
+        kept.try_reserve(bytes.len()).map_err(|_| SixelError::OutOfMemory)?;
+        match self.session.feed_all(self.room.canvas(), bytes) {
+            Err(Refusal::Room) => self.feed_again(bytes, palette),
+            answer => {
+                let fed = answer?;
+                kept.extend_from_slice(&bytes[..fed.consumed]);
+                Ok(fed)
+            }
         }
-        Ok(fed)
+    }
+
+    /// Reads everything, and these bytes, on a larger canvas.
+    #[cold]
+    fn feed_again(&mut self, bytes: &[u8], palette: &Palette) -> Result<Fed<S::Status>> {
+        let Self { settings, room, session, kept } = self;
+        let Some(all) = kept else { return Err(Refusal::Room.into()) };
+        let before = all.len();
+        all.extend_from_slice(bytes);
+        let (larger, fed) = room.retry(S::payload(all), |limits, stride, canvas| {
+            let mut larger = S::open_on(limits, stride, *settings, canvas, palette)?;
+            let fed = larger.feed_all(canvas, all)?;
+            Ok((larger, fed))
+        })?;
+        *session = larger;
+        all.truncate(fed.consumed);
+        if !room.may_retry() {
+            *kept = None;
+        }
+        Ok(Fed { consumed: fed.consumed - before, ..fed })
     }
 
     pub fn finish(self, palette: &mut Palette) -> Result<SixelImage> {
         let Self { settings, mut room, session, kept } = self;
-        let mut after = palette.clone();
-        let picture = session.end(room.canvas(), &mut after).or_else(|refusal| {
-            room.retry(refusal, |limits, stride, canvas| {
+        let picture = match (session.end(room.canvas(), palette), kept) {
+            (Err(Refusal::Room), Some(all)) => room.retry(S::payload(&all), |limits, stride, canvas| {
                 let mut larger = S::open_on(limits, stride, settings, canvas, palette)?;
-                let _ = larger.feed_all(canvas, &kept)?;
-                larger.end(canvas, &mut after)
-            })
-        })?;
-        let image = room.image(picture)?;
-        *palette = after;
-        Ok(image)
+                let _ = larger.feed_all(canvas, &all)?;
+                larger.end(canvas, palette)
+            })?,
+            (answer, _) => answer?,
+        };
+        Ok(room.image(picture))
     }
 }

@@ -45,6 +45,29 @@ fn larger_than_the_first_canvas() {
     same_as_on_a_large_canvas("#1@\"1;1;300;200", [300, 200]);
 }
 
+/// What a look at the bytes takes for the size, and what the size is.
+#[test]
+fn not_what_it_seems() {
+    // A raster that is smaller than the picture, at its first sixel and at its last.
+    same_as_on_a_large_canvas("\"1;1;16;12#1!400~-#2!16~", [400, 12]);
+    same_as_on_a_large_canvas("\"1;1;16;12#1!16~-#2!16~---#3!500A", [500, 30]);
+    same_as_on_a_large_canvas("\"1;1;16#1~-#2~-~", [16, 18]);
+    same_as_on_a_large_canvas("\"1;1;;12#1!70~-#2~-~", [70, 18]);
+    // One that is larger, one that comes late, and several.
+    same_as_on_a_large_canvas("\"1;1;400;300#1~", [400, 300]);
+    same_as_on_a_large_canvas("#1~-~\"1;1;100;200#2~", [100, 200]);
+    same_as_on_a_large_canvas("\"1;1;10;10\"1;1;200\"1;1;;300#1~", [200, 300]);
+    // No raster: the last band is the widest, with few bands before it and with many.
+    same_as_on_a_large_canvas("#1~-~~-~~~-!300A", [300, 24]);
+    same_as_on_a_large_canvas(&("#1~~~#2~~$#3~-".repeat(1_000) + "#4!1001~"), [1_001, 6_006]);
+    // Lines that stand behind the last sixel, and behind the end.
+    same_as_on_a_large_canvas("#1!80~-#2~$--$-#3", [80, 12]);
+    same_as_on_a_large_canvas(&("#1!80~-".repeat(1_000) + "~--\x1b\\" + &"-~".repeat(1_000)), [80, 6_006]);
+    // Digits that skipped bytes part, and a repeat that waits.
+    same_as_on_a_large_canvas("#1!1\n0\x7f0$-#2;\t2~", [100, 12]);
+    same_as_on_a_large_canvas("\"1;1;1\n00;\x0020!9 ~", [100, 20]);
+}
+
 #[test]
 fn growth_by_each_sixel() {
     let mut payload = String::new();

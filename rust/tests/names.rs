@@ -150,10 +150,31 @@ fn limits_out_of_range() {
     for limits in wrong {
         let mut decoder = SixelDecoder::with_limits(limits);
         let refused = Some(SixelError::InvalidData(Refusal::Opening));
-        assert_eq!(decoder.decode(b"~").err(), refused);
+        // Before whatever else would be refused: a header, a repeat, a raster that no memory has room for.
+        for data in [&b"~"[..], b"", b"\x90\x1b", b"\x90", b"!9999999~", b"\"1;1;1000000;1000000~"] {
+            assert_eq!(decoder.decode(data).err(), refused);
+            assert_eq!(decoder.decode_from_dcs(data, DcsSettings::default()).err(), refused);
+        }
         assert_eq!(decoder.begin_frame(DcsSettings::default()).err(), refused);
         assert_eq!(decoder.begin_dcs().feed(b"").err(), refused);
         assert_eq!(decoder.begin_dcs().finish().err(), refused);
+    }
+}
+
+#[test]
+fn limits_at_the_ends_of_their_range() {
+    let million = 1_000_000;
+    let most = Limits { width: million, height: million, repeats: million * million, pixels: million * million };
+    let least = Limits { width: 1, height: 6, repeats: 1, pixels: 6 };
+    for limits in [most, least] {
+        let mut decoder = SixelDecoder::with_limits(limits);
+        assert_eq!(decoder.decode(b"~").unwrap().dimensions(), (1, 6));
+        assert_eq!(decoder.decode_from_dcs(b"~", DcsSettings::default()).unwrap().dimensions(), (1, 6));
+        let mut frame = decoder.begin_frame(DcsSettings::default()).unwrap();
+        let _ = frame.feed(b"~").unwrap();
+        assert_eq!(frame.finish().unwrap().dimensions(), (1, 6));
+        assert_eq!(decoder.decode(b"!1000000000001~").unwrap_err().number(), 4);
+        assert_eq!(decoder.decode(b"\"1;1;1000001~").unwrap_err().number(), 5);
     }
 }
 

@@ -2,6 +2,7 @@
 use super::Run;
 use crate::clock::{done, race};
 use crate::exports::Lent;
+use crate::inputs::commands::{short_repeats, stepped_definitions};
 use crate::inputs::encode::Order;
 use crate::inputs::maps::{map, Map};
 use crate::inputs::photos::{photo, Photo};
@@ -31,6 +32,8 @@ fn inputs(seed: u32) -> Vec<Input> {
         Input::new("photo of short runs", photo(Photo::ShortRuns)),
         Input::new("band map with repeats", map(Map::Bars, Order::Repeats)),
         Input::new("walking band map, a register where it changes", map(Map::Walk, Order::RegisterChanges)),
+        Input::new("short repeats", short_repeats(seed, 1_000, 768, Raster::Given)),
+        Input::new("colour definitions", stepped_definitions(seed, 20_000)),
     ]
 }
 

@@ -1,5 +1,6 @@
 pub mod Bounds
 pub mod SessionLaws
+pub mod CoreLaws
 pub mod Runs
 pub mod Leading
 pub mod Within

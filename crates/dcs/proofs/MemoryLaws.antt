@@ -11,7 +11,10 @@ use Rattle.numbers.specs.declared.Parameters.{Parameters}
 use Rattle.numbers.specs.Memory as parameters
 use Rattle.numbers.proofs.Laws.{cond-yes, cond-no}
 use Rattle.numbers.proofs.MemoryLaws.{from-numbers}
-use Rattle.payload.specs.declared.Session as payloadSession
+use Rattle.frame.specs.declared.Frame.{Frame}
+use Rattle.payload.specs.declared.Life.{Life}
+use Rattle.payload.specs.declared.core.Setup.{Setup}
+use Rattle.payload.specs.Codes.{lifeFrom}
 use Rattle.payload.specs.Memory as payload
 use Rattle.payload.proofs.MemoryLaws.{session-back}
 use Rattle.dcs.specs.declared.Ending.{Ending}
@@ -19,9 +22,10 @@ use Rattle.dcs.specs.declared.Ending.the-variants as endings
 use Rattle.dcs.specs.declared.Phase.{Phase}
 use Rattle.dcs.specs.declared.Phase.the-variants as phases
 use Rattle.dcs.specs.declared.Session.{Session}
+use Rattle.dcs.specs.declared.core.Core.{Core}
 use Rattle.header.specs.declared.Place.{Place}
 use Rattle.header.specs.declared.Place.the-variants as places
-use Rattle.dcs.specs.Memory.{placeNumber, endingNumber, phaseNumber, phaseFrom, nineWritten, numbersOf, tableOf, sessionFrom, EndingRanged, PhaseRanged, Ranged}
+use Rattle.dcs.specs.Memory.{placeNumber, endingNumber, phaseNumber, phaseFrom, nineWritten, numbersOf, tableOf, coreFrom, sessionFrom, EndingRanged, PhaseRanged, Ranged}
 
 -- ---- what the functions come to
 
@@ -43,11 +47,12 @@ unfolding numbersOf nineWritten payload.numbersOf payload.ownNumbers payload.gro
     payload.penNumbers payload.areaNumbers payload.extentNumbers payload.rasterNumbers payload.commandNumbers parameters.numbersOf
 numbers-told s ev ea ek = rw (ev, ea, ek) refl
 
-pub session-of : (ns table : List ℕ) {s : payloadSession.Session} {h : Parameters} {t : Phase}
-    → h ≡ parameters.parametersFrom (payload.nineFrom ns 35) → t ≡ phaseFrom (getD ns 34 0) → s ≡ payload.sessionFrom ns table
-    → _≡_ {A = Session} (record { payload = s; header = h; phase = t }) (sessionFrom ns table)
-unfolding sessionFrom
-session-of ns table eh et es = rw (eh, et, es) refl
+pub core-of : (ns : List ℕ) {u : Setup} {life : Life} {f : Frame} {h : Parameters} {t : Phase}
+    → h ≡ parameters.parametersFrom (payload.nineFrom ns 35) → t ≡ phaseFrom (getD ns 34 0) → u ≡ payload.setupFrom ns
+    → life ≡ lifeFrom (getD ns 10 0) → f ≡ payload.frameFrom ns
+    → _≡_ {A = Core} (record { setup = u; life = life; frame = f; header = h; phase = t }) (coreFrom ns)
+unfolding coreFrom
+core-of ns eh et eu el ef = rw (eh, et, eu, el, ef) refl
 
 -- ---- the round trip
 

@@ -16,6 +16,7 @@ use Rattle.numbers.specs.declared.Parameters.{Parameters}
 use Rattle.numbers.specs.Step as numbers
 use Rattle.numbers.proofs.Laws.{cond-yes, cond-no}
 use Rattle.colours.specs.declared.Palette.{Palette}
+use Rattle.frame.specs.declared.Frame.{Frame}
 use Rattle.frame.specs.declared.Limits.{Limits}
 use Rattle.frame.specs.declared.Refusal.{Refusal}
 use Rattle.frame.specs.declared.Refusal.the-variants as refusals
@@ -26,12 +27,18 @@ use Rattle.payload.specs.declared.Finished.{Finished}
 use Rattle.payload.specs.declared.Finishing.the-variants as finishes
 use Rattle.payload.specs.declared.Opened as payloadOpened
 use Rattle.payload.specs.declared.Session as payloadSession
+use Rattle.payload.specs.declared.Life.{Life}
+use Rattle.payload.specs.declared.Life.the-variants as lives
 use Rattle.payload.specs.declared.Settings.{Settings}
+use Rattle.payload.specs.declared.core.Setup.{Setup}
 use Rattle.payload.specs.declared.refusals.Verdict.{Verdict}
 use Rattle.payload.specs.declared.refusals.Verdict.the-variants as judged
+use Rattle.payload.specs.Core.{over, begunOver, handedBack}
 use Rattle.payload.specs.Deferred.{reservedBy, begunBy, failedOf}
 use Rattle.payload.specs.Refusals.{feedJudged, finishJudged}
 use Rattle.payload.specs.Session as payload
+use Rattle.payload.proofs.CoreLaws.{owned, owned-by as payload-owned}
+use Rattle.payload.proofs.SessionLaws.{fed-refused as refused-at-once}
 use Rattle.dcs.specs.declared.Answer.the-variants as answers
 use Rattle.dcs.specs.declared.Ending.{Ending}
 use Rattle.dcs.specs.declared.Ending.the-variants as endings
@@ -40,7 +47,7 @@ use Rattle.dcs.specs.declared.Opened.{Opened}
 use Rattle.dcs.specs.declared.Phase.{Phase}
 use Rattle.dcs.specs.declared.Phase.the-variants as phases
 use Rattle.dcs.specs.declared.Session.{Session}
-use Rattle.dcs.specs.declared.Told.{Told}
+use Rattle.dcs.specs.declared.core.feeding.Told.{Told}
 use Rattle.header.specs.declared.Lead.{Lead}
 use Rattle.header.specs.declared.Led.{Led}
 use Rattle.header.specs.declared.Led.the-variants as leds
@@ -55,18 +62,11 @@ use Rattle.dcs.proofs.Phase as PhaseType
 
 -- ---- opening
 
-pub opened-as : {o : payloadOpened.Opened} {h : Parameters} {s : Session} (l : Limits) (stride : ℕ) (p : Palette) (size : ℕ)
+pub opened-as : {o : payloadOpened.Opened} {h : Parameters} (l : Limits) (stride : ℕ) (p : Palette) (size : ℕ)
     → o ≡ reservedBy l stride p size → h ≡ numbers.opened 3
-    → s ≡ sessionOf (o .session) h (phases.Before places.Start)
-    → _≡_ {A = Opened} (record { answer = o .answer; session = s }) (openedBy l stride p size)
+    → _≡_ {A = Opened} (record { answer = o .answer; session = sessionOf (o .session) h (phases.Before places.Start) }) (openedBy l stride p size)
 unfolding openedBy
-opened-as {o} l stride p size e k d =
-    ap (λ (x : Session). record { answer = o .answer; session = x }) d
-    ∙ ap₂
-    (λ (x : payloadOpened.Opened) (h : Parameters).
-    record { answer = x .answer; session = sessionOf (x .session) h (phases.Before places.Start) }) e k
-
-pub ruleset openings-laws = (opened-as)
+opened-as l stride p size e k = rw (e, k) refl
 
 -- ---- the end
 
@@ -165,10 +165,10 @@ pub ruleset endings-laws = (
 
 -- ---- what is told, as the whole outcome
 
-pub told-as : {k : Session} (p : payloadSession.Session) (h : Parameters) (t : Told) → k ≡ sessionOf p h (t .phase)
-    → _≡_ {A = Fed} (record { answer = t .answer; session = k }) (toldOf p h t)
+pub told-as : (p : payloadSession.Session) (h : Parameters) (t : Told)
+    → _≡_ {A = Fed} (record { answer = t .answer; session = sessionOf p h (t .phase) }) (toldOf p h t)
 unfolding toldOf
-told-as p h t e = ap (λ (k : Session). record { answer = t .answer; session = k }) e
+told-as p h t = refl
 
 module _ (p : payloadSession.Session) (h : Parameters) where
   told-cond : (b : Bool) (x y : Told) → toldOf p h (cond b x y) ≡ cond b (toldOf p h x) (toldOf p h y)
@@ -235,10 +235,10 @@ pub part-drop : (bytes : List ℕ) (from : ℕ) → take (length bytes - from) (
 part-drop bytes from = ap (λ (n : ℕ). take n (drop from bytes)) (sym (length-drop from bytes)) ∙ take-length (drop from bytes)
 
 -- the payload session is fed the part of the bytes from a place on
-module _ (p : payloadSession.Session) (canvas bytes : List ℕ) (from allowance : ℕ) {f : payloadFed.Fed} {after : List ℕ}
-    (fed : (f, after) ≡ payload.fedBy p canvas (take (length bytes - from) (drop from bytes)) allowance) where
+module _ (p : payloadSession.Session) (canvas bytes : List ℕ) (from allowance : ℕ) {part : List ℕ} {f : payloadFed.Fed} {after : List ℕ}
+    (same : part ≡ drop from bytes) (fed : (f, after) ≡ payload.fedBy p canvas part allowance) where
   whole : (f, after) ≡ payload.fedBy p canvas (drop from bytes) allowance
-  whole = fed ∙ ap (λ (bs : List ℕ). payload.fedBy p canvas bs allowance) (part-drop bytes from)
+  whole = fed ∙ ap (λ (bs : List ℕ). payload.fedBy p canvas bs allowance) same
 
   -- the call has bytes enough for what it counts
   pub passed-bound : from ≤ length bytes → from + countOf (f .answer) ≤ length bytes
@@ -258,17 +258,26 @@ module _ (p : payloadSession.Session) (canvas bytes : List ℕ) (from allowance 
       (λ (x : payloadFed.Fed × List ℕ).
       (passedOn (x .0 .answer) (sessionOf (x .0 .session) h phases.Within) (drop from bytes) from, x .1)) whole
 
-pub ruleset payloads = (passed-as, passed-ended, passed-bound, payload-fed)
+-- or is refused
+pub begun-refused : {j : Verdict} {n : Refusal} {r : Fed} (p : payloadSession.Session) (h : Parameters) (canvas bytes : List ℕ) (from allowance : ℕ)
+    → j ≡ feedJudged p (length canvas) allowance → j ≡ judged.Refused n
+    → r ≡ toldOf p h (record { answer = answers.Refused n; phase = phases.Within })
+    → (r, canvas) ≡ fedPayload (sessionOf p h phases.Within) canvas (drop from bytes) from allowance
+unfolding passedTold
+begun-refused p h canvas bytes from allowance e k q =
+    payload-fed p canvas bytes from allowance refl (refused-at-once p canvas (drop from bytes) allowance e k) h refl q
+
+pub ruleset payloads = (passed-as, passed-ended)
 
 -- ---- before it
+
+pub lead-in : (bytes : List ℕ) (t : Place) (h : Parameters) {l : Lead} → l ≡ leadFrom (drop 0 bytes) 0 t h → l .consumed ≤ length bytes
+lead-in bytes t h lead = omega (arith, lead-bound bytes 0 t h, ap (λ (x : Lead). x .consumed) lead)
 
 module _ (p : payloadSession.Session) (h : Parameters) (t : Place) (canvas bytes : List ℕ) (allowance : ℕ) {l : Lead}
     (lead : l ≡ leadFrom (drop 0 bytes) 0 t h) where
   abbrev early : Session
   early = sessionOf p h (phases.Before t)
-
-  pub led-bound : l .consumed ≤ length bytes
-  led-bound = omega (arith, lead-bound bytes 0 t h, ap (λ (x : Lead). x .consumed) lead)
 
   led : {x : Led} {r : Fed × List ℕ} → l .led ≡ x → r ≡ ledTo x l early canvas bytes allowance
       → r ≡ fedLead early t canvas bytes allowance
@@ -310,7 +319,16 @@ module _ (p : payloadSession.Session) (h : Parameters) (t : Place) (canvas bytes
         fedPayload (sessionOf (x .0) (l .header) phases.Within) (x .1) (drop (l .consumed) bytes) (l .consumed) allowance)
         (b ∙ ap (λ (y : Settings). begunBy p y canvas) o))
 
-pub ruleset leads = (led-bound, led-on, led-refused, led-begins)
+-- the parts of a session that fails
+pub failed-over : (u : Setup) (life : Life) (f : Frame) (p : Palette) → over u lives.Failed f p ≡ failedOf (over u life f p)
+unfolding failedOf payload.sessionWith
+failed-over u life f p = refl
+
+-- and of one that begins
+pub begun-over : {v : Setup} {life : Life} {g : Frame} {p : Palette} {after : List ℕ} (u : Setup) (f : Frame) (o : Settings) (canvas : List ℕ)
+    → begunOver v life p after ≡ begunBy (over u life f p) o canvas → g ≡ payload.blankFrame p
+    → (over v life g p, after) ≡ begunBy (over u life f p) o canvas
+begun-over u f o canvas e k = rw k e
 
 -- ---- a call
 
@@ -357,8 +375,6 @@ module _ (s : Session) (canvas bytes : List ℕ) (allowance : ℕ) {j : Verdict}
       → (r, after) ≡ fedBy s canvas bytes allowance
   unfolding fedBy fedAs
   fed-on fine k = k ∙ ap (λ (k : Verdict). fedAs k s canvas bytes allowance) (sym fine ∙ e)
-
-pub ruleset feedings = (fed-refused, fed-on, fed-before, fed-within, fed-escaped, fed-over)
 
 -- ---- finishing
 
@@ -417,4 +433,22 @@ module _ (s : Session) (owner : Palette) (canvas : List ℕ) where
     unfolding concluded
     finish-on h y = finish-by h y
 
-pub ruleset finishings = (end-refused, end-over, end-unfinished, finish-refused, finish-on)
+-- a finish for one owner is that for another, but for what a refusal hands back
+module _ (s : Session) (owner other : Palette) (canvas : List ℕ) where
+  owned-in : (t : Phase) → finishedIn t s owner canvas ≡ owned owner (finishedIn t s other canvas)
+  unfolding finishedIn payload.turnedAway handedBack
+  owned-in (phases.Before t) = refl
+  owned-in phases.Within = refl
+  owned-in phases.Escaped = refl
+  owned-in (phases.Over e) = payload-owned (s .payload) owner other canvas
+
+  owned-as : (j : Verdict) → finishedAs j s owner canvas ≡ owned owner (finishedAs j s other canvas)
+  unfolding finishedAs payload.turnedAway handedBack
+  owned-as judged.Fine = owned-in (s .phase)
+  owned-as (judged.Refused n) = refl
+
+  pub owned-by : finishedBy s owner canvas ≡ owned owner (finishedBy s other canvas)
+  unfolding finishedBy
+  owned-by = owned-as (finishJudged (s .payload) (length canvas))
+
+pub ruleset finishings = (end-refused, end-over, end-unfinished)

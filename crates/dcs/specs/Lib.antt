@@ -1,4 +1,5 @@
 pub mod Session
+pub mod Core
 pub mod Meant
 pub mod History
 pub mod Memory

@@ -6,6 +6,7 @@ use mathlib.Core.List.{List, [], _∷_, _++_}
 use lib.Dec.{ltb, eqb}
 use lib.ListN.{getD, set}
 use Rattle.numbers.specs.Memory as parameters
+use Rattle.payload.specs.Codes.{lifeFrom}
 use Rattle.payload.specs.Memory as payload
 use Rattle.payload.specs.Ranges as payloadRanges
 use Rattle.dcs.specs.declared.Ending.{Ending}
@@ -13,6 +14,7 @@ use Rattle.dcs.specs.declared.Ending.the-variants as endings
 use Rattle.dcs.specs.declared.Phase.{Phase}
 use Rattle.dcs.specs.declared.Phase.the-variants as phases
 use Rattle.dcs.specs.declared.Session.{Session}
+use Rattle.dcs.specs.declared.core.Core.{Core}
 use Rattle.header.specs.declared.Place.{Place}
 use Rattle.header.specs.declared.Place.the-variants as places
 
@@ -59,6 +61,17 @@ numbersOf s =
 
 abbrev pub tableOf : Session → List ℕ
 tableOf s = payload.tableOf (s .payload)
+
+unfoldable pub coreFrom : List ℕ → Core
+unfolding phaseFrom
+coreFrom ns =
+    record {
+      setup = payload.setupFrom ns;
+      life = lifeFrom (getD ns 10 0);
+      frame = payload.frameFrom ns;
+      header = parameters.parametersFrom (payload.nineFrom ns 35);
+      phase = phaseFrom (getD ns 34 0);
+    }
 
 unfoldable pub sessionFrom : List ℕ → List ℕ → Session
 unfolding phaseFrom

@@ -28,7 +28,7 @@ use Rattle.dcs.specs.declared.Opened.{Opened}
 use Rattle.dcs.specs.declared.Phase.{Phase}
 use Rattle.dcs.specs.declared.Phase.the-variants as phases
 use Rattle.dcs.specs.declared.Session.{Session}
-use Rattle.dcs.specs.declared.Told.{Told}
+use Rattle.dcs.specs.declared.core.feeding.Told.{Told}
 use Rattle.header.specs.declared.Lead.{Lead}
 use Rattle.header.specs.declared.Led.{Led}
 use Rattle.header.specs.declared.Led.the-variants as leds

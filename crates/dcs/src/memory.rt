@@ -1,16 +1,19 @@
 // A session as 48 numbers and 256 registers, for a caller that keeps it in its own memory: the payload session's 34 numbers, the phase,
 // and the nine of the header. Any numbers are a session, and 48 zeros are a failed one.
 ghost use mathlib.Core.Path.{_≡_};
-ghost use Rattle.dcs.specs.Memory.{placeNumber, endingNumber, phaseNumber, phaseFrom, numbersOf, sessionFrom, tableOf};
+ghost use Rattle.colours.specs.declared.Palette.{Palette};
+ghost use Rattle.dcs.specs.Core.{over};
+ghost use Rattle.dcs.specs.Memory.{placeNumber, endingNumber, phaseNumber, phaseFrom, numbersOf, coreFrom};
 use crate::Ending;
 use crate::Phase;
-use crate::Session;
+use crate::core::Core;
 use header::Place;
 use numbers::memory::numbers_of as header_numbers;
 use numbers::memory::parameters_from;
+use payload::codes::life_from;
+use payload::memory::frame_from;
 use payload::memory::numbers_of as payload_numbers;
-use payload::memory::session_from as payload_from;
-use payload::memory::table_of as payload_table;
+use payload::memory::setup_from;
 use payload::places;
 
 fn place_number(place: Place) -> u64
@@ -44,7 +47,7 @@ fn phase_number(phase: Phase) -> u64
     }
 }
 
-fn phase_from(number: u64) -> Phase
+pub fn phase_from(number: u64) -> Phase
     ensures { λ r. ⌜ r ≡ phaseFrom number ⌝ }
 {
     if number == 0 {
@@ -71,12 +74,13 @@ fn phase_from(number: u64) -> Phase
     Phase::Over(Ending::Interrupted((number % 256) as u8))
 }
 
-pub fn numbers_of(session: Session) -> [u64; 48]
-    ensures { λ r. ⌜ r ≡ numbersOf session ⌝ }
+pub fn numbers_of(core: Core) -> [u64; 48]
+    ensures { λ r. ⌜ ((p : Palette) → r ≡ numbersOf (over core p)) ⌝ }
 {
-    let phase = session.phase;
-    let values = header_numbers(session.header);
-    let mut numbers = payload_numbers(session.payload);
+    let phase = core.phase;
+    let values = header_numbers(core.header);
+    let life = core.life;
+    let mut numbers = payload_numbers(core.setup, life, core.frame);
     numbers[places::PHASE] = phase_number(phase);
     numbers[places::HEADER_0] = values[0];
     numbers[places::HEADER_1] = values[1];
@@ -90,8 +94,8 @@ pub fn numbers_of(session: Session) -> [u64; 48]
     numbers
 }
 
-pub fn session_from(numbers: &[u64; 48], registers: &[u32; 256]) -> Session
-    ensures { λ r. ⌜ r ≡ sessionFrom (now (numbers .entry)) (now (registers .entry)) ⌝ }
+pub fn core_from(numbers: &[u64; 48]) -> Core
+    ensures { λ r. ⌜ r ≡ coreFrom (now (numbers .entry)) ⌝ }
 {
     let values = [
         numbers[places::HEADER_0],
@@ -106,17 +110,12 @@ pub fn session_from(numbers: &[u64; 48], registers: &[u32; 256]) -> Session
     ];
     let header = parameters_from(values);
     let phase = phase_from(numbers[places::PHASE]);
-    let inner = payload_from(numbers, registers);
-    Session {
-        payload: inner,
+    let life = life_from(numbers[places::LIFE]);
+    Core {
+        setup: setup_from(numbers),
+        life,
+        frame: frame_from(numbers),
         header,
         phase,
     }
-}
-
-// The session's registers.
-pub fn table_of(session: Session) -> [u32; 256]
-    ensures { λ r. ⌜ r ≡ tableOf session ⌝ }
-{
-    payload_table(session.payload)
 }

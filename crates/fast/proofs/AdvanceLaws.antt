@@ -16,10 +16,8 @@ use Rattle.numbers.specs.declared.Parameters.{Parameters}
 use Rattle.numbers.proofs.Laws.{cond-yes, cond-no}
 use Rattle.colours.specs.declared.Palette.{Palette}
 use Rattle.colours.specs.Palette.{registerOf}
-use Rattle.canvas.specs.Picture.{areaOf}
-use Rattle.canvas.specs.Paint.{grown, sixelPainted}
+use Rattle.canvas.specs.Paint.{sixelPainted}
 use Rattle.canvas.proofs.Covers.{by-test}
-use Rattle.canvas.proofs.Pictures.{grown-none}
 use Rattle.frame.specs.declared.Command.{Command}
 use Rattle.frame.specs.declared.Frame.{Frame}
 use Rattle.frame.specs.declared.Ground.{Ground}
@@ -35,10 +33,10 @@ use Rattle.frame.specs.Commands.{withCommand, begun, noCommand, settledAs, with
 use Rattle.reference.specs.Step.{Reached, Fits, Holds, readAs, areaGrown, penAfter, extentAfter, inked, canvasAfter, movedTo, rowCeiling, ownOf, takesSemicolon, settledStep, argumentStep, stepIn, stepOf}
 use Rattle.fast.specs.Run.{planned}
 use Rattle.fast.specs.Argument.{onwards, Passes, coloring, counting, holding, closing, Written, Last, defining, Defined}
-use Rattle.fast.specs.Advance.{advanceTo, afterAdvance, selectedTo, Advances}
+use Rattle.fast.specs.Advance.{advanceTo, afterAdvance, settledTo, selectedTo, Advances}
 use Rattle.reference.proofs.StepLaws.{put-as, painted-read, drawn-area, data-sixel, data-own, step-data}
 use Rattle.reference.proofs.FeedLaws.{going-settled}
-use Rattle.fast.proofs.RunLaws.{going-here}
+use Rattle.fast.proofs.RunLaws.{going-here, still-grown}
 use Rattle.fast.proofs.RunSteps.{kept-canvas}
 use Rattle.fast.proofs.ArgumentLaws.{read-on}
 
@@ -125,11 +123,6 @@ unfolding argumentStep
 argument-settles f g b p l e =
     let o = closing-opens b e in
     cond-no _ _ (o .0) ∙ cond-no _ _ (o .1) ∙ cond-no _ _ (ap (λ (t : Bool). t && takesSemicolon (f .command .kind)) (o .2))
-
--- an area that did not grow
-still-grown : (f : Frame) (g : Ground) (l : List ℕ) → areaGrown f g (f .area .width) (f .area .height) l ≡ l
-unfolding areaGrown
-still-grown f g l = grown-none (g .stride) (areaOf (f .area .width) (f .area .height)) (g .background) l
 
 module _ (f : Frame) (g : Ground) (b left : ℕ) (p : Palette) (l : List ℕ) (closes : closing b ≡ true) where
   -- a command that changes the pen alone
@@ -246,3 +239,49 @@ module _ (f : Frame) (g : Ground) (bytes : List ℕ) (i left : ℕ) (p : Palette
       let v₄ : min (d .z) 2147483647 ≡ d .z = omega (arith, defined .z) in
       let whole = color-advances (defining d) (d .end) e (defined .passes) (defined .more) (defined .closes) in
       rw (done, palette, first) (rw (v₀, v₁, v₂, v₃, v₄) at whole)
+
+-- ---- a repeat and its sixel
+
+settled-frame : (f next : Frame) (b : Advance) → f .raster ≡ next .raster → afterAdvance (withCommand next noCommand) b ≡ afterAdvance f (settledTo b)
+unfolding afterAdvance withCommand settledTo
+settled-frame f next b e = rw e (go (b .settled))
+  where
+    go : (t : Bool)
+        → _≡_ {A = Frame}
+        (record { pen = b .pen; area = b .area; extent = b .extent; raster = next .raster; command = cond t noCommand noCommand })
+        (record { pen = b .pen; area = b .area; extent = b .extent; raster = next .raster; command = noCommand })
+    go true = refl
+    go false = refl
+
+between-frame : (f next : Frame) (end : ℕ) → next .raster ≡ f .raster → afterAdvance f (advanceTo next true end 0) ≡ withCommand next noCommand
+unfolding afterAdvance advanceTo withCommand
+between-frame f next end kept = rw kept
+
+-- an advance after a command that changed the pen alone: together they are one
+pub settled-advances : {r b : Advance} {now : Frame} {m : List ℕ} (f next : Frame) (g : Ground) (bytes : List ℕ) (i end left : ℕ) (p : Palette) (l : List ℕ)
+    → Advances g bytes i left f p l (advanceTo next true end 0) p l → next .raster ≡ f .raster → now ≡ withCommand next noCommand
+    → Advances g bytes end left now p l b p m → r ≡ settledTo b → Advances g bytes i left f p l r p m
+unfolding advanceTo settledTo
+settled-advances {b = b} {now = now} {m = m} f next g bytes i end left p l first kept here second e =
+    let same-frame : afterAdvance now b ≡ afterAdvance f (settledTo b) = ap (λ (x : Frame). afterAdvance x b) here ∙ settled-frame f next b (sym kept) in
+    let between : afterAdvance f (advanceTo next true end 0) ≡ now = between-frame f next end kept ∙ sym here in
+    rw e
+    (record {
+      onward = omega (arith, first .onward, second .onward);
+      within = second .within;
+      ink = second .ink;
+      fits = subst (λ (x : Frame). Fits x g (length m)) same-frame (second .fits);
+      same = λ allowance spent few.
+          ap (λ (x : Frame). onwards g allowance bytes (b .end) (spent + b .ink) x p m) (sym same-frame)
+          ∙ second .same allowance spent few
+          ∙ ap (λ (x : Frame). onwards g allowance bytes end spent x p l) (sym between)
+          ∙ ap (λ (n : ℕ). onwards g allowance bytes end n (afterAdvance f (advanceTo next true end 0)) p l) (sym (add-zero spent))
+          ∙ first .same allowance spent few;
+    })
+
+-- what its sixel asks of the frame between them
+pub settled-fits : {now : Frame} (next : Frame) (g : Ground) (room : ℕ) → now ≡ withCommand next noCommand → Fits next g room
+    → Fits now g room × (now .command .kind ≡ kinds.Data)
+unfolding withCommand noCommand
+settled-fits next g room here fits =
+    rw here (record { rows = fits .rows; width = fits .width; height = fits .height }, refl)

@@ -6,17 +6,17 @@ use mathlib.Core.Path.{_≡_, refl, sym, ap, _∙_, subst}
 use native.Mathlib.Nat.{add-zero, not-suc-le-zero}
 use native.Mathlib.Numerals.{add-one}
 use native.Mathlib.Omega.{arith}
-use borrow.Author.Tests.{eq-eqb, ne-eqb, not-false}
-use lib.Dec.{eqb}
+use borrow.Author.Tests.{eq-eqb, ne-eqb, eqb-true, leb-true, not-false}
+use lib.Dec.{leb, eqb}
 use lib.ListN.{length, getD, drop}
 use lib.Seq.{drop-cons}
-use Rattle.numbers.specs.Bytes.{skipped, digit, semicolon}
+use Rattle.numbers.specs.Bytes.{between, skipped, digit, sixel, semicolon}
 use Rattle.numbers.specs.Values.{held}
 use Rattle.numbers.specs.Step.{opened, withDigit, withSemicolon, stored, marked, room, repeated}
 use Rattle.numbers.specs.declared.Parameters.{Parameters}
 use Rattle.numbers.proofs.Laws.{cond-yes, cond-no, digit-least, digit-top}
 use Rattle.colours.specs.declared.Palette.{Palette}
-use Rattle.canvas.proofs.Covers.{by-test}
+use Rattle.canvas.proofs.Covers.{and-left, and-right, or-case, no-test, by-test}
 use Rattle.frame.specs.declared.Command.{Command}
 use Rattle.frame.specs.declared.Frame.{Frame}
 use Rattle.frame.specs.declared.Ground.{Ground}
@@ -149,6 +149,25 @@ closing-semicolon b e h k m q = sym (cond-no _ _ (sym e ∙ h) ∙ cond-no _ _ (
 pub closing-other : {s t : Bool} (b : ℕ) → s ≡ digit b → s ≡ false → t ≡ skipped b → t ≡ false → (b ≡ semicolon → ⊥) → true ≡ closing b
 unfolding closing
 closing-other b e h k m q = sym (cond-no _ _ (sym e ∙ h) ∙ cond-no _ _ (sym k ∙ m) ∙ cond-no _ _ (ne-eqb _ _ q))
+
+-- a sixel ends an argument
+pub closing-sixel : (b : ℕ) → sixel b ≡ true → closing b ≡ true
+unfolding sixel digit skipped between
+closing-sixel b t =
+    let low : 63 ≤ b = leb-true 63 b (and-left (leb 63 b) (leb b 126) t) in
+    let high : b ≤ 126 = leb-true b 126 (and-right (leb 63 b) (leb b 126) t) in
+    let no-digit : digit b ≡ false = no-test _ (λ h. let z : b ≤ 57 = leb-true b 57 (and-right (leb 48 b) (leb b 57) h) in omega (arith, z)) in
+    let no-skip : skipped b ≡ false =
+    no-test _
+    (λ h.
+    or-case (leb b 0x17) _ h (λ u. omega (arith, leb-true b 0x17 u))
+    (λ u.
+    or-case (eqb b 0x19) _ u (λ v. omega (arith, eqb-true b 0x19 v))
+    (λ v.
+    or-case (leb 0x1C b && leb b 0x1F) _ v (λ w. omega (arith, leb-true b 0x1F (and-right (leb 0x1C b) (leb b 0x1F) w)))
+    (λ w. omega (arith, eqb-true b 0x7F w)))))
+    in
+    sym (closing-other b refl no-digit refl no-skip (λ e. omega (arith, e)))
 
 pub ruleset closings = (closing-digit, closing-skipped, closing-semicolon, closing-other)
 

@@ -1,5 +1,6 @@
 pub mod RunSteps
 pub mod BlendLaws
+pub mod RowLaws
 pub mod RunLaws
 pub mod ArgumentLaws
 pub mod AdvanceLaws

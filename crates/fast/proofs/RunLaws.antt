@@ -1,22 +1,23 @@
 -- Laws of a run: one for each path through a function of `run`, and that a run leads where its sixels lead one by one.
 use Prim.Native.Nat.{ℕ, zero, suc, _+_, _-_, _*_, _≤_, _<_}
-use mathlib.Core.Bool.{Bool, true, false, cond}
+use mathlib.Core.Bool.{Bool, true, false, cond, true≢false}
 use mathlib.Core.List.{List, []}
 use mathlib.Core.Path.{_≡_, refl, sym, ap, ap₂, _∙_, subst}
 use native.Mathlib.Nat.{add-zero, not-suc-le-zero}
 use native.Mathlib.Numerals.{add-one}
 use native.Mathlib.Omega.{arith}
-use borrow.Author.Tests.{eq-eqb, ne-eqb}
+use borrow.Author.Tests.{eq-eqb, ne-eqb, le-leb}
 use lib.Count.{ones}
 use lib.Dec.{eqb}
 use lib.ListN.{length, getD}
 use Rattle.numbers.specs.Bytes.{sixel}
 use Rattle.numbers.proofs.Laws.{cond-yes, cond-no}
 use Rattle.colours.specs.declared.Palette.{Palette}
-use Rattle.canvas.specs.Picture.{rowsOf}
+use Rattle.canvas.specs.Picture.{areaOf, rowsOf}
 use Rattle.canvas.specs.Paint.{sixelPainted}
-use Rattle.canvas.proofs.Covers.{by-test, split}
-use Rattle.canvas.proofs.Grid.{rows-room}
+use Rattle.canvas.proofs.Covers.{and-both, by-test, split}
+use Rattle.canvas.proofs.Grid.{rows-room, rows-few}
+use Rattle.canvas.proofs.Pictures.{grown-none}
 use Rattle.frame.specs.declared.Frame.{Frame}
 use Rattle.frame.specs.declared.Ground.{Ground}
 use Rattle.frame.specs.declared.Kind.the-variants as kinds
@@ -29,7 +30,7 @@ use Rattle.reference.specs.Step.{Fits, Holds, areaGrown, penAfter, extentAfter,
 use Rattle.fast.specs.Argument.{onwards}
 use Rattle.fast.specs.Advance.{advanceTo, afterAdvance, Advances}
 use Rattle.fast.specs.Run.{Sixels, planned, runInk, runPainted, runAdvance, runCanvas}
-use Rattle.frame.proofs.SizeLaws.{sixel-reach}
+use Rattle.frame.proofs.SizeLaws.{sixel-visible, sixel-reach}
 use Rattle.reference.proofs.StepLaws.{needed-holds, held-room, sixel-room}
 use Rattle.reference.proofs.FeedLaws.{Going}
 use Rattle.fast.proofs.RunSteps.{ink-few, going-as, wide, high, ranFrame, ranCanvas, run-going}
@@ -130,6 +131,25 @@ sixels-more bytes i n s more e t =
           (λ above. let here : k ≡ i + n = omega arith in ap (λ (j : ℕ). sixel (getD bytes j 0)) here ∙ sym e ∙ t);
     }
 
+-- the sixel before them is one too
+pub sixels-before : (bytes : List ℕ) (i n : ℕ) → sixel (getD bytes i 0) ≡ true → Sixels bytes (i + 1) (i + 1 + n) → Sixels bytes i (i + (n + 1))
+sixels-before bytes i n six s =
+    record {
+      within = omega (arith, s .within);
+      each = λ k h₁ h₂. split k (i + 1)
+          (λ below. let here : k ≡ i = omega arith in ap (λ (j : ℕ). sixel (getD bytes j 0)) here ∙ six)
+          (λ above. s .each k above (omega arith));
+    }
+
+-- where the first is a sixel, a byte that is none comes later
+pub first-counted : {t : Bool} (bytes : List ℕ) (i n : ℕ) → sixel (getD bytes i 0) ≡ true → t ≡ sixel (getD bytes (i + n) 0) → t ≡ false → 1 ≤ n
+first-counted bytes i n six e none =
+    split n 1
+    (λ below.
+    let here : i + n ≡ i = omega arith in
+    absurd (true≢false (sym six ∙ ap (λ (j : ℕ). sixel (getD bytes j 0)) (sym here) ∙ sym e ∙ none)))
+    (λ above. above)
+
 -- one sixel more
 pub ink-more : (bytes : List ℕ) (i n : ℕ) → runInk bytes i n + ones (getD bytes (i + n) 0 - 63) ≡ runInk bytes i (n + 1)
 unfolding runInk
@@ -167,5 +187,38 @@ painted-as {ink = ink} f g w h bytes i l e₁ e₂ e₃ e₄ e₅ =
       e₅ ∙ ap₂ (λ (x : Frame) (y : ℕ). advanceTo x false (i + f .pen .repeat) y) after (e₂ .0),
       e₂ .1 ∙ ap (runPainted (g .stride) (f .pen .column) (f .pen .row) (f .pen .color) bytes i (f .pen .repeat)) e₁,
     )
+
+-- ---- a run on the visible area as it is
+
+-- an area that did not grow
+pub still-grown : (f : Frame) (g : Ground) (l : List ℕ) → areaGrown f g (f .area .width) (f .area .height) l ≡ l
+unfolding areaGrown
+still-grown f g l = grown-none (g .stride) (areaOf (f .area .width) (f .area .height)) (g .background) l
+
+pub visible-advances : {whole next : Frame} {l l′ : List ℕ} {r : Advance} {m ink : ℕ} (f : Frame) (g : Ground) (bytes : List ℕ) (i n : ℕ)
+    → Fits f g (length l) → f .command .kind ≡ kinds.Data → f .pen .repeat ≡ 1 → Sixels bytes i (i + n) → 1 ≤ n
+    → f .pen .column + n ≤ f .area .width → f .pen .row + 6 ≤ f .area .height → ink ≡ runInk bytes i n
+    → l′ ≡ runPainted (g .stride) (f .pen .column) (f .pen .row) (f .pen .color) bytes i n l → whole ≡ planned f n → m ≡ cond (eqb ink 0) 0 1
+    → next ≡ inked whole m (f .area .width) (f .area .height) → r ≡ advanceTo next false (i + n) ink
+    → (p : Palette) (left : ℕ) → 6 * n ≤ left → Advances g bytes i left f p l r p l′
+unfolding planned withRepeat
+visible-advances {l = l} {m = m} f g bytes i n fits none once s some columns rows e₁ e₂ plan e₃ e₄ e₅ =
+    let w : ℕ = f .area .width in
+    let h : ℕ = f .area .height in
+    let area : needs.Area w h ≡ sixelArea (planned f n .pen) (planned f n .area) g =
+    sixel-visible (planned f n .pen) (f .area) g (sym (and-both (le-leb _ _ columns) (le-leb _ _ rows))) refl
+    in
+    painted-advances f g bytes i n w h refl fits none once s some area refl
+    (painted-as (planned f n) g w h bytes i l (sym (still-grown (planned f n) g l)) (e₁, e₂) e₃ (e₄ ∙ ap (λ (x : Frame). inked x m w h) plan) e₅)
+
+-- it ends below what a number can hold
+pub visible-room : {whole : Frame} (f : Frame) (g : Ground) (n room : ℕ) → whole ≡ planned f n → Fits f g room → room < 18446744073709551616
+    → f .pen .column + n ≤ f .area .width → f .pen .row + 6 ≤ f .area .height
+    → (whole .pen .column + whole .pen .repeat < 18446744073709551616) × (whole .pen .row + 6 < 18446744073709551616)
+unfolding planned withRepeat
+visible-room f g n room plan fits small columns rows =
+    let one : 1 ≤ rowsOf room (g .stride) = omega (arith, fits .rows, fits .height) in
+    rw plan
+    (omega (arith, fits .width, rows-room room (g .stride) 1 one), omega (arith, fits .rows, fits .height, rows-few room (g .stride)))
 
 pub ruleset marks = (mark-none, mark-some)

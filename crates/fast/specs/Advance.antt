@@ -29,6 +29,10 @@ afterAdvance f r =
       command = cond (r .settled) noCommand (f .command);
     }
 
+-- the same, after a command that was read before it
+unfoldable pub settledTo : Advance → Advance
+settledTo r = record { pen = r .pen; area = r .area; extent = r .extent; settled = true; end = r .end; ink = r .ink }
+
 -- the pen has the colour of a register, by its number, and a command is done
 unfoldable pub selectedTo : Frame → Palette → ℕ → ℕ → Advance
 selectedTo f p n end =

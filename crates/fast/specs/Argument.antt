@@ -5,7 +5,7 @@ use mathlib.Core.Bool.{Bool, true, false, cond}
 use mathlib.Core.List.{List, [], _∷_}
 use lib.Dec.{eqb}
 use lib.ListN.{length, getD, drop}
-use Rattle.numbers.specs.Bytes.{skipped, digit, semicolon}
+use Rattle.numbers.specs.Bytes.{skipped, digit, sixel, semicolon}
 use Rattle.numbers.specs.Step.{opened, withSemicolon}
 use Rattle.numbers.specs.declared.Parameters.{Parameters}
 use Rattle.colours.specs.declared.Palette.{Palette}
@@ -56,6 +56,11 @@ pub record Last (bytes : List ℕ) (from : ℕ) (r : Number) : Type 0 where
   pub written : Written bytes from r
   pub more : r .end < length bytes
   pub closes : closing (getD bytes (r .end) 0) ≡ true
+
+-- and a sixel stands after it
+pub record Before (bytes : List ℕ) (from : ℕ) (r : Number) : Type 0 where
+  pub last : Last bytes from r
+  pub six : sixel (getD bytes (r .end) 0) ≡ true
 
 -- or a `;` follows it, and was read too
 pub record Parted (bytes : List ℕ) (from : ℕ) (r : Number) : Type 0 where

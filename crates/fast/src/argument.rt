@@ -3,7 +3,7 @@
 ghost use mathlib.Core.Path.{_≡_};
 ghost use Prim.Native.Nat.{_≤_};
 ghost use lib.ListN.{length};
-ghost use Rattle.fast.specs.Argument.{closing, Written, Last, Parted, Defined};
+ghost use Rattle.fast.specs.Argument.{closing, Written, Last, Before, Parted, Defined};
 
 // A number, and the place after it: 0 where there is none.
 pub struct Number {
@@ -86,6 +86,24 @@ pub fn last_number(bytes: &[u8], from: usize) -> Number
         return nothing();
     }
     if ends_argument(bytes[end]) {
+        return number;
+    }
+    nothing()
+}
+
+// A number, the argument's last, that stands before a sixel.
+pub fn number_before(bytes: &[u8], from: usize) -> Number
+    ensures { λ r. ⌜ (1 ≤ r .end → Before (now (bytes .entry)) from r) ⌝ }
+{
+    let number = number_at(bytes, from);
+    let end = number.end;
+    if end == 0 {
+        return nothing();
+    }
+    if bytes.len() <= end {
+        return nothing();
+    }
+    if numbers::is_sixel(bytes[end]) {
         return number;
     }
     nothing()

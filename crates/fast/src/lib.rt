@@ -1,6 +1,7 @@
-// The fast machine: some bytes at once, while no command is pending. A run of sixels, one repeated sixel, a colour or a repeat with
-// the whole of its argument, `$` or `-`. What the reference machine refuses, stops for or leaves unread is left to it.
+// The fast machine: some bytes at once, while no command is pending. A run of sixels, a repeat with its sixel, a colour with the whole of
+// its argument, `$` or `-`. What the reference machine refuses, stops for or leaves unread is left to it.
 mod argument;
+mod rows;
 mod run;
 
 ghost use mathlib.Core.Path.{_≡_};
@@ -16,8 +17,9 @@ ghost use Rattle.frame.specs.declared.Kind.the-variants as kinds;
 ghost use Rattle.frame.specs.declared.sizes.Needed.the-variants.{Area};
 ghost use Rattle.frame.specs.Sizes.{sixelArea};
 ghost use Rattle.reference.specs.Step.{Fits, Holds, movedTo};
-ghost use Rattle.fast.specs.Advance.{advanceTo, selectedTo, Advances};
+ghost use Rattle.fast.specs.Advance.{advanceTo, settledTo, selectedTo, Advances};
 use argument::last_number;
+use argument::number_before;
 use argument::read_definition;
 use frame::Extent;
 use frame::Frame;
@@ -26,12 +28,14 @@ use frame::Pen;
 use frame::VisibleArea;
 use frame::commands::define;
 use frame::commands::register_at;
+use frame::commands::without_command;
 use frame::sizes::Needed;
 use frame::sizes::larger;
 use frame::sizes::sixel_area;
 use reference::after_sixel;
 use reference::grow;
 use reference::row_below;
+use rows::paint_rows;
 use run::read_run;
 
 // What some bytes change of a frame, whether a command was read, the place after them, and their ink. An advance that ends where it
@@ -107,26 +111,6 @@ fn read_color(frame: Frame, colors: &mut [u32; 256], bytes: &[u8], from: usize) 
     nothing(frame, from)
 }
 
-// A repeat command.
-fn read_repeat(frame: Frame, ground: Ground, bytes: &[u8], from: usize) -> Advance
-    requires { ⌜ (frame .command .kind ≡ kinds.Data) × (from < length (now bytes)) × (getD (now bytes) from 0 ≡ bang) ⌝ }
-    ensures { λ r. ⌜ ((p : Palette) (l : List ℕ) (left : ℕ) → Fits frame ground (length l)
-        → Advances ground (now (bytes .entry)) from left frame p l r p l) ⌝ }
-{
-    let number = last_number(bytes, from + 1);
-    if number.end == 0 {
-        return nothing(frame, from);
-    }
-    let count = number.value as usize;
-    if ground.limits.repeats < count {
-        return nothing(frame, from);
-    }
-    let repeat = larger(1, count);
-    let mut next = frame;
-    next.pen.repeat = repeat;
-    advance_to(next, true, number.end, 0)
-}
-
 // `$` and `-`.
 fn move_to(frame: Frame, row: usize, from: usize) -> Advance
     requires { ⌜ from + 1 < 18446744073709551616 ⌝ }
@@ -138,7 +122,7 @@ fn move_to(frame: Frame, row: usize, from: usize) -> Advance
     advance_to(next, false, from + 1, 0)
 }
 
-// Paints one sixel on an area that holds it, unless its ink exceeds what is left. The reference machine has the same, called from
+// Paints a repeated sixel on an area that holds it, unless its ink exceeds what is left. The reference machine has the same, called from
 // there alone, so that the compiler can inline each into its own loop.
 fn paint_repeated(
     frame: Frame,
@@ -164,7 +148,7 @@ fn paint_repeated(
     }
     grow(frame, ground, canvas, width, height);
     let color = frame.pen.color;
-    canvas::paint_sixel(
+    paint_rows(
         canvas,
         ground.stride,
         frame.pen.column,
@@ -181,7 +165,7 @@ fn paint_repeated(
     )
 }
 
-// One sixel, repeated or not.
+// The sixel of a repeat.
 fn read_repeated(
     frame: Frame,
     ground: Ground,
@@ -201,6 +185,52 @@ fn read_repeated(
         }
         Needed::Refused(_) => nothing(frame, from),
     }
+}
+
+// An advance after a command that was read before it.
+fn settled(advance: Advance) -> Advance
+    ensures { λ r. ⌜ r ≡ settledTo advance ⌝ }
+{
+    let pen = advance.pen;
+    let area = advance.area;
+    let extent = advance.extent;
+    Advance {
+        pen,
+        area,
+        extent,
+        settled: true,
+        end: advance.end,
+        ink: advance.ink,
+    }
+}
+
+// A repeat command and the sixel after it, in one turn of the loop. Without a sixel after it, the reference machine reads it.
+fn read_repeat(
+    frame: Frame,
+    ground: Ground,
+    canvas: &mut [u8],
+    bytes: &[u8],
+    from: usize,
+    left: usize,
+) -> Advance
+    requires { ⌜ Fits frame ground (length (now canvas)) × (frame .command .kind ≡ kinds.Data) × (from < length (now bytes))
+        × (getD (now bytes) from 0 ≡ bang) ⌝ }
+    ensures { λ r. ⌜ ((p : Palette)
+        → Advances ground (now (bytes .entry)) from left frame p (now (canvas .entry)) r p (now (canvas .exit))) ⌝ }
+{
+    let number = number_before(bytes, from + 1);
+    let end = number.end;
+    if end == 0 {
+        return nothing(frame, from);
+    }
+    let count = number.value as usize;
+    if ground.limits.repeats < count {
+        return nothing(frame, from);
+    }
+    let repeat = larger(1, count);
+    let mut next = frame;
+    next.pen.repeat = repeat;
+    settled(read_repeated(without_command(next), ground, canvas, bytes, end, left))
 }
 
 // What stands at a place.
@@ -223,13 +253,13 @@ pub fn read_ahead(
         if frame.pen.repeat == 1 {
             return read_run(frame, ground, canvas, bytes, from, left);
         }
-        return read_repeated(frame, ground, canvas, bytes, from, left);
+        return nothing(frame, from);
     }
     if byte == b'#' {
         return read_color(frame, colors, bytes, from);
     }
     if byte == b'!' {
-        return read_repeat(frame, ground, bytes, from);
+        return read_repeat(frame, ground, canvas, bytes, from, left);
     }
     if byte == b'$' {
         return move_to(frame, frame.pen.row, from);

@@ -1,10 +1,12 @@
-// A run of sixels that are painted once each, planned whole: counted, tested and given its area at once, then painted without
-// a test for each. To the limits such a run is one sixel that is repeated so often.
+// A run of sixels that are painted once each. Where its area grows, or it is blank or full at first, it is planned whole: counted, tested and
+// given its area at once, then painted without a test for each. Any other is painted while it is counted. To the limits a run is one sixel
+// that is repeated so often.
 ghost use mathlib.Core.Path.{_≡_};
-ghost use Prim.Native.Nat.{ℕ, _+_, _-_, _*_, _≤_, min};
-ghost use mathlib.Core.Bool.{cond};
+ghost use Prim.Native.Nat.{ℕ, _+_, _-_, _*_, _≤_, _<_, min};
+ghost use mathlib.Core.Bool.{true, cond};
 ghost use lib.Dec.{eqb};
-ghost use lib.ListN.{length};
+ghost use lib.ListN.{length, getD};
+ghost use Rattle.numbers.specs.Bytes.{sixel};
 ghost use Rattle.canvas.specs.Picture.{rowsOf};
 ghost use Rattle.canvas.specs.Paint.{sixelPainted};
 ghost use Rattle.colours.specs.declared.Palette.{Palette};
@@ -19,6 +21,7 @@ use crate::nothing;
 use frame::Frame;
 use frame::Ground;
 use frame::sizes::Needed;
+use frame::sizes::reaches;
 use frame::sizes::sixel_area;
 use reference::after_sixel;
 use reference::grow;
@@ -156,6 +159,45 @@ fn paint_sixels(
     ink
 }
 
+// So many sixels, and their ink.
+pub struct Stretch {
+    pub count: usize,
+    pub ink: usize,
+}
+
+// Paints the sixels that stand from a place on, up to so many, and counts them at once. Each is blended, the blank ones too: where they are
+// mixed, to foretell which is blank costs more than to write what is there.
+fn blend_sixels(
+    canvas: &mut [u8],
+    stride: usize,
+    column: usize,
+    row: usize,
+    px: [u8; 4],
+    bytes: &[u8],
+    from: usize,
+    most: usize,
+) -> Stretch
+    requires { ⌜ (from + most ≤ length (now bytes)) × (column + most ≤ stride) × (row + 6 ≤ rowsOf (length (now canvas)) stride)
+        × (1 ≤ most) × (sixel (getD (now bytes) from 0) ≡ true) ⌝ }
+    ensures { λ r. ⌜ (1 ≤ r .count) × (r .count ≤ most) × Sixels (now (bytes .entry)) from (from + r .count)
+        × (r .ink ≡ runInk (now (bytes .entry)) from (r .count))
+        × (now (canvas .exit) ≡ runPainted stride column row px (now (bytes .entry)) from (r .count) (now (canvas .entry))) ⌝ }
+{
+    let mut ink = 0;
+    let mut count = 0;
+    while count < most {
+        let byte = bytes[from + count];
+        if !numbers::is_sixel(byte) {
+            return Stretch { count, ink };
+        }
+        let bits = byte - 63;
+        ink += u32::count_ones(bits as u32) as usize;
+        paint_blended(canvas, stride, column + count, row, bits, px);
+        count += 1;
+    }
+    Stretch { count, ink }
+}
+
 // 0 where there is no ink.
 fn mark(ink: usize) -> u8
     ensures { λ r. ⌜ r ≡ cond (eqb ink 0) 0 1 ⌝ }
@@ -234,8 +276,65 @@ fn read_sixels(
     }
 }
 
+// Whether a run that begins with this byte is blended: it has a column of the visible area at least, and is neither blank nor full at
+// first, as runs of maps are.
+fn is_blended(frame: Frame, byte: u8) -> bool
+    ensures { λ r. ⌜ (r ≡ true → (frame .pen .column < frame .area .width) × (frame .pen .row + 6 ≤ frame .area .height)) ⌝ }
+{
+    if byte == 63 {
+        return false;
+    }
+    if byte == 126 {
+        return false;
+    }
+    if frame.area.width <= frame.pen.column {
+        return false;
+    }
+    reaches(frame.pen.row, 6, frame.area.height)
+}
+
+// A run of up to so many sixels, one at least, on the visible area as it is.
+fn read_visible(
+    frame: Frame,
+    ground: Ground,
+    canvas: &mut [u8],
+    bytes: &[u8],
+    from: usize,
+    most: usize,
+) -> Advance
+    requires { ⌜ Fits frame ground (length (now canvas)) × (frame .command .kind ≡ kinds.Data) × (frame .pen .repeat ≡ 1)
+        × (from + most ≤ length (now bytes)) × (frame .pen .column + most ≤ frame .area .width)
+        × (frame .pen .row + 6 ≤ frame .area .height) × (1 ≤ most) × (sixel (getD (now bytes) from 0) ≡ true) ⌝ }
+    ensures { λ r. ⌜ ((p : Palette) (left : ℕ) → 6 * most ≤ left
+        → Advances ground (now (bytes .entry)) from left frame p (now (canvas .entry)) r p (now (canvas .exit))) ⌝ }
+{
+    let color = frame.pen.color;
+    let painted = blend_sixels(
+        canvas,
+        ground.stride,
+        frame.pen.column,
+        frame.pen.row,
+        color,
+        bytes,
+        from,
+        most,
+    );
+    let whole = as_repeated(frame, painted.count);
+    advance_to(
+        after_sixel(
+            whole,
+            mark(painted.ink),
+            frame.area.width,
+            frame.area.height,
+        ),
+        false,
+        from + painted.count,
+        painted.ink,
+    )
+}
+
 // The run that stands at a place, where its ink is surely within what is left.
-// Asks that the visible area has room on the canvas, that no command is pending and no repeat was given, and that the place is among the bytes.
+// Asks that the visible area has room on the canvas, that no command is pending and no repeat was given, and that a sixel stands there.
 pub fn read_run(
     frame: Frame,
     ground: Ground,
@@ -244,14 +343,19 @@ pub fn read_run(
     from: usize,
     left: usize,
 ) -> Advance
-    requires { ⌜ Fits frame ground (length (now canvas)) × (frame .command .kind ≡ kinds.Data) × (frame .pen .repeat ≡ 1) × (from ≤ length (now bytes)) ⌝ }
+    requires { ⌜ Fits frame ground (length (now canvas)) × (frame .command .kind ≡ kinds.Data) × (frame .pen .repeat ≡ 1)
+        × (from < length (now bytes)) × (sixel (getD (now bytes) from 0) ≡ true) ⌝ }
     ensures { λ r. ⌜ ((p : Palette)
         → Advances ground (now (bytes .entry)) from left frame p (now (canvas .entry)) r p (now (canvas .exit))) ⌝ }
 {
     let most = smaller(smaller(LONGEST, left / 6), bytes.len() - from);
-    let count = run_length(bytes, from, most);
-    if count == 0 {
+    if most == 0 {
         return nothing(frame, from);
     }
+    if is_blended(frame, bytes[from]) {
+        let visible = smaller(most, frame.area.width - frame.pen.column);
+        return read_visible(frame, ground, canvas, bytes, from, visible);
+    }
+    let count = run_length(bytes, from + 1, most - 1) + 1;
     read_sixels(frame, ground, canvas, bytes, from, count)
 }

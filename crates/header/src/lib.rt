@@ -25,18 +25,18 @@ pub enum Led {
     Refused(Refusal),
 }
 
-// What one byte came to.
+// What one byte came to. The small fields stand last, here and below: padding bytes between fields are copied with them from byte to byte.
 pub struct Step {
-    pub place: Place,
     pub header: Parameters,
+    pub place: Place,
     pub led: Led,
 }
 
 // What some bytes came to. A byte that is refused is not counted, and those before the first of them are.
 pub struct Lead {
-    pub place: Place,
     pub header: Parameters,
     pub consumed: usize,
+    pub place: Place,
     pub led: Led,
 }
 

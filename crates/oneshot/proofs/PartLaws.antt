@@ -46,3 +46,23 @@ module _ {t : Bool} (l : Limits) (stride size : ℕ) (bytes : List ℕ) (e : t �
     part-refused {n} m = sym (refused-part bytes n) ∙ ap (λ (x : Found). partOf (foundMeant bytes x)) (sym m) ∙ part-open
 
 pub ruleset parts = (payload-within, part-closed, part-found, part-refused)
+
+-- ---- its length
+
+module _ {t : Bool} (l : Limits) (stride size : ℕ) (bytes : List ℕ) (e : t ≡ openable l stride size) where
+  pub size-closed : t ≡ false → 0 ≡ length (partHandedBack (limitsMeant l) stride size bytes)
+  size-closed h = ap length (part-closed l stride size bytes e h)
+
+  module _ {f : Found} (h : t ≡ true) (k : f ≡ foundIn bytes) where
+    pub size-found : {from : ℕ} {o : Settings} → f ≡ Payload from o
+        → length bytes - from ≡ length (partHandedBack (limitsMeant l) stride size bytes)
+    size-found {from} m =
+        sym (length-drop from bytes)
+        ∙ ap length
+        (sym (take-all (length bytes - from) (drop from bytes) (rw (length-drop from bytes) (omega arith)))
+        ∙ part-found l stride size bytes e h k m)
+
+    pub size-refused : {n : Refusal} → f ≡ Refused n → 0 ≡ length (partHandedBack (limitsMeant l) stride size bytes)
+    size-refused m = ap length (part-refused l stride size bytes e h k m)
+
+pub ruleset sizes = (size-closed, size-found, size-refused)

@@ -1,15 +1,14 @@
 -- Reading a part: opening, feeds of pieces until all is read, and the finish come to what the part means.
 use Prim.Native.Nat.{ℕ, _+_, _-_, _*_, _≤_, _<_}
 use mathlib.Core.Bool.{true, false}
-use mathlib.Core.List.{List, [], _∷_}
+use mathlib.Core.List.{List, []}
 use mathlib.Core.Option.{Option, none, some}
 use mathlib.Core.Path.{_≡_, refl, sym, ap, ap₂, subst, _∙_}
 use native.Mathlib.Omega.{arith}
-use denote.Enum.Declared.{tagOf}
 use lib.ListN.{length, take, drop}
-use types.Run.{OneOf, miss}
 use Rattle.numbers.proofs.Laws.{cond-yes}
 use Rattle.colours.specs.declared.Palette.{Palette}
+use Rattle.frame.specs.declared.Frame.{Frame}
 use Rattle.frame.specs.declared.Limits.{Limits}
 use Rattle.frame.specs.declared.Refusal.{Refusal}
 use Rattle.frame.specs.Numbers.{numberOf}
@@ -18,7 +17,7 @@ use Rattle.meaning.specs.Callers.{howTold}
 use Rattle.meaning.specs.Commands.{argued, Begun, closed}
 use Rattle.meaning.specs.Drawing.{Setting, Drawing, Outcome, Drawn, drawn, refused, andThen, drawCommand, drawAll}
 use Rattle.meaning.specs.Payload as meant
-use Rattle.meaning.specs.Reader.{How, readAll, stopped, halted, refusedBy, Run, after}
+use Rattle.meaning.specs.Reader.{How, readAll, stopped, refusedBy, Run, after}
 use Rattle.meaning.specs.Sessions.{Reading, opened, settled, finishReading}
 use Rattle.meaning.proofs.AreaLaws.{outcome-reports}
 use Rattle.meaning.proofs.PayloadLaws.{readPayload, reading-settled, reading-finish, reading-refused}
@@ -27,19 +26,22 @@ use Rattle.payload.specs.declared.Answer.the-variants as answers
 use Rattle.payload.specs.declared.Fed.{Fed}
 use Rattle.payload.specs.declared.Finished.{Finished}
 use Rattle.payload.specs.declared.Finishing.the-variants as finishes
+use Rattle.payload.specs.declared.Life.{Life}
 use Rattle.payload.specs.declared.Opened.{Opened}
 use Rattle.payload.specs.declared.Session.{Session}
 use Rattle.payload.specs.declared.Settings.{Settings}
+use Rattle.payload.specs.declared.core.Setup.{Setup}
+use Rattle.payload.specs.Core.{over, Passed}
 use Rattle.payload.specs.History.{Stands, Finishes, pictures, declines}
 use Rattle.payload.specs.Meant.{parametersMeant, limitsMeant, settingMeant, answerMeant, reportMeant, finishMeant}
 use Rattle.payload.specs.Refusals.{openable}
 use Rattle.payload.specs.Session.{backgroundFor, sessionFor, openedBy, fedBy, finishedBy}
-use Rattle.payload.proofs.Answer as AnswerType
 use Rattle.payload.proofs.Finishings.{finish-stands}
 use Rattle.payload.proofs.Judgements.{stands-shows}
 use Rattle.payload.proofs.Openings.{ready-stands}
 use Rattle.oneshot.specs.OneShot.{pieceEnd, paletteAfter, readOutcome, readPart, readMeant}
 use Rattle.oneshot.proofs.StandLaws.{sessionIn, Lives, finish-lives}
+use Rattle.oneshot.proofs.OwnerLaws.{lives-pass}
 use Rattle.payload.specs.declared.Life.the-variants as life
 use Rattle.payload.specs.declared.Opening.the-variants as openings
 use Rattle.canvas.specs.Picture.{span}
@@ -52,14 +54,6 @@ refused-going e z = let never : _≡_ {A = ℕ} 0 1 = cc in omega arith
 
 refused-read : {h : How} {n : ℕ} → h ≡ refusedBy n → h ≡ readAll → ⊥
 refused-read e z = let never : _≡_ {A = ℕ} 0 1 = cc in omega arith
-
--- an answer that says the end has come
-ended-told : (a : Answer) → OneOf (2 ∷ []) (tagOf AnswerType.the-type a) → howTold (answerMeant a) ≡ halted
-unfolding howTold answerMeant
-ended-told (answers.More n i) h = absurd (miss (2 ∷ []) 0 tt h)
-ended-told (answers.Stopped n i) h = absurd (miss (2 ∷ []) 1 tt h)
-ended-told (answers.Ended n i b) h = refl
-ended-told (answers.Refused n) h = absurd (miss (2 ∷ []) 3 tt h)
 
 -- ---- a finish
 
@@ -167,6 +161,12 @@ module _ (l : Limits) (stride : ℕ) (o : Settings) (p : Palette) (opening : Lis
         going = λ z. let never : _≡_ {A = ℕ} 0 1 = cc in omega arith;
       }
 
+  -- such a session, fed without a refusal, passes 9, 12 and 13 again
+  pub part-passes : {part lc : List ℕ} {u : Setup} {k : Life} {f : Frame} {q : Palette} {at a : ℕ}
+      → 6 * l .width ≤ a → Midway a (y .session) l₀ part lc (over u k f q) at → Passed u k f (length lc) a
+  unfolding settingMeant limitsMeant calls.settingFor
+  part-passes enough m = lives-pass (m .left first-lives enough .lives) enough
+
 -- one turn of the loop: a session `y` was opened and fed `at` bytes of the part, which left `s` and the canvas `lc`;
 -- now it is fed one piece more, which answers `x` and leaves the canvas `l₁`
 pub record Turn (l : Limits) (stride : ℕ) (o : Settings) (p : Palette) (opening part : List ℕ) (a : ℕ)
@@ -251,12 +251,10 @@ module _ {l : Limits} {stride : ℕ} {o : Settings} {p : Palette} {opening part 
     unfolding after calls.payloadShown
     refused-shows = stands-shows (feeds left wide piece (u .fed) .stands) ∙ ap shown-by (sym refused-came)
 
-    pub part-refused : {r : Finished} → r ≡ record { answer = finishes.Refused n; palette = p }
-        → readMeant r l₁ ≡ readPart setting given p opening part
+    pub part-refused : readMeant (record { answer = finishes.Refused n; palette = p }) l₁ ≡ readPart setting given p opening part
     unfolding readMeant finishMeant readPart readOutcome paletteAfter meant.finish after
-    part-refused k =
-        ap (λ (z : Finished). readMeant z l₁) k
-        ∙ ap (λ (c : List ℕ). record { answer = meant.turnedDown (numberOf n); palette = p; canvas = c }) refused-shows
+    part-refused =
+        ap (λ (c : List ℕ). record { answer = meant.turnedDown (numberOf n); palette = p; canvas = c }) refused-shows
         ∙ ap (readOutcome setting given p opening)
         (sym (reading-refused setting given p part (ap (λ (q : Run Reading). q .how) refused-came ∙ refused-how)))
 
@@ -266,20 +264,11 @@ module _ {l : Limits} {stride : ℕ} {o : Settings} {p : Palette} {opening part 
   part-read a h = finished-part setting given p opening part (came-all (read-left left wide piece (u .fed) a) h)
 
   -- after an end
-  pub part-ended : {r : Finished} {l₂ : List ℕ} → OneOf (2 ∷ []) (tagOf AnswerType.the-type (x .answer))
+  pub part-ended : {n i b : ℕ} {r : Finished} {l₂ : List ℕ} → x .answer ≡ answers.Ended n i b
       → (r, l₂) ≡ finishedBy (x .session) p l₁ → readMeant r l₂ ≡ readPart setting given p opening part
+  unfolding howTold answerMeant
   part-ended a =
-      finished-part setting given p opening part (came-end left wide piece (u .fed) (ended-told (x .answer) a))
+      finished-part setting given p opening part
+      (came-end left wide piece (u .fed) (ap (λ (b : Answer). howTold (answerMeant b)) a))
 
-pub ruleset parts-read = (
-  midway-start,
-  stop-in,
-  stop-less,
-  stop-again,
-  read-in,
-  read-less,
-  read-again,
-  part-refused,
-  part-read,
-  part-ended,
-)
+pub ruleset parts-read = (midway-start, stop-in, stop-less, stop-again, read-in, read-less, read-again)

@@ -93,12 +93,12 @@ module _ {opening : List ℕ} {t : Setting} {r : Reading} {s : Session} {l : Lis
       → 0 < call (payloadStep t) (rested t) a r bs .consumed
   stop-consumes = call-stop-reads (payloadStep t) (rested t) (6 * t .limits .width) (payload-caps t) a r bs enough
 
--- ---- a finish is refused neither 9 nor 12
+-- ---- what 9 and 12 refuse is not such a session
 
 module _ {opening : List ℕ} {t : Setting} {r : Reading} {s : Session} {l : List ℕ}
     (k : Stands opening s l (sessionIn opening t r false)) where
-  fitting : calls.misfits (λ (u : Reading). u .drawing .area) (sessionIn opening t r false) (length l) ≡ false
-  fitting =
+  pub fitting-lives : calls.misfits (λ (u : Reading). u .drawing .area) (sessionIn opening t r false) (length l) ≡ false
+  fitting-lives =
       ap (calls.misfits (λ (u : Reading). u .drawing .area) (sessionIn opening t r false)) (stands-long k)
       ∙ stands-fit k
 
@@ -106,4 +106,4 @@ module _ {opening : List ℕ} {t : Setting} {r : Reading} {s : Session} {l : Lis
   pub finish-lives : calls.finishPayload (sessionIn opening t r false) (length l) ≡ finishReading t r
   unfolding calls.finishPayload
   finish-lives =
-      finish-answers (λ (u : Reading). u .drawing .area) finishReading (sessionIn opening t r false) (length l) refl fitting
+      finish-answers (λ (u : Reading). u .drawing .area) finishReading (sessionIn opening t r false) (length l) refl fitting-lives

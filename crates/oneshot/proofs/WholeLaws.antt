@@ -8,6 +8,7 @@ use borrow.Author.Tests.{eqb-true}
 use lib.Dec.{eqb}
 use lib.ListN.{length, take, drop}
 use Rattle.colours.specs.declared.Palette.{Palette}
+use Rattle.colours.specs.Palette.{ofTable}
 use Rattle.frame.specs.Numbers.{numberOf}
 use Rattle.frame.specs.declared.Limits.{Limits}
 use Rattle.frame.specs.declared.Refusal.{Refusal}
@@ -19,12 +20,14 @@ use Rattle.meaning.specs.Drawing.{Setting}
 use Rattle.meaning.specs.OneShot as meaning
 use Rattle.meaning.specs.Payload as meant
 use Rattle.meaning.proofs.AreaLaws.{cond-case}
-use Rattle.payload.specs.declared.Finished.{Finished}
+use Rattle.payload.specs.declared.Finishing.{Finishing}
 use Rattle.payload.specs.declared.Finishing.the-variants as finishes
 use Rattle.payload.specs.declared.Settings.{Settings}
+use Rattle.payload.specs.Core.{finishedOver}
 use Rattle.payload.specs.Meant.{parametersMeant, limitsMeant, settingMeant, finishMeant}
 use Rattle.payload.specs.Refusals.{openable}
 use Rattle.payload.proofs.Openings.{opens-meant}
+use Rattle.oneshot.specs.declared.Reading.{Reading}
 use Rattle.oneshot.specs.declared.search.Found.{Found}
 use Rattle.oneshot.specs.declared.search.Found.the-variants.{Payload, Refused}
 use Rattle.oneshot.specs.OneShot.{unfoundMeant, foundMeant, Read, paletteAfter, readWhole, readOutcome, readPart, readMeant}
@@ -149,13 +152,10 @@ module _ {t : Bool} (l : Limits) (stride : ℕ) (p : Palette) (canvas bytes : Li
   open-wide h = omega (arith, opens-bounded (limitsMeant l) stride (length canvas) (known ∙ h) .width)
 
   -- 11
-  pub whole-unopened : {r : Finished} → t ≡ false → r ≡ record { answer = finishes.Refused refusals.Opening; palette = p }
-      → readMeant r canvas ≡ readWhole (limitsMeant l) stride p canvas bytes
+  pub whole-unopened : t ≡ false
+      → readMeant (record { answer = finishes.Refused refusals.Opening; palette = p }) canvas ≡ readWhole (limitsMeant l) stride p canvas bytes
   unfolding readMeant finishMeant numberOf notOpened
-  whole-unopened h k =
-      ap (λ (z : Finished). readMeant z canvas) k
-      ∙ ap whether (sym h)
-      ∙ coded
+  whole-unopened h = ap whether (sym h) ∙ coded
 
   module _ {f : Found} (h : t ≡ true) (g : f ≡ foundIn bytes) where
     found-whole : foundRead (settingMeant l stride (length canvas)) p canvas (foundMeant bytes f)
@@ -166,12 +166,11 @@ module _ {t : Bool} (l : Limits) (stride : ℕ) (p : Palette) (canvas bytes : Li
         ∙ coded
 
     -- 2, 3 or 8
-    pub whole-refused : {n : Refusal} {r : Finished} → f ≡ Refused n → r ≡ record { answer = finishes.Refused n; palette = p }
-        → readMeant r canvas ≡ readWhole (limitsMeant l) stride p canvas bytes
+    pub whole-refused : {n : Refusal} → f ≡ Refused n
+        → readMeant (record { answer = finishes.Refused n; palette = p }) canvas ≡ readWhole (limitsMeant l) stride p canvas bytes
     unfolding readMeant finishMeant foundMeant
-    whole-refused {n} k m =
-        ap (λ (z : Finished). readMeant z canvas) m
-        ∙ sym (unfound-read (settingMeant l stride (length canvas)) p canvas (numberOf n))
+    whole-refused {n} k =
+        sym (unfound-read (settingMeant l stride (length canvas)) p canvas (numberOf n))
         ∙ ap (λ (x : Found). foundRead (settingMeant l stride (length canvas)) p canvas (foundMeant bytes x)) (sym k)
         ∙ found-whole
 
@@ -186,5 +185,19 @@ module _ {t : Bool} (l : Limits) (stride : ℕ) (p : Palette) (canvas bytes : Li
         ∙ ap (readPart (settingMeant l stride (length canvas)) (parametersMeant o) p canvas) (rest-all bytes from)
         ∙ ap (λ (x : Found). foundRead (settingMeant l stride (length canvas)) p canvas (foundMeant bytes x)) (sym k)
         ∙ found-whole
+
+-- a refusal, and no part
+pub turned : {r : Reading} {n : Refusal} (colors canvas : List ℕ) {x : Read} {size : ℕ} → r ≡ record { answer = finishes.Refused n; part = 0 }
+    → readMeant (finishedOver (finishes.Refused n) colors) canvas ≡ x → 0 ≡ size
+    → (readMeant (finishedOver (r .answer) colors) canvas ≡ x) × (r .part ≡ size)
+turned colors canvas e h k = rw e (h, k)
+
+-- ---- a reading by value
+
+-- is the reading over the registers of its palette
+pub whole-value : (a : Finishing) (colors canvas : List ℕ) {p after lent : Palette} (l : Limits) (stride : ℕ) (opening bytes : List ℕ)
+    → lent ≡ p → readMeant (finishedOver a colors) canvas ≡ readWhole (limitsMeant l) stride lent opening bytes → after ≡ ofTable colors
+    → readMeant (record { answer = a; palette = after }) canvas ≡ readWhole (limitsMeant l) stride p opening bytes
+whole-value a colors canvas l stride opening bytes lent e after = rw (after, ← lent) e
 
 pub ruleset wholes = (payload-within, open-known, open-wide, whole-unopened, whole-refused, whole-found)

@@ -6,20 +6,26 @@ ghost use mathlib.Core.Bool.{true};
 ghost use mathlib.Core.Path.{_≡_};
 ghost use Prim.Native.Nat.{_*_, _≤_};
 ghost use lib.ListN.{length};
+ghost use Rattle.colours.specs.Palette.{ofTable};
 ghost use Rattle.meaning.specs.Calls.{partHandedBack};
+ghost use Rattle.payload.specs.Core.{over, finishedOver};
 ghost use Rattle.payload.specs.Meant.{parametersMeant, limitsMeant, settingMeant};
 ghost use Rattle.payload.specs.Refusals.{openable};
+ghost use Rattle.payload.specs.Session.{finishedBy};
 ghost use Rattle.oneshot.specs.OneShot.{pieceEnd, readWhole, readPart, readMeant};
 use colours::Palette;
+use frame::Frame;
 use frame::Limits;
 use frame::Refusal;
 use payload::Answer;
 use payload::Finished;
 use payload::Finishing;
+use payload::Life;
 use payload::Settings;
-use payload::feed;
-use payload::finish;
-use payload::open;
+use payload::core::Setup;
+use payload::core::feeding::feed_passed;
+use payload::core::finishing::finish;
+use payload::core::opening::open;
 use payload::refusals::may_open;
 use search::Found;
 use search::find;
@@ -41,15 +47,6 @@ pub fn payload_part(limits: Limits, stride: usize, length: usize, bytes: &[u8]) 
     &bytes[..0]
 }
 
-fn refuse(owner: Palette, refusal: Refusal) -> Finished
-    ensures { λ r. ⌜ r ≡ record { answer = Finishing.Refused refusal; palette = owner } ⌝ }
-{
-    Finished {
-        answer: Finishing::Refused(refusal),
-        palette: owner,
-    }
-}
-
 // Where a piece that begins at a place ends: `chunk` bytes on, or at the end of all where fewer are left or `chunk` is 0.
 fn piece_end(at: usize, length: usize, chunk: usize) -> usize
     requires { ⌜ at ≤ length ⌝ }
@@ -64,52 +61,131 @@ fn piece_end(at: usize, length: usize, chunk: usize) -> usize
     at + chunk
 }
 
+// Finishes a session for the owner of some registers: those lent are the picture's where there is one, and else the owner's.
+fn finish_for(
+    owner: &[u32; 256],
+    setup: Setup,
+    life: Life,
+    frame: Frame,
+    colors: &mut [u32; 256],
+    canvas: &mut [u8],
+) -> Finishing
+    ensures { λ r. ⌜ (finishedOver r (now (colors .exit)), now (canvas .exit))
+        ≡ finishedBy (over setup life frame (ofTable (now (colors .entry)))) (ofTable (now (owner .entry))) (now (canvas .entry)) ⌝ }
+{
+    let answer = finish(setup, life, frame, colors, canvas);
+    if let Finishing::Refused(refusal) = answer {
+        *colors = *owner;
+        return Finishing::Refused(refusal);
+    }
+    answer
+}
+
 // Inner: asks that a session can be opened, and for an allowance of at least 6W. Feeds it the part in pieces of `chunk` bytes,
-// those that a stop left unread first, and finishes it. Neither `chunk` nor `allowance` shows in the outcome.
+// those that a stop left unread first, and finishes it. Neither `chunk` nor `allowance` shows in the outcome. The registers are the
+// picture's where there is one, and else stay as they are.
 pub fn read_in_pieces(
     limits: Limits,
     stride: usize,
     settings: Settings,
-    palette: Palette,
+    colors: &mut [u32; 256],
     canvas: &mut [u8],
     part: &[u8],
     chunk: usize,
     allowance: usize,
-) -> Finished
+) -> Finishing
     requires { ⌜ openable limits stride (length (now canvas)) ≡ true ⌝ }
     requires { ⌜ 6 * limits .width ≤ allowance ⌝ }
-    ensures { λ r. ⌜ readMeant r (now (canvas .exit))
-        ≡ readPart (settingMeant limits stride (length (now (canvas .entry)))) (parametersMeant settings) palette
+    ensures { λ r. ⌜ readMeant (finishedOver r (now (colors .exit))) (now (canvas .exit))
+        ≡ readPart (settingMeant limits stride (length (now (canvas .entry)))) (parametersMeant settings) (ofTable (now (colors .entry)))
         (now (canvas .entry)) (now (part .entry)) ⌝ }
 {
-    let opened = open(limits, stride, settings, palette, canvas);
-    let mut session = opened.session;
+    let owner = *colors;
+    let opened = open(limits, stride, settings, colors, canvas);
+    let setup = opened.setup;
+    let mut life = opened.life;
+    let mut frame = opened.frame;
     let mut at = 0;
     loop {
         let end = piece_end(at, part.len(), chunk);
-        let fed = feed(session, canvas, &part[at..end], allowance);
+        let bytes = &part[at..end];
+        let fed = feed_passed(setup, life, frame, colors, canvas, bytes, allowance);
         let answer = fed.answer;
-        session = fed.session;
+        life = fed.life;
+        frame = fed.frame;
         match answer {
             Answer::Stopped { consumed, ink: _ } => at += consumed,
             Answer::More { consumed, ink: _ } => {
                 at += consumed;
                 if at == part.len() {
-                    return finish(session, palette, canvas);
+                    return finish_for(&owner, setup, life, frame, colors, canvas);
                 }
             }
             Answer::Ended {
                 consumed: _,
                 ink: _,
                 byte: _,
-            } => return finish(session, palette, canvas),
-            Answer::Refused(refusal) => return refuse(palette, refusal),
+            } => return finish_for(&owner, setup, life, frame, colors, canvas),
+            Answer::Refused(refusal) => {
+                *colors = owner;
+                return Finishing::Refused(refusal);
+            }
         }
     }
 }
 
-// Reads the payload of some bytes onto a canvas of `stride` pixels a row, with the owner's palette, which is handed back: the
-// picture's where there is one.
+// What reading all at once came to, and how long the part is that it took for the payload: the last bytes of all, none where it refuses
+// before that.
+pub struct Reading {
+    pub answer: Finishing,
+    pub part: usize,
+}
+
+fn turned_away(refusal: Refusal) -> Reading
+    ensures { λ r. ⌜ r ≡ record { answer = Finishing.Refused refusal; part = 0 } ⌝ }
+{
+    Reading {
+        answer: Finishing::Refused(refusal),
+        part: 0,
+    }
+}
+
+// Reads the payload of some bytes onto a canvas of `stride` pixels a row, with the owner's registers, which become the picture's where
+// there is one.
+pub fn read_onto(
+    limits: Limits,
+    stride: usize,
+    colors: &mut [u32; 256],
+    canvas: &mut [u8],
+    bytes: &[u8],
+) -> Reading
+    ensures { λ r. ⌜ (readMeant (finishedOver (r .answer) (now (colors .exit))) (now (canvas .exit))
+        ≡ readWhole (limitsMeant limits) stride (ofTable (now (colors .entry))) (now (canvas .entry)) (now (bytes .entry)))
+        × (r .part ≡ length (partHandedBack (limitsMeant limits) stride (length (now (canvas .entry))) (now (bytes .entry)))) ⌝ }
+{
+    if may_open(limits, stride, canvas.len()) {
+        match find(bytes) {
+            Found::Payload { from, settings } => {
+                let part = bytes.len() - from;
+                let answer = read_in_pieces(
+                    limits,
+                    stride,
+                    settings,
+                    colors,
+                    canvas,
+                    &bytes[from..],
+                    0,
+                    ALLOWANCE,
+                );
+                return Reading { answer, part };
+            }
+            Found::Refused(refusal) => return turned_away(refusal),
+        }
+    }
+    turned_away(Refusal::Opening)
+}
+
+// The same, with the owner's palette, which is handed back: the picture's where there is one.
 pub fn read(
     limits: Limits,
     stride: usize,
@@ -120,22 +196,11 @@ pub fn read(
     ensures { λ r. ⌜ readMeant r (now (canvas .exit))
         ≡ readWhole (limitsMeant limits) stride palette (now (canvas .entry)) (now (bytes .entry)) ⌝ }
 {
-    if may_open(limits, stride, canvas.len()) {
-        match find(bytes) {
-            Found::Payload { from, settings } => {
-                return read_in_pieces(
-                    limits,
-                    stride,
-                    settings,
-                    palette,
-                    canvas,
-                    &bytes[from..],
-                    0,
-                    ALLOWANCE,
-                );
-            }
-            Found::Refused(refusal) => return refuse(palette, refusal),
-        }
+    let mut colors = palette.table();
+    let read = read_onto(limits, stride, &mut colors, canvas, bytes);
+    let answer = read.answer;
+    Finished {
+        answer,
+        palette: Palette::of_table(colors),
     }
-    refuse(palette, Refusal::Opening)
 }

@@ -1,4 +1,3 @@
-pub mod BenchLaws
 pub mod ReportLaws
 pub mod SessionCalls
 pub mod SessionLaws

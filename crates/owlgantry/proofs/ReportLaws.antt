@@ -12,16 +12,15 @@ use Rattle.colours.specs.declared.Palette.{Palette}
 use Rattle.colours.specs.Palette.{ofTable, standard}
 use Rattle.frame.specs.declared.Limits.{Limits}
 use Rattle.meaning.specs.Calls.{opens, partHandedBack}
-use Rattle.meaning.specs.Drawing as drawing
 use Rattle.meaning.specs.OneShot as meaning
 use Rattle.meaning.specs.Payload as meant
 use Rattle.meaning.proofs.AreaLaws.{cond-case}
-use Rattle.payload.specs.declared.Finished.{Finished}
 use Rattle.payload.specs.declared.Finishing.{Finishing}
 use Rattle.payload.specs.declared.Finishing.the-variants.{Picture, Refused}
 use Rattle.payload.specs.declared.Given.{Given}
 use Rattle.payload.specs.declared.Ratio.{Ratio}
 use Rattle.payload.specs.declared.Report.{Report}
+use Rattle.payload.specs.Core.{finishedOver}
 use Rattle.payload.specs.Meant.{givenMeant, ratioMeant, limitsMeant, reportMeant, finishMeant}
 use Rattle.oneshot.specs.declared.search.Found.{Found}
 use Rattle.oneshot.specs.declared.search.Found.the-variants as founds
@@ -86,11 +85,11 @@ found-short bytes (founds.Payload from o) = rw (length-drop from bytes) (omega a
 found-short bytes (founds.Refused n) = rw (refused-part bytes n) (omega arith)
 
 -- the part is no longer than the bytes
-pub part-short : (l : Limits) (stride size : ℕ) (bytes : List ℕ) {part : List ℕ}
-    → part ≡ partHandedBack (limitsMeant l) stride size bytes → length part ≤ length bytes
+pub part-short : (l : Limits) (stride size : ℕ) (bytes : List ℕ) {part : ℕ}
+    → part ≡ length (partHandedBack (limitsMeant l) stride size bytes) → part ≤ length bytes
 unfolding partHandedBack
 part-short l stride size bytes e =
-    subst (λ (us : List ℕ). length us ≤ length bytes) (sym e)
+    subst (λ (n : ℕ). n ≤ length bytes) (sym e)
     (cond-case (λ (us : List ℕ). length us ≤ length bytes) (opens (limitsMeant l) stride size)
     (λ _. subst (λ (f : meaning.Found). length (meaning.partOf f) ≤ length bytes) (found-meant bytes)
     (found-short bytes (foundIn bytes)))
@@ -100,38 +99,29 @@ part-short l stride size bytes e =
 abbrev four : ℕ → ℕ → ℕ → ℕ → Limits
 four w h m n = record { width = w; height = h; repeats = m; pixels = n }
 
-pub read-out : (w h m n stride : ℕ) (canvas bytes table : List ℕ) {part : List ℕ} {owner : Palette}
-    (x : Finished) (l₁ after : List ℕ) {r : ℕ} {report : List ℕ}
-    → owner ≡ ofTable table
-    → part ≡ partHandedBack (limitsMeant (four w h m n)) stride (length canvas) bytes
-    → readMeant x l₁ ≡ readWhole (limitsMeant (four w h m n)) stride owner canvas bytes
-    → ofTable after ≡ x .palette
-    → report ≡ reportNumbers (finishMeant (x .answer) (x .palette)) (length bytes - length part) (length part)
-    → r ≡ refusalNumber (finishMeant (x .answer) (x .palette))
+pub read-out : (w h m n stride : ℕ) (canvas bytes table : List ℕ) {part : ℕ} (a : Finishing) (l₁ after : List ℕ) {r : ℕ} {report : List ℕ}
+    → readMeant (finishedOver a after) l₁ ≡ readWhole (limitsMeant (four w h m n)) stride (ofTable table) canvas bytes
+    → part ≡ length (partHandedBack (limitsMeant (four w h m n)) stride (length canvas) bytes)
+    → ((p : Palette) → report ≡ reportNumbers (finishMeant a p) (length bytes - part) part)
+    → ((p : Palette) → r ≡ refusalNumber (finishMeant a p))
     → (r, l₁, ofTable after, report)
     ≡ sixelRead (record { width = w; height = h; repeats = m; pixels = n }) stride canvas bytes (ofTable table)
 unfolding sixelRead readMeant limitsMeant
-read-out w h m n stride canvas bytes table {part} {owner} x l₁ after {r} {report} own handed read palette reports answers =
-    ap (λ (i : ℕ). (i, l₁, ofTable after, report)) answers
-    ∙ ap₂ (λ (p : Palette) (us : List ℕ). (number, l₁, p, us)) palette reports
-    ∙ ap (λ (us : List ℕ). (number, l₁, x .palette, nine answer us)) handed
-    ∙ ap (λ (y : Read). (refusalNumber (y .answer), y .canvas, y .palette, nine (y .answer) given))
-    (read ∙ ap (λ (p : Palette). readWhole limits stride p canvas bytes) own)
+read-out w h m n stride canvas bytes table {part} a l₁ after {r} {report} read handed reports answers =
+    ap (λ (i : ℕ). (i, l₁, ofTable after, report)) (answers (ofTable after))
+    ∙ ap (λ (us : List ℕ). (number, l₁, ofTable after, us)) (reports (ofTable after))
+    ∙ ap (λ (k : ℕ). (number, l₁, ofTable after, nine answer k)) handed
+    ∙ ap (λ (y : Read). (refusalNumber (y .answer), y .canvas, y .palette, nine (y .answer) (length given))) read
   where
-    limits : drawing.Limits
-    limits = record { width = w; height = h; repeats = m; pixels = n }
-
     given : List ℕ
-    given = partHandedBack limits stride (length canvas) bytes
+    given = partHandedBack (record { width = w; height = h; repeats = m; pixels = n }) stride (length canvas) bytes
 
     answer : meant.Finished
-    answer = finishMeant (x .answer) (x .palette)
+    answer = finishMeant a (ofTable after)
 
     number : ℕ
     number = refusalNumber answer
 
     -- the report with a part, which reaches to the end of the bytes
-    nine : meant.Finished → List ℕ → List ℕ
-    nine y us = reportNumbers y (length bytes - length us) (length us)
-
-pub ruleset readings = (part-short, read-out)
+    nine : meant.Finished → ℕ → List ℕ
+    nine y k = reportNumbers y (length bytes - k) k

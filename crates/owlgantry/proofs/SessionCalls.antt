@@ -7,22 +7,35 @@ use Rattle.colours.specs.declared.Palette.{Palette}
 use Rattle.colours.specs.Palette.{ofTable}
 use Rattle.frame.specs.declared.Limits.{Limits}
 use Rattle.meaning.specs.Payload as meant
-use Rattle.payload.specs.declared.Answer as payloadAnswer
-use Rattle.payload.specs.declared.Fed as payloadFedRecord
+use denote.Enum.Declared.{tagOf}
+use types.Run.{OneOf, miss}
+use Rattle.numbers.specs.Memory as parameters
+use Rattle.frame.specs.declared.Frame.{Frame}
 use Rattle.payload.specs.declared.Finished.{Finished}
+use Rattle.payload.specs.declared.Finishing.{Finishing}
+use Rattle.payload.specs.declared.Finishing.the-variants as finishes
 use Rattle.payload.specs.declared.Given.{Given}
-use Rattle.payload.specs.declared.Opened as payloadOpenedRecord
-use Rattle.payload.specs.declared.Opening.{Opening}
+use Rattle.payload.specs.declared.Life.{Life}
 use Rattle.payload.specs.declared.Session as payloadSession
-use Rattle.payload.specs.Codes.{givenFrom}
+use Rattle.payload.specs.declared.Settings.{Settings}
+use Rattle.payload.specs.declared.core.Setup.{Setup}
+use Rattle.payload.specs.declared.core.feeding.Fed as payloadFeeding
+use Rattle.payload.specs.declared.core.opening.Opened as payloadOpening
+use Rattle.payload.specs.Codes.{givenFrom, lifeFrom}
+use Rattle.payload.specs.Core as payloadParts
+use Rattle.payload.proofs.CoreLaws.{owned}
+use Rattle.payload.proofs.Finishing as FinishingType
 use Rattle.payload.specs.Memory as payloadMemory
 use Rattle.payload.specs.Session as payload
 use Rattle.dcs.specs.declared.Answer as dcsAnswer
 use Rattle.dcs.specs.declared.Answer.the-variants as dcsAnswers
 use Rattle.dcs.specs.declared.Ending.{Ending}
-use Rattle.dcs.specs.declared.Fed as dcsFedRecord
-use Rattle.dcs.specs.declared.Opened as dcsOpenedRecord
+use Rattle.dcs.specs.declared.Phase.{Phase}
 use Rattle.dcs.specs.declared.Session as dcsSession
+use Rattle.dcs.specs.declared.core.Core.{Core}
+use Rattle.dcs.specs.declared.core.feeding.Fed as dcsFeeding
+use Rattle.dcs.specs.declared.core.opening.Opened as dcsOpening
+use Rattle.dcs.specs.Core as dcsParts
 use Rattle.dcs.specs.Memory as dcsMemory
 use Rattle.dcs.specs.Session as dcs
 use Rattle.payload.specs.Meant.{finishMeant}
@@ -57,66 +70,108 @@ seven-first (meant.turnedDown n) = refl
 pub seven-told : (x : meant.Finished) {l : List ℕ} → l ≡ reportNumbers x 0 0 → seven l ≡ finishReport x
 seven-told x e = rw e (seven-first x)
 
+-- ---- a session in memory, from its parts
+
+module _ (ns ts : List ℕ) {u : Setup} {life : Life} {f : Frame} (eu : u ≡ payloadMemory.setupFrom ns) (el : life ≡ lifeFrom (getD ns 10 0))
+    (ef : f ≡ payloadMemory.frameFrom ns) where
+  pub payload-held : payloadParts.over u life f (ofTable ts) ≡ payloadMemory.sessionFrom ns ts
+  unfolding payloadMemory.sessionFrom payloadMemory.setupFrom
+  payload-held = rw (eu, el, ef) refl
+
+  pub dcs-held : {t : Phase} → t ≡ dcsMemory.phaseFrom (getD ns 34 0)
+      → dcs.sessionOf (payloadParts.over u life f (ofTable ts)) (parameters.parametersFrom (payloadMemory.nineFrom ns 35)) t
+      ≡ dcsMemory.sessionFrom ns ts
+  unfolding dcsMemory.sessionFrom
+  dcs-held et = rw (payload-held, et) refl
+
+core-held : (ns ts : List ℕ) {c : Core} → c ≡ dcsMemory.coreFrom ns → dcsParts.over c (ofTable ts) ≡ dcsMemory.sessionFrom ns ts
+unfolding dcsMemory.sessionFrom dcsMemory.coreFrom payloadMemory.sessionFrom payloadMemory.setupFrom
+core-held ns ts e = rw e refl
+
 -- ---- an opening
 
--- a payload session, by the two parameters that were given and the owner's palette
-abbrev opened-with : Limits → ℕ → List ℕ → Given × Given × Palette → payloadOpenedRecord.Opened × List ℕ
-opened-with l stride canvas x = payload.openedBy l stride (record { p1 = x .0; p2 = x .1 }) (x .2) canvas
+pub payload-opened : (w h m n stride p1 p2 : ℕ) (table canvas : List ℕ) {g1 g2 : Given} (x : payloadOpening.Opened) (l₁ : List ℕ) {ns : List ℕ} {r : ℕ}
+    → g1 ≡ givenFrom p1 → g2 ≡ givenFrom p2
+    → (payloadParts.openedOver x (ofTable table), l₁)
+    ≡ payload.openedBy (four w h m n) stride (record { p1 = g1; p2 = g2 }) (ofTable table) canvas
+    → ((p : Palette) → ns ≡ payloadMemory.numbersOf (payloadParts.over (x .setup) (x .life) (x .frame) p)) → r ≡ openingNumber (x .answer)
+    → (r, ns, table, l₁) ≡ payloadOpened (four w h m n) stride p1 p2 table canvas
+unfolding payloadOpened payloadOpenedAs ofTable
+payload-opened w h m n stride p1 p2 table canvas x l₁ a b e en er =
+    called payloadOpenedAs (λ (o : Settings). payload.openedBy (four w h m n) stride o (ofTable table) canvas) (rw (er, en (ofTable table)) refl) e
+    (rw (a, b) refl)
 
-pub payload-opened : (w h m n stride p1 p2 : ℕ) (table canvas : List ℕ) {g1 g2 : Given} {owner : Palette}
-    (x : payloadOpenedRecord.Opened) (l₁ : List ℕ) {ns ts : List ℕ} {r : ℕ}
-    → g1 ≡ givenFrom p1 → g2 ≡ givenFrom p2 → owner ≡ ofTable table
-    → (x, l₁) ≡ opened-with (four w h m n) stride canvas (g1, g2, owner)
-    → ns ≡ payloadMemory.numbersOf (x .session) → ts ≡ payloadMemory.tableOf (x .session) → r ≡ openingNumber (x .answer)
-    → (r, ns, ts, l₁) ≡ payloadOpened (four w h m n) stride p1 p2 table canvas
-unfolding payloadOpened payloadOpenedAs
-payload-opened w h m n stride p1 p2 table canvas x l₁ a b o e en et er =
-    called payloadOpenedAs (opened-with (four w h m n) stride canvas) (rw (er, en, et) refl) e (rw (a, b, o) refl)
-
-pub dcs-opened : (w h m n stride size : ℕ) (table : List ℕ) {owner : Palette} (x : dcsOpenedRecord.Opened) {ns ts : List ℕ} {r : ℕ}
-    → owner ≡ ofTable table → x ≡ dcs.openedBy (four w h m n) stride owner size
-    → ns ≡ dcsMemory.numbersOf (x .session) → ts ≡ dcsMemory.tableOf (x .session) → r ≡ openingNumber (x .answer)
-    → (r, ns, ts) ≡ dcsOpened (four w h m n) stride size table
-unfolding dcsOpened dcsOpenedAs
-dcs-opened w h m n stride size table x o e en et er =
-    called dcsOpenedAs (λ (q : Palette). dcs.openedBy (four w h m n) stride q size) (rw (er, en, et) refl) e o
+pub dcs-opened : (w h m n stride size : ℕ) (table : List ℕ) (x : dcsOpening.Opened) {ns : List ℕ} {r : ℕ}
+    → dcsParts.openedOver x (ofTable table) ≡ dcs.openedBy (four w h m n) stride (ofTable table) size
+    → ((p : Palette) → ns ≡ dcsMemory.numbersOf (dcsParts.over (x .core) p)) → r ≡ openingNumber (x .answer)
+    → (r, ns, table) ≡ dcsOpened (four w h m n) stride size table
+unfolding dcsOpened dcsOpenedAs ofTable
+dcs-opened w h m n stride size table x e en er = rw (er, en (ofTable table)) (ap dcsOpenedAs e)
 
 -- ---- a feed
 
-pub payload-fed : (ns ts canvas bytes : List ℕ) (allowance : ℕ) {s : payloadSession.Session}
-    (x : payloadFedRecord.Fed) (l₁ : List ℕ) {ns′ ts′ report : List ℕ} {r : ℕ}
-    → s ≡ payloadMemory.sessionFrom ns ts → (x, l₁) ≡ payload.fedBy s canvas bytes allowance
-    → ns′ ≡ payloadMemory.numbersOf (x .session) → ts′ ≡ payloadMemory.tableOf (x .session)
+pub payload-fed : (ns ts canvas bytes : List ℕ) (allowance : ℕ) {u : Setup} {life : Life} {f : Frame}
+    (x : payloadFeeding.Fed) (l₁ ts′ : List ℕ) {ns′ report : List ℕ} {r : ℕ}
+    → u ≡ payloadMemory.setupFrom ns → life ≡ lifeFrom (getD ns 10 0) → f ≡ payloadMemory.frameFrom ns
+    → (payloadParts.fedOver u x ts′, l₁) ≡ payload.fedBy (payloadParts.over u life f (ofTable ts)) canvas bytes allowance
+    → ((p : Palette) → ns′ ≡ payloadMemory.numbersOf (payloadParts.over u (x .life) (x .frame) p))
     → report ≡ payloadReport (x .answer) → r ≡ payloadNumber (x .answer)
     → (r, ns′, ts′, l₁, report) ≡ payloadFed ns ts canvas bytes allowance
-unfolding payloadFed payloadFedAs
-payload-fed ns ts canvas bytes allowance x l₁ k e en et ep er =
-    called payloadFedAs (λ (s : payloadSession.Session). payload.fedBy s canvas bytes allowance) (rw (er, en, et, ep) refl) e k
+unfolding payloadFed payloadFedAs ofTable
+payload-fed ns ts canvas bytes allowance x l₁ ts′ eu el ef e en ep er =
+    called payloadFedAs (λ (s : payloadSession.Session). payload.fedBy s canvas bytes allowance) (rw (er, en (ofTable ts′), ep) refl) e
+    (payload-held ns ts eu el ef)
 
-pub dcs-fed : (ns ts canvas bytes : List ℕ) (allowance : ℕ) {s : dcsSession.Session}
-    (x : dcsFedRecord.Fed) (l₁ : List ℕ) {ns′ ts′ report : List ℕ} {r : ℕ}
-    → s ≡ dcsMemory.sessionFrom ns ts → (x, l₁) ≡ dcs.fedBy s canvas bytes allowance
-    → ns′ ≡ dcsMemory.numbersOf (x .session) → ts′ ≡ dcsMemory.tableOf (x .session)
+pub dcs-fed : (ns ts canvas bytes : List ℕ) (allowance : ℕ) {c : Core} (x : dcsFeeding.Fed) (l₁ ts′ : List ℕ) {ns′ report : List ℕ} {r : ℕ}
+    → c ≡ dcsMemory.coreFrom ns → (dcsParts.fedOver x (ofTable ts′), l₁) ≡ dcs.fedBy (dcsParts.over c (ofTable ts)) canvas bytes allowance
+    → ((p : Palette) → ns′ ≡ dcsMemory.numbersOf (dcsParts.over (x .core) p))
     → report ≡ dcsReport (x .answer) → r ≡ dcsNumber (x .answer)
     → (r, ns′, ts′, l₁, report) ≡ dcsFed ns ts canvas bytes allowance
-unfolding dcsFed dcsFedAs
-dcs-fed ns ts canvas bytes allowance x l₁ k e en et ep er =
-    called dcsFedAs (λ (s : dcsSession.Session). dcs.fedBy s canvas bytes allowance) (rw (er, en, et, ep) refl) e k
+unfolding dcsFed dcsFedAs ofTable
+dcs-fed ns ts canvas bytes allowance x l₁ ts′ k e en ep er =
+    called dcsFedAs (λ (s : dcsSession.Session). dcs.fedBy s canvas bytes allowance) (rw (er, en (ofTable ts′), ep) refl) e (core-held ns ts k)
 
 -- ---- a finish
 
-finish-told : (x : Finished) (l₁ : List ℕ) {ts report : List ℕ} {r : ℕ}
-    → ofTable ts ≡ x .palette → report ≡ finishReport (finishMeant (x .answer) (x .palette))
-    → r ≡ refusalNumber (finishMeant (x .answer) (x .palette)) → (r, replicate 48 0, ts, l₁, report) ≡ finishedAs (x, l₁)
-unfolding finishedAs ofTable
-finish-told x l₁ {ts} et ep er = let e : ts ≡ x .palette .colors = ap (λ (p : Palette). p .colors) et in rw (er, e, ep) refl
+-- the answer that is handed back is the finish's
+handed-answer : (a : Finishing) (owner after : Palette) → payloadParts.handedBack a owner after .answer ≡ a
+unfolding payloadParts.handedBack
+handed-answer (finishes.Picture r) owner after = refl
+handed-answer (finishes.Refused n) owner after = refl
 
--- of either session, which is made from the memory and finished by value
+finish-told : (a : Finishing) (owner after : Palette) (l₁ : List ℕ) {ts report : List ℕ} {r : ℕ}
+    → ts ≡ payloadParts.handedBack a owner after .palette .colors
+    → ((p : Palette) → report ≡ finishReport (finishMeant a p)) → ((p : Palette) → r ≡ refusalNumber (finishMeant a p))
+    → (r, replicate 48 0, ts, l₁, report) ≡ finishedAs (payloadParts.handedBack a owner after, l₁)
+unfolding finishedAs
+finish-told a owner after l₁ et ep er =
+    let x : Finished = payloadParts.handedBack a owner after in
+    rw (er (x .palette), et, ep (x .palette), handed-answer a owner after) refl
+
+-- of either session, which is made from the memory and finished with its own registers
 pub finished-by : {S : Type 0} (from : List ℕ → List ℕ → S) (by : S → Palette → List ℕ → Finished × List ℕ)
-    (ns ts palette canvas : List ℕ) {s : S} {owner : Palette} (x : Finished) (l₁ : List ℕ) {ts′ report : List ℕ} {r : ℕ}
-    → s ≡ from ns ts → owner ≡ ofTable palette → (x, l₁) ≡ by s owner canvas
-    → ofTable ts′ ≡ x .palette → report ≡ finishReport (finishMeant (x .answer) (x .palette))
-    → r ≡ refusalNumber (finishMeant (x .answer) (x .palette))
+    (own : (s : S) (owner other : Palette) (canvas : List ℕ) → by s owner canvas ≡ owned owner (by s other canvas))
+    (ns ts palette canvas : List ℕ) {s : S} {a : Finishing} (after l₁ : List ℕ) {ts′ report : List ℕ} {r : ℕ}
+    → s ≡ from ns ts → (payloadParts.finishedOver a after, l₁) ≡ by s (ofTable ts) canvas
+    → ts′ ≡ payloadParts.handedBack a (ofTable palette) (ofTable after) .palette .colors
+    → ((p : Palette) → report ≡ finishReport (finishMeant a p)) → ((p : Palette) → r ≡ refusalNumber (finishMeant a p))
     → (r, replicate 48 0, ts′, l₁, report) ≡ finishedAs (by (from ns ts) (ofTable palette) canvas)
-finished-by {S} from by ns ts palette canvas x l₁ k o e et ep er =
-    called finishedAs (λ (y : S × Palette). by (y .0) (y .1) canvas) (finish-told x l₁ et ep er) e (rw (k, o) refl)
+finished-by {S} from by own ns ts palette canvas {a = a} after l₁ k e et ep er =
+    finish-told a (ofTable palette) (ofTable after) l₁ et ep er
+    ∙ ap finishedAs
+    (ap (owned (ofTable palette)) (e ∙ ap (λ (s : S). by s (ofTable ts) canvas) k) ∙ sym (own (from ns ts) (ofTable palette) (ofTable ts) canvas))
+
+-- the owner's registers then
+pub over-picture : (a : Finishing) (owner after : List ℕ) → OneOf (0 ∷ []) (tagOf FinishingType.the-type a)
+    → after ≡ payloadParts.handedBack a (ofTable owner) (ofTable after) .palette .colors
+unfolding payloadParts.handedBack ofTable
+over-picture (finishes.Picture r) owner after h = refl
+over-picture (finishes.Refused n) owner after h = absurd (miss (0 ∷ []) 1 tt h)
+
+pub over-refused : (a : Finishing) (owner after : List ℕ) → OneOf (1 ∷ []) (tagOf FinishingType.the-type a)
+    → owner ≡ payloadParts.handedBack a (ofTable owner) (ofTable after) .palette .colors
+unfolding payloadParts.handedBack ofTable
+over-refused (finishes.Picture r) owner after h = absurd (miss (1 ∷ []) 0 tt h)
+over-refused (finishes.Refused n) owner after h = refl
+
+pub ruleset handings = (over-picture, over-refused)

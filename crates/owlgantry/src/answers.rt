@@ -1,11 +1,12 @@
 // What the calls over a session answer, as numbers.
 ghost use mathlib.Core.Path.{_≡_};
+ghost use Rattle.colours.specs.declared.Palette.{Palette};
 ghost use Rattle.payload.specs.Meant.{finishMeant};
 ghost use Rattle.owlgantry.specs.Sessions.{openingNumber, payloadNumber, payloadReport, endingKind, endingByte, dcsNumber, dcsReport, finishReport};
 use crate::report::report_numbers;
 use dcs::Ending;
 use frame::number;
-use payload::Finished;
+use payload::Finishing;
 use payload::Opening;
 
 // 0, or 11.
@@ -121,10 +122,10 @@ pub fn dcs_report(answer: dcs::Answer) -> [u64; 4]
 }
 
 // Width, height, right, bottom, the ratio's kind and number, and 1 for a transparent background; on a refusal all are 0.
-pub fn finish_report(finished: Finished) -> [u64; 7]
-    ensures { λ r. ⌜ r ≡ finishReport (finishMeant (finished .answer) (finished .palette)) ⌝ }
+pub fn finish_report(answer: Finishing) -> [u64; 7]
+    ensures { λ r. ⌜ ((p : Palette) → r ≡ finishReport (finishMeant answer p)) ⌝ }
 {
-    let nine = report_numbers(finished, 0, 0);
+    let nine = report_numbers(answer, 0, 0);
     [
         nine[0],
         nine[1],

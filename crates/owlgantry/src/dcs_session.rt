@@ -5,15 +5,19 @@ use crate::answers::dcs_number;
 use crate::answers::dcs_report;
 use crate::answers::finish_report;
 use crate::answers::opening_number;
+use crate::report::hand_over;
 use crate::report::refusal_number;
-use colours::Palette;
-use dcs::feed;
-use dcs::finish;
+use dcs::core::feeding::feed;
+use dcs::core::finishing::finish;
+use dcs::core::opening::open;
+use dcs::memory::core_from;
 use dcs::memory::numbers_of;
-use dcs::memory::session_from;
-use dcs::memory::table_of;
-use dcs::open;
+use dcs::memory::phase_from;
 use frame::Limits;
+use payload::codes::life_from;
+use payload::memory::frame_from;
+use payload::memory::setup_from;
+use payload::places;
 
 // Opens a session for a canvas of `length` bytes, with a copy of the owner's registers. Answers 0, or 11.
 #[no_mangle]
@@ -37,12 +41,10 @@ pub extern "C" fn owlgantry_raw_dcs_open(
         repeats,
         pixels,
     };
-    let owner = Palette::of_table(*palette);
-    let opened = open(limits, stride, owner, length);
+    let opened = open(limits, stride, palette, length);
     let answer = opened.answer;
-    let after = opened.session;
-    *session = numbers_of(after);
-    *registers = table_of(after);
+    *session = numbers_of(opened.core);
+    *registers = *palette;
     opening_number(answer)
 }
 
@@ -61,12 +63,10 @@ pub extern "C" fn owlgantry_raw_dcs_feed(
     ensures { λ r. ⌜ (r, now (session .exit), now (registers .exit), now (canvas .exit), now (report .exit))
         ≡ dcsFed (now (session .entry)) (now (registers .entry)) (now (canvas .entry)) (now (bytes .entry)) allowance ⌝ }
 {
-    let before = session_from(session, registers);
-    let fed = feed(before, canvas, bytes, allowance);
+    let before = core_from(session);
+    let fed = feed(before, registers, canvas, bytes, allowance);
     let answer = fed.answer;
-    let after = fed.session;
-    *session = numbers_of(after);
-    *registers = table_of(after);
+    *session = numbers_of(fed.core);
     *report = dcs_report(answer);
     dcs_number(answer)
 }
@@ -83,12 +83,19 @@ pub extern "C" fn owlgantry_raw_dcs_finish(
     ensures { λ r. ⌜ (r, now (session .exit), now (palette .exit), now (canvas .exit), now (report .exit))
         ≡ dcsFinished (now (session .entry)) (now (registers .entry)) (now (palette .entry)) (now (canvas .entry)) ⌝ }
 {
-    let before = session_from(session, registers);
-    let owner = Palette::of_table(*palette);
-    let finished = finish(before, owner, canvas);
-    let after = finished.palette;
+    let life = life_from(session[places::LIFE]);
+    let phase = phase_from(session[places::PHASE]);
+    let mut after = *registers;
+    let answer = finish(
+        setup_from(session),
+        life,
+        frame_from(session),
+        phase,
+        &mut after,
+        canvas,
+    );
     *session = [0; 48];
-    *palette = after.table();
-    *report = finish_report(finished);
-    refusal_number(finished)
+    hand_over(answer, &after, palette);
+    *report = finish_report(answer);
+    refusal_number(answer)
 }

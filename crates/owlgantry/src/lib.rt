@@ -9,54 +9,14 @@ ghost use mathlib.Core.Path.{_≡_};
 ghost use Rattle.colours.specs.Palette.{ofTable, standard};
 ghost use Rattle.canvas.specs.Copy.{copied};
 ghost use Rattle.canvas.specs.Picture.{areaOf};
-ghost use Rattle.owlgantry.specs.Bench.{benchDecoded};
 ghost use Rattle.owlgantry.specs.Reading.{sixelRead};
 use canvas::Copied;
 use canvas::copy_picture;
 use colours::Palette;
 use frame::Limits;
-use oneshot::payload_part;
-use oneshot::read;
-use oneshot::read_in_pieces;
-use payload::house_limits;
-use payload::no_settings;
-use payload::refusals::may_open;
+use oneshot::read_onto;
 use report::refusal_number;
 use report::report_numbers;
-use report::size_or_number;
-
-// The smallest allowance under the house's limits: 6W.
-const LEAST: usize = 6_144;
-
-// Reads a payload under the house's limits, with the standard palette and no parameters, in pieces of `chunk` bytes (0: all
-// at once), each with the smallest allowance. Answers width x 2^32 + height, or the refusal's number.
-#[no_mangle]
-pub extern "C" fn sixbench_decode(
-    canvas: &mut [u8],
-    stride: usize,
-    bytes: &[u8],
-    chunk: usize,
-) -> u64
-    ensures { λ r. ⌜ (r, now (canvas .exit)) ≡ benchDecoded stride (now (canvas .entry)) (now (bytes .entry)) ⌝ }
-{
-    let limits = house_limits();
-    if may_open(limits, stride, canvas.len()) {
-        let settings = no_settings();
-        let palette = Palette::standard();
-        let finished = read_in_pieces(
-            limits,
-            stride,
-            settings,
-            palette,
-            canvas,
-            bytes,
-            chunk,
-            LEAST,
-        );
-        return size_or_number(finished);
-    }
-    11
-}
 
 // Reads all at once, with a palette that becomes the picture's where there is one. Answers 0 or the refusal's number, and
 // reports nine numbers: width, height, right, bottom; the ratio's kind and number (0: left to P1, which is missing; 1: left
@@ -84,14 +44,10 @@ pub extern "C" fn owlgantry_raw_read(
         repeats,
         pixels,
     };
-    let part = payload_part(limits, stride, canvas.len(), bytes);
-    let size = part.len();
-    let owner = Palette::of_table(*palette);
-    let finished = read(limits, stride, owner, canvas, bytes);
-    let after = finished.palette;
-    *palette = after.table();
-    *report = report_numbers(finished, bytes.len() - size, size);
-    refusal_number(finished)
+    let reading = read_onto(limits, stride, palette, canvas, bytes);
+    let answer = reading.answer;
+    *report = report_numbers(answer, bytes.len() - reading.part, reading.part);
+    refusal_number(answer)
 }
 
 // Copies a picture's rows without gaps to the front of `out`. Answers 0, 12 or 14.

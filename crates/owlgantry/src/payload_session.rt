@@ -6,17 +6,19 @@ use crate::answers::finish_report;
 use crate::answers::opening_number;
 use crate::answers::payload_number;
 use crate::answers::payload_report;
+use crate::report::hand_over;
 use crate::report::refusal_number;
-use colours::Palette;
 use frame::Limits;
 use payload::Settings;
 use payload::codes::given_from;
-use payload::feed;
-use payload::finish;
+use payload::codes::life_from;
+use payload::core::feeding::feed;
+use payload::core::finishing::finish;
+use payload::core::opening::open;
+use payload::memory::frame_from;
 use payload::memory::numbers_of;
-use payload::memory::session_from;
-use payload::memory::table_of;
-use payload::open;
+use payload::memory::setup_from;
+use payload::places;
 
 // Opens a session with a copy of the owner's registers. A P1 or P2 above 65,535 is a missing one. Answers 0, or 11.
 #[no_mangle]
@@ -47,12 +49,11 @@ pub extern "C" fn owlgantry_raw_payload_open(
         p1: given_from(p1 as u64),
         p2: given_from(p2 as u64),
     };
-    let owner = Palette::of_table(*palette);
-    let opened = open(limits, stride, settings, owner, canvas);
+    let opened = open(limits, stride, settings, palette, canvas);
     let answer = opened.answer;
-    let after = opened.session;
-    *session = numbers_of(after);
-    *registers = table_of(after);
+    let life = opened.life;
+    *session = numbers_of(opened.setup, life, opened.frame);
+    *registers = *palette;
     opening_number(answer)
 }
 
@@ -70,12 +71,20 @@ pub extern "C" fn owlgantry_raw_payload_feed(
     ensures { λ r. ⌜ (r, now (session .exit), now (registers .exit), now (canvas .exit), now (report .exit))
         ≡ payloadFed (now (session .entry)) (now (registers .entry)) (now (canvas .entry)) (now (bytes .entry)) allowance ⌝ }
 {
-    let before = session_from(session, registers);
-    let fed = feed(before, canvas, bytes, allowance);
+    let setup = setup_from(session);
+    let life = life_from(session[places::LIFE]);
+    let fed = feed(
+        setup,
+        life,
+        frame_from(session),
+        registers,
+        canvas,
+        bytes,
+        allowance,
+    );
     let answer = fed.answer;
-    let after = fed.session;
-    *session = numbers_of(after);
-    *registers = table_of(after);
+    let after = fed.life;
+    *session = numbers_of(setup, after, fed.frame);
     *report = payload_report(answer);
     payload_number(answer)
 }
@@ -95,12 +104,17 @@ pub extern "C" fn owlgantry_raw_payload_finish(
     ensures { λ r. ⌜ (r, now (session .exit), now (palette .exit), now (canvas .exit), now (report .exit))
         ≡ payloadFinished (now (session .entry)) (now (registers .entry)) (now (palette .entry)) (now (canvas .entry)) ⌝ }
 {
-    let before = session_from(session, registers);
-    let owner = Palette::of_table(*palette);
-    let finished = finish(before, owner, canvas);
-    let after = finished.palette;
+    let mut after = *registers;
+    let life = life_from(session[places::LIFE]);
+    let answer = finish(
+        setup_from(session),
+        life,
+        frame_from(session),
+        &mut after,
+        canvas,
+    );
     *session = [0; 48];
-    *palette = after.table();
-    *report = finish_report(finished);
-    refusal_number(finished)
+    hand_over(answer, &after, palette);
+    *report = finish_report(answer);
+    refusal_number(answer)
 }

@@ -1,31 +1,19 @@
 // What a finish answers, as numbers.
 ghost use mathlib.Core.Path.{_≡_};
+ghost use Rattle.colours.specs.declared.Palette.{Palette};
+ghost use Rattle.colours.specs.Palette.{ofTable};
+ghost use Rattle.payload.specs.Core.{handedBack};
 ghost use Rattle.payload.specs.Meant.{givenMeant, ratioMeant, finishMeant};
-ghost use Rattle.owlgantry.specs.Bench.{SizeWithin, sizeOrNumber};
 ghost use Rattle.owlgantry.specs.Reading.{givenKind, givenNumber, ratioKind, ratioNumber, reportNumbers, refusalNumber};
 use frame::number;
-use payload::Finished;
 use payload::Finishing;
 use payload::Given;
 use payload::Ratio;
 
-// Inner: asks for a size within the house's limits. Width x 2^32 + height, or the refusal's number.
-pub fn size_or_number(finished: Finished) -> u64
-    requires { ⌜ SizeWithin (finished .answer) ⌝ }
-    ensures { λ r. ⌜ r ≡ sizeOrNumber (finishMeant (finished .answer) (finished .palette)) ⌝ }
-{
-    let answer = finished.answer;
-    match answer {
-        Finishing::Picture(report) => report.width as u64 * 4_294_967_296 + report.height as u64,
-        Finishing::Refused(refusal) => number(refusal) as u64,
-    }
-}
-
 // 0, or the refusal's number.
-pub fn refusal_number(finished: Finished) -> u64
-    ensures { λ r. ⌜ r ≡ refusalNumber (finishMeant (finished .answer) (finished .palette)) ⌝ }
+pub fn refusal_number(answer: Finishing) -> u64
+    ensures { λ r. ⌜ ((p : Palette) → r ≡ refusalNumber (finishMeant answer p)) ⌝ }
 {
-    let answer = finished.answer;
     match answer {
         Finishing::Picture(_) => 0,
         Finishing::Refused(refusal) => number(refusal) as u64,
@@ -69,10 +57,9 @@ fn ratio_number(ratio: Ratio) -> u64
 }
 
 // The nine numbers of a report, with the part's place and length.
-pub fn report_numbers(finished: Finished, place: usize, size: usize) -> [u64; 9]
-    ensures { λ r. ⌜ r ≡ reportNumbers (finishMeant (finished .answer) (finished .palette)) place size ⌝ }
+pub fn report_numbers(answer: Finishing, place: usize, size: usize) -> [u64; 9]
+    ensures { λ r. ⌜ ((p : Palette) → r ≡ reportNumbers (finishMeant answer p) place size) ⌝ }
 {
-    let answer = finished.answer;
     match answer {
         Finishing::Picture(report) => {
             let ratio = report.ratio;
@@ -89,5 +76,15 @@ pub fn report_numbers(finished: Finished, place: usize, size: usize) -> [u64; 9]
             ]
         }
         Finishing::Refused(_) => [0, 0, 0, 0, 0, 0, 0, place as u64, size as u64],
+    }
+}
+
+// The owner's registers become the picture's, where there is one.
+pub fn hand_over(answer: Finishing, after: &[u32; 256], palette: &mut [u32; 256])
+    ensures { λ _. ⌜ now (palette .exit)
+        ≡ handedBack answer (ofTable (now (palette .entry))) (ofTable (now (after .entry))) .palette .colors ⌝ }
+{
+    if let Finishing::Picture(_) = answer {
+        *palette = *after;
     }
 }

@@ -5,10 +5,9 @@ use mathlib.Core.Path.{_≡_, refl, sym, ap, _∙_}
 use lib.ListN.{getD}
 use Rattle.numbers.specs.declared.Parameters.{Parameters}
 use Rattle.numbers.specs.Memory as parameters
-use Rattle.colours.specs.declared.Palette.{Palette}
-use Rattle.colours.specs.Palette.{ofTable}
 use Rattle.frame.specs.declared.Command.{Command}
 use Rattle.frame.specs.declared.Extent.{Extent}
+use Rattle.frame.specs.declared.Frame.{Frame}
 use Rattle.frame.specs.declared.Ground.{Ground}
 use Rattle.frame.specs.declared.Kind.{Kind}
 use Rattle.frame.specs.declared.Pen.{Pen}
@@ -18,8 +17,9 @@ use Rattle.payload.specs.declared.Given.{Given}
 use Rattle.payload.specs.declared.Life.{Life}
 use Rattle.payload.specs.declared.Session.{Session}
 use Rattle.payload.specs.declared.Settings.{Settings}
+use Rattle.payload.specs.declared.core.Setup.{Setup}
 use Rattle.payload.specs.Codes.{givenNumber, givenFrom, lifeNumber, lifeFrom, kindNumber, kindFrom, colorNumber, colorFrom}
-use Rattle.payload.specs.Memory.{groundNumbers, penNumbers, areaNumbers, extentNumbers, rasterNumbers, commandNumbers, frameNumbers, ownNumbers, numbersOf, tableOf, groundFrom, settingsFrom, penFrom, areaFrom, extentFrom, rasterFrom, nineFrom, commandFrom, frameFrom, sessionFrom}
+use Rattle.payload.specs.Memory.{groundNumbers, penNumbers, areaNumbers, extentNumbers, rasterNumbers, commandNumbers, frameNumbers, ownNumbers, numbersOf, groundFrom, settingsFrom, penFrom, areaFrom, extentFrom, rasterFrom, nineFrom, commandFrom, frameFrom, setupFrom}
 
 -- ---- one number each
 
@@ -36,7 +36,7 @@ pub ruleset codes-as = (given-as, life-as, kind-as)
 
 -- ---- a session told
 
-pub numbers-told : (s : Session) {vs : List ℕ} {background p1 p2 life color kind : ℕ}
+pub numbers-told : (s : Session) {l vs : List ℕ} {background p1 p2 life color kind : ℕ}
     → vs ≡ parameters.numbersOf (s .frame .command .parameters)
     → background ≡ colorNumber (s .ground .background)
     → p1 ≡ givenNumber (s .settings .p1)
@@ -44,7 +44,8 @@ pub numbers-told : (s : Session) {vs : List ℕ} {background p1 p2 life color ki
     → life ≡ lifeNumber (s .life)
     → color ≡ colorNumber (s .frame .pen .color)
     → kind ≡ kindNumber (s .frame .command .kind)
-    → s .ground .limits .width
+    → l
+    ≡ s .ground .limits .width
     ∷ s .ground .limits .height
     ∷ s .ground .limits .repeats
     ∷ s .ground .limits .pixels
@@ -79,9 +80,9 @@ pub numbers-told : (s : Session) {vs : List ℕ} {background p1 p2 life color ki
     ∷ getD vs 7 0
     ∷ getD vs 8 0
     ∷ 0 ∷ 0 ∷ 0 ∷ 0 ∷ 0 ∷ 0 ∷ 0 ∷ 0 ∷ 0 ∷ 0 ∷ 0 ∷ 0 ∷ 0 ∷ 0 ∷ []
-    ≡ numbersOf s
+    → l ≡ numbersOf s
 unfolding numbersOf ownNumbers groundNumbers frameNumbers penNumbers areaNumbers extentNumbers rasterNumbers commandNumbers parameters.numbersOf
-numbers-told s ev eb e1 e2 el ec ek = rw (ev, eb, e1, e2, el, ec, ek) refl
+numbers-told s ev eb e1 e2 el ec ek e = e ∙ rw (ev, eb, e1, e2, el, ec, ek) refl
 
 -- ---- parts read
 
@@ -112,24 +113,15 @@ pub command-of : (ns : List ℕ) {k : Kind} {p : Parameters} → k ≡ kindFrom 
 unfolding commandFrom
 command-of ns e f = rw (e, f) refl
 
-pub session-of : (ns table : List ℕ) {g : Ground} {o : Settings} {x : Life} {p : Pen} {a : VisibleArea} {e : Extent} {r : Raster} {c : Command} {q : Palette}
-    → g ≡ groundFrom ns → o ≡ settingsFrom ns → x ≡ lifeFrom (getD ns 10 0) → p ≡ penFrom ns → a ≡ areaFrom ns → e ≡ extentFrom ns → r ≡ rasterFrom ns
-    → c ≡ commandFrom ns → q ≡ ofTable table
-    → _≡_ {A = Session}
-    (record {
-      ground = g;
-      length = getD ns 7 0;
-      settings = o;
-      life = x;
-      frame = record { pen = p; area = a; extent = e; raster = r; command = c };
-      palette = q;
-    })
-    (sessionFrom ns table)
-unfolding sessionFrom frameFrom
-session-of ns table eg eo ex ep ea ee er ec eq = rw (eg, eo, ex, ep, ea, ee, er, ec, eq) refl
+pub setup-of : (ns : List ℕ) {g : Ground} {o : Settings} → g ≡ groundFrom ns → o ≡ settingsFrom ns
+    → _≡_ {A = Setup} (record { ground = g; length = getD ns 7 0; settings = o }) (setupFrom ns)
+unfolding setupFrom
+setup-of ns eg eo = rw (eg, eo) refl
 
-pub ruleset read-back = (ground-of, settings-of, pen-of, command-of, session-of)
+pub frame-of : (ns : List ℕ) {p : Pen} {a : VisibleArea} {e : Extent} {r : Raster} {c : Command}
+    → p ≡ penFrom ns → a ≡ areaFrom ns → e ≡ extentFrom ns → r ≡ rasterFrom ns → c ≡ commandFrom ns
+    → _≡_ {A = Frame} (record { pen = p; area = a; extent = e; raster = r; command = c }) (frameFrom ns)
+unfolding frameFrom
+frame-of ns ep ea ee er ec = rw (ep, ea, ee, er, ec) refl
 
-pub table-of : (s : Session) {l : List ℕ} → ofTable l ≡ s .palette → l ≡ tableOf s
-unfolding ofTable
-table-of s e = ap (λ (p : Palette). p .colors) e
+pub ruleset read-back = (ground-of, settings-of, pen-of, command-of, setup-of, frame-of)

@@ -2,7 +2,7 @@
 use Prim.Native.Nat.{ℕ}
 use mathlib.Core.Bool.{Bool, true, false, cond}
 use mathlib.Core.List.{List}
-use mathlib.Core.Path.{_≡_, refl, sym, ap, ap₂, _∙_}
+use mathlib.Core.Path.{_≡_, refl}
 use lib.Dec.{leb}
 use lib.ListN.{length}
 use Rattle.colours.specs.declared.Palette.{Palette}
@@ -15,11 +15,12 @@ use Rattle.payload.specs.declared.Life.{Life}
 use Rattle.payload.specs.declared.Life.the-variants as lives
 use Rattle.payload.specs.declared.Opened.{Opened}
 use Rattle.payload.specs.declared.Opening.the-variants as openings
-use Rattle.payload.specs.declared.Session.{Session}
 use Rattle.payload.specs.declared.Settings.{Settings}
+use Rattle.payload.specs.declared.core.Setup.{Setup}
+use Rattle.payload.specs.Core.{over, begunOver}
 use Rattle.payload.specs.Refusals.{openable}
-use Rattle.payload.specs.Session.{clearFor, backgroundFor, blankFrame, groundFor, sessionFor, openingFor, firstLife, openedIf, firstPainted, sessionWith}
-use Rattle.payload.specs.Deferred.{noSettings, reservedBy, withBackground, begunSession, begunBy, failedOf}
+use Rattle.payload.specs.Session.{clearFor, backgroundFor, blankFrame, groundFor, sessionFor, openingFor, firstLife, openedIf, firstPainted}
+use Rattle.payload.specs.Deferred.{noSettings, reservedBy, withBackground, begunSession, begunBy}
 
 module _ (l : Limits) (stride : ℕ) (p : Palette) (size : ℕ) where
   either : (t : Bool) → openedIf t l stride size noSettings p
@@ -34,36 +35,18 @@ module _ (l : Limits) (stride : ℕ) (p : Palette) (size : ℕ) where
   unfolding reservedBy
   reserved-as e o k = rw (k, e, o) (either (openable l stride size))
 
-module _ (s : Session) (o : Settings) (canvas : List ℕ) {background : List ℕ} {f : Frame}
-    (b : background ≡ backgroundFor (s .palette) (o .p2)) (k : f ≡ blankFrame (s .palette)) where
-  -- the session at `q`, as the code makes it
-  abbrev begun : Session
-  begun =
-      record {
-        ground = record { limits = s .ground .limits; stride = s .ground .stride; rows = s .ground .rows; background = background };
-        length = s .length;
-        settings = o;
-        life = s .life;
-        frame = f;
-        palette = s .palette;
-      }
+-- the session at `q`, as the code makes it
+pub begun-as : (u : Setup) (life : Life) (f : Frame) (p : Palette) (o : Settings) (canvas : List ℕ) {background after : List ℕ}
+    → background ≡ backgroundFor p (o .p2) → after ≡ firstPainted (leb 4 (length canvas)) background canvas
+    → begunOver
+    (record {
+      ground = record { limits = u .ground .limits; stride = u .ground .stride; rows = u .ground .rows; background = background };
+      length = u .length;
+      settings = o;
+    })
+    life p after
+    ≡ begunBy (over u life f p) o canvas
+unfolding begunBy begunSession withBackground firstPainted
+begun-as u life f p o canvas b a = rw (a, b) refl
 
-  begun-session : begun ≡ begunSession s o
-  unfolding begunSession withBackground
-  begun-session = rw (b, k) refl
-
-  pub begun-as : {after : List ℕ} → after ≡ firstPainted (leb 4 (length canvas)) background canvas
-      → _≡_ {A = Session × List ℕ} (begun, after) (begunBy s o canvas)
-  unfolding begunBy firstPainted
-  begun-as a =
-      ap₂ (λ (x : Session) (c : List ℕ). (x, c)) begun-session
-      (a ∙ ap (λ (px : List ℕ). firstPainted (leb 4 (length canvas)) px canvas) b)
-
-pub failed-as : (s : Session)
-    → _≡_ {A = Session}
-    (record { ground = s .ground; length = s .length; settings = s .settings; life = lives.Failed; frame = s .frame; palette = s .palette })
-    (failedOf s)
-unfolding failedOf sessionWith
-failed-as s = refl
-
-pub ruleset beginnings = (reserved-as, begun-as, failed-as)
+pub ruleset beginnings = (reserved-as, begun-as)

@@ -1,6 +1,7 @@
 pub mod RefusalLaws
 pub mod PendingLaws
 pub mod SessionLaws
+pub mod CoreLaws
 pub mod DeferredLaws
 pub mod Openings
 pub mod Judgements

@@ -112,6 +112,17 @@ module _ (f : Frame) (g : Ground) (p : Palette) (l : List ℕ) where
   unfolding carriedOut carriedOutIn unreadAs
   carried-none e = ap (λ (k : Kind). carriedOutIn k f g p l) (sym e)
 
+-- where it is refused no register is defined: a colour command never is
+refused-kept : (f : Frame) (g : Ground) (p : Palette) (l : List ℕ) (k : Kind) → f .command .kind ≡ k → {n : Refusal}
+    → carriedOutIn k f g p l .progress .outcome ≡ outcomes.Refused n → carriedOutIn k f g p l .palette ≡ p
+unfolding carriedOutIn closedBy thenEnded unreadAs settledStep ended endedIn colorEndedBy settledAs
+refused-kept f g p l kinds.Data e h = refl
+refused-kept f g p l kinds.Repeat e h = ap (λ (k : Kind). endedIn k f g p .palette) e
+refused-kept f g p l kinds.Color e {n} h =
+    let ends : outcomes.Ended 0x1B ≡ outcomes.Refused n = sym (ap (λ (k : Kind). thenEnded (endedIn k f g p .progress .outcome)) e) ∙ h in
+    cc
+refused-kept f g p l kinds.Raster e h = ap (λ (k : Kind). endedIn k f g p .palette) e
+
 -- ---- what a finish makes of it
 
 module _ (s : Session) (owner : Palette) where
@@ -173,11 +184,14 @@ module _ (s : Session) (owner : Palette) where
         ap (λ (x : Reached). toldIn (x .progress .outcome) x) (e ∙ ap (λ (q : Palette). carriedOut (s .frame) (s .ground) q canvas) t)
         ∙ told-in (s .palette) canvas (s .frame .command .kind) refl
 
-    pub finish-last : {n : Refusal} {x : Finished} → r .outcome ≡ outcomes.Refused n → x ≡ record { answer = finishes.Refused n; palette = owner }
-        → (x, later) ≡ finishedLive s owner canvas
-    unfolding toldIn
-    finish-last h y =
-        ap (λ (z : Finished). (z, later)) y
+    -- a refusal leaves the registers that were lent, and so the owner's, as they are
+    pub finish-last : {n : Refusal} → owner ≡ lent → r .outcome ≡ outcomes.Refused n
+        → _≡_ {A = Finished × List ℕ} (record { answer = finishes.Refused n; palette = after }, later) (finishedLive s owner canvas)
+    unfolding toldIn carriedOut
+    finish-last {n} o h =
+        let kept = refused-kept (s .frame) (s .ground) lent canvas (s .frame .command .kind) refl in
+        ap (λ (q : Palette). (record { answer = finishes.Refused n; palette = q }, later))
+        (ap (λ (x : Reached). x .palette) e ∙ kept (ap (λ (x : Reached). x .progress .outcome) (sym e) ∙ h) ∙ sym o)
         ∙ ap (λ (o : Outcome). toldIn o (reachedBy r after later)) (sym h)
         ∙ finish-in
 

@@ -8,6 +8,9 @@ use lib.Dec.{leb, ltb, eqb}
 use Rattle.numbers.proofs.Laws.{cond-yes, cond-no}
 use Rattle.canvas.proofs.Covers.{and-left, and-right, by-test}
 use Rattle.canvas.specs.Picture.{rowsOf}
+use Rattle.colours.specs.declared.Palette.{Palette}
+use Rattle.colours.specs.Palette.{standard}
+use Rattle.frame.specs.declared.Frame.{Frame}
 use Rattle.frame.proofs.SizeLaws.{both-first, both-none}
 use Rattle.frame.specs.declared.Refusal.{Refusal}
 use Rattle.frame.specs.declared.Refusal.the-variants as refusals
@@ -16,6 +19,8 @@ use Rattle.payload.specs.declared.Life.{Life}
 use Rattle.payload.specs.declared.Session.{Session}
 use Rattle.payload.specs.declared.refusals.Verdict.{Verdict}
 use Rattle.payload.specs.declared.refusals.Verdict.the-variants.{Fine, Refused}
+use Rattle.payload.specs.declared.core.Setup.{Setup}
+use Rattle.payload.specs.Core.{over, Passed}
 use Rattle.payload.specs.Refusals.{inRange, isFailed, fitting, misfitting, feedJudged, finishJudged}
 
 -- ---- opening
@@ -75,10 +80,11 @@ module _ (s : Session) (size : ℕ) where
           )
           refl)
 
-      pub misfit-high : s .frame .area .width ≤ s .ground .stride → ltb (s .ground .rows) (s .frame .area .height) ≡ misfitting s size
+      pub misfit-high : {t : Bool} → s .frame .area .width ≤ s .ground .stride → t ≡ ltb (s .ground .rows) (s .frame .area .height) → t ≡ misfitting s size
       unfolding misfitting fitting
-      misfit-high h =
-          below-not (s .frame .area .height) (s .ground .rows)
+      misfit-high h q =
+          q
+          ∙ below-not (s .frame .area .height) (s .ground .rows)
           ∙ sym
           (rw (
             eq-eqb size (s .length) l,
@@ -115,34 +121,38 @@ module _ (s : Session) (size : ℕ) {t : Bool} (failed : t ≡ isFailed (s .life
     unfolding finishJudged
     finish-fine h = sym (cond-no _ _ (sym failed ∙ live) ∙ cond-no _ _ (sym misfit ∙ h))
 
-module _ (s : Session) (size allowance : ℕ) {t : Bool} (failed : t ≡ isFailed (s .life)) where
-  pub feed-failed : t ≡ true → Refused refusals.Failed ≡ feedJudged s size allowance
-  unfolding feedJudged
-  feed-failed h = sym (cond-yes _ _ (sym failed ∙ h))
+-- a test more after 9 and 12 does not show where these refuse, and is all where they do not
+later-kept : (n : Refusal) (t m : Bool) (rest : Verdict) → cond t (Refused refusals.Failed) (cond m (Refused refusals.Canvas) Fine) ≡ Refused n
+    → Refused n ≡ cond t (Refused refusals.Failed) (cond m (Refused refusals.Canvas) rest)
+later-kept n true m rest e = sym e
+later-kept n false true rest e = sym e
+later-kept n false false rest e = cc
 
-  module _ {m : Bool} (live : t ≡ false) (misfit : m ≡ misfitting s size) where
-    pub feed-canvas : m ≡ true → Refused refusals.Canvas ≡ feedJudged s size allowance
-    unfolding feedJudged
-    feed-canvas h = sym (cond-no _ _ (sym failed ∙ live) ∙ cond-yes _ _ (sym misfit ∙ h))
+later-all : (t m : Bool) (rest : Verdict) → cond t (Refused refusals.Failed) (cond m (Refused refusals.Canvas) Fine) ≡ Fine
+    → rest ≡ cond t (Refused refusals.Failed) (cond m (Refused refusals.Canvas) rest)
+later-all true m rest e = cc
+later-all false true rest e = cc
+later-all false false rest e = refl
 
-    pub feed-allowance : m ≡ false → allowance / 6 < s .ground .limits .width → Refused refusals.Allowance ≡ feedJudged s size allowance
-    unfolding feedJudged
-    feed-allowance h l =
-        sym
-        (cond-no _ _ (sym failed ∙ live)
-        ∙ cond-no _ _ (sym misfit ∙ h)
-        ∙ cond-yes _ _ (lt-ltb _ _ (below-six allowance (s .ground .limits .width) l)))
+module _ (s : Session) (size allowance : ℕ) {j : Verdict} (e : j ≡ finishJudged s size) where
+  pub feed-refused : {n : Refusal} → j ≡ Refused n → Refused n ≡ feedJudged s size allowance
+  unfolding feedJudged finishJudged
+  feed-refused {n} h = later-kept n (isFailed (s .life)) (misfitting s size) _ (sym e ∙ h)
 
-    pub feed-fine : m ≡ false → s .ground .limits .width ≤ allowance / 6 → Fine ≡ feedJudged s size allowance
-    unfolding feedJudged
-    feed-fine h l =
-        sym
-        (cond-no _ _ (sym failed ∙ live)
-        ∙ cond-no _ _ (sym misfit ∙ h)
-        ∙ cond-no _ _ (le-ltb _ _ (from-six allowance (s .ground .limits .width) l)))
+  pub feed-allowance : j ≡ Fine → allowance / 6 < s .ground .limits .width → Refused refusals.Allowance ≡ feedJudged s size allowance
+  unfolding feedJudged finishJudged
+  feed-allowance h l =
+      sym (cond-yes _ _ (lt-ltb _ _ (below-six allowance (s .ground .limits .width) l)))
+      ∙ later-all (isFailed (s .life)) (misfitting s size) _ (sym e ∙ h)
+
+  pub feed-fine : j ≡ Fine → s .ground .limits .width ≤ allowance / 6 → Fine ≡ feedJudged s size allowance
+  unfolding feedJudged finishJudged
+  feed-fine h l =
+      sym (cond-no _ _ (le-ltb _ _ (from-six allowance (s .ground .limits .width) l)))
+      ∙ later-all (isFailed (s .life)) (misfitting s size) _ (sym e ∙ h)
 
 pub ruleset refusing =
-    (failed-as, finish-failed, finish-canvas, finish-fine, feed-failed, feed-canvas, feed-allowance, feed-fine)
+    (failed-as, finish-failed, finish-canvas, finish-fine, feed-refused, feed-allowance, feed-fine)
 
 -- ---- what is not refused
 
@@ -167,14 +177,18 @@ fitting-fits s size e =
       height = leb-true _ _ (and-right (leb (area .width) (ground .stride)) _ room);
     }
 
-pub finish-fits : {j : Verdict} (s : Session) (size : ℕ) → j ≡ finishJudged s size → j ≡ Fine → Fits (s .frame) (s .ground) size
+-- whatever the palette: the standard one will do
+pub finish-fits : {j : Verdict} (u : Setup) (life : Life) (f : Frame) (size : ℕ) → ((p : Palette) → j ≡ finishJudged (over u life f p) size) → j ≡ Fine
+    → Fits f (u .ground) size
 unfolding finishJudged
-finish-fits s size j e =
+finish-fits u life f size j e =
+    let s : Session = over u life f standard in
     fitting-fits s size
-    (passes refusals.Canvas (misfitting s size) Fine (passes refusals.Failed (isFailed (s .life)) _ (sym j ∙ e) .1) .0)
+    (passes refusals.Canvas (misfitting s size) Fine (passes refusals.Failed (isFailed (s .life)) _ (sym (j standard) ∙ e) .1) .0)
 
-pub feed-fits : {j : Verdict} (s : Session) (size allowance : ℕ) → j ≡ feedJudged s size allowance → j ≡ Fine → Fits (s .frame) (s .ground) size
+pub feed-fits : (u : Setup) (life : Life) (f : Frame) (size allowance : ℕ) → Passed u life f size allowance → Fits f (u .ground) size
 unfolding feedJudged
-feed-fits s size allowance j e =
+feed-fits u life f size allowance passed =
+    let s : Session = over u life f standard in
     fitting-fits s size
-    (passes refusals.Canvas (misfitting s size) _ (passes refusals.Failed (isFailed (s .life)) _ (sym j ∙ e) .1) .0)
+    (passes refusals.Canvas (misfitting s size) _ (passes refusals.Failed (isFailed (s .life)) _ (sym (passed standard)) .1) .0)

@@ -43,12 +43,13 @@ use Rattle.payload.specs.declared.Ratio.the-variants as ratios
 use Rattle.payload.specs.declared.Report.{Report}
 use Rattle.payload.specs.declared.Session.{Session}
 use Rattle.payload.specs.declared.Settings.{Settings}
+use Rattle.payload.specs.declared.core.Setup.{Setup}
 use Rattle.payload.specs.declared.refusals.Verdict.{Verdict}
 use Rattle.payload.specs.declared.refusals.Verdict.the-variants as verdicts
+use Rattle.payload.specs.Core.{over, setupFor}
 use Rattle.payload.specs.Refusals.{limitsFit, inRange, openable, feedJudged, finishJudged}
 use Rattle.payload.specs.Session.{clearFor, backgroundFor, blankFrame, groundFor, sessionFor, openingFor, firstLife, openedIf, firstPainted, openedBy, sessionWith, answerOf, lifeAfter, answeredIn, answeredBy, fedLive, fedIn, fedAs, fedBy, ratioFor, reportedAs, turnedAway, finishedLive, finishedAs, finishedBy}
 use Rattle.payload.proofs.Life as LifeType
-use Rattle.payload.proofs.RefusalLaws.{feed-fits, finish-fits}
 use Rattle.payload.proofs.PendingLaws.{finish-last, finish-pictured}
 
 -- ---- opening
@@ -85,20 +86,17 @@ pixel-there l stride size e t =
     leb-true _ _ (and-right (inRange stride 1000000) _ (and-right (limitsFit l) _ (sym e ∙ t))) in
     omega (arith, div-le-self (size / 4) stride)
 
-pub session-as : {rows : ℕ} {background : List ℕ} {f : Frame} (l : Limits) (stride size : ℕ) (o : Settings) (p : Palette) (life : Life)
-    → background ≡ backgroundFor p (o .p2) → rows ≡ rowsOf size stride → f ≡ blankFrame p
-    → _≡_ {A = Session}
+pub setup-as : {rows : ℕ} {background : List ℕ} (l : Limits) (stride size : ℕ) (o : Settings) (p : Palette)
+    → background ≡ backgroundFor p (o .p2) → rows ≡ rowsOf size stride
+    → _≡_ {A = Setup}
     (record {
       ground = record { limits = l; stride = stride; rows = rows; background = background };
       length = size;
       settings = o;
-      life = life;
-      frame = f;
-      palette = p;
     })
-    (sessionFor l stride size o p life)
-unfolding sessionFor groundFor
-session-as l stride size o p life b r k = rw (b, r, k) refl
+    (setupFor l stride size o p)
+unfolding setupFor groundFor
+setup-as l stride size o p b r = rw (b, r) refl
 
 module _ {t : Bool} where
   pub opening-yes : t ≡ true → openings.Ready ≡ openingFor t
@@ -125,11 +123,11 @@ module _ {t : Bool} where
   unfolding firstPainted
   painted-no px canvas e = sym (cond-no _ _ e)
 
-pub opened-if : {a : Opening} {k : Life} {s : Session} (t : Bool) (l : Limits) (stride size : ℕ) (o : Settings) (p : Palette) → a ≡ openingFor t
-    → k ≡ firstLife t → s ≡ sessionFor l stride size o p k
-    → _≡_ {A = Opened} (record { answer = a; session = s }) (openedIf t l stride size o p)
-unfolding openedIf
-opened-if t l stride size o p ea ek es = rw (ea, es, ek) refl
+pub opened-if : {a : Opening} {k : Life} {u : Setup} {f : Frame} (t : Bool) (l : Limits) (stride size : ℕ) (o : Settings) (p : Palette)
+    → a ≡ openingFor t → k ≡ firstLife t → u ≡ setupFor l stride size o p → f ≡ blankFrame p
+    → _≡_ {A = Opened} (record { answer = a; session = over u k f p }) (openedIf t l stride size o p)
+unfolding openedIf sessionFor setupFor
+opened-if t l stride size o p ea ek eu ef = rw (ea, ek, eu, ef) refl
 
 module _ (l : Limits) (stride : ℕ) (o : Settings) (p : Palette) (canvas : List ℕ) where
   either : (t : Bool)
@@ -153,7 +151,7 @@ pub ruleset openings-made = (
   background-kept,
   blank-as,
   pixel-there,
-  session-as,
+  setup-as,
   opening-yes,
   opening-no,
   life-yes,
@@ -172,11 +170,11 @@ answer-as n i e k = k ∙ ap (λ (o : Outcome). answerOf o n i) (sym e)
 pub life-as : {r : Life} {o other : Outcome} → o ≡ other → r ≡ lifeAfter other → r ≡ lifeAfter o
 life-as e k = k ∙ ap lifeAfter (sym e)
 
-pub answered-as : {a : Answer} {l : Life} {x : Session} (s : Session) (r : Progress) (p : Palette)
-    → a ≡ answerOf (r .outcome) (r .consumed) (r .ink) → l ≡ lifeAfter (r .outcome) → x ≡ sessionWith s l (r .frame) p
-    → _≡_ {A = Fed} (record { answer = a; session = x }) (answeredBy s r p)
-unfolding answeredBy
-answered-as s r p ea el ex = rw (ea, ex, el) refl
+pub answered-as : {a : Answer} {l : Life} (s : Session) (r : Progress) (p : Palette)
+    → a ≡ answerOf (r .outcome) (r .consumed) (r .ink) → l ≡ lifeAfter (r .outcome)
+    → _≡_ {A = Fed} (record { answer = a; session = sessionWith s l (r .frame) p }) (answeredBy s r p)
+unfolding answeredBy answeredIn
+answered-as s r p ea el = rw (ea, el) refl
 
 -- a session that has not ended reads
 not-ended : (s : Session) (canvas bytes : List ℕ) (allowance : ℕ) (life : Life) → OneOf (0 ∷ 2 ∷ []) (tagOf LifeType.the-type life)
@@ -186,17 +184,19 @@ not-ended s canvas bytes allowance lives.Live h = refl
 not-ended s canvas bytes allowance (lives.Ended b) h = absurd (miss (0 ∷ 2 ∷ []) 1 tt h)
 not-ended s canvas bytes allowance lives.Failed h = refl
 
-module _ (s : Session) (canvas bytes : List ℕ) (allowance : ℕ) where
-  -- the palette lent, and what reading made of it
-  pub fed-live : {lent after q : Palette} {pr : Progress} {later : List ℕ} {x : Fed}
-      → _≡_ {A = Reached} (record { progress = pr; palette = after; canvas = later }) (feedFrom (s .ground) allowance bytes 0 0 (s .frame) lent canvas)
-      → lent ≡ s .palette → q ≡ after → x ≡ answeredBy s pr q → (x, later) ≡ fedLive s canvas bytes allowance
-  unfolding fedLive
-  fed-live {pr = pr} {later = later} e t k h =
-      ap (λ (y : Fed). (y, later)) (h ∙ ap (answeredBy s pr) k)
-      ∙ ap (λ (r : Reached). (answeredBy s (r .progress) (r .palette), r .canvas))
-      (e ∙ ap (λ (p : Palette). feedFrom (s .ground) allowance bytes 0 0 (s .frame) p canvas) t)
+-- what reading made of a session's parts
+pub fed-live : (u : Setup) (life : Life) (f : Frame) (p : Palette) (canvas bytes : List ℕ) (allowance : ℕ)
+    {after : Palette} {pr : Progress} {later : List ℕ} {a : Answer} {l : Life}
+    → _≡_ {A = Reached} (record { progress = pr; palette = after; canvas = later }) (feedFrom (u .ground) allowance bytes 0 0 f p canvas)
+    → a ≡ answerOf (pr .outcome) (pr .consumed) (pr .ink) → l ≡ lifeAfter (pr .outcome)
+    → _≡_ {A = Fed × List ℕ} (record { answer = a; session = over u l (pr .frame) after }, later) (fedLive (over u life f p) canvas bytes allowance)
+unfolding fedLive sessionWith
+fed-live u life f p canvas bytes allowance {after} {pr} {later} e ea el =
+    let s : Session = over u life f p in
+    ap (λ (y : Fed). (y, later)) (answered-as s pr after ea el)
+    ∙ ap (λ (r : Reached). (answeredBy s (r .progress) (r .palette), r .canvas)) e
 
+module _ (s : Session) (canvas bytes : List ℕ) (allowance : ℕ) where
   module _ {j : Verdict} (e : j ≡ feedJudged s (length canvas) allowance) where
     pub fed-refused : {n : Refusal} → j ≡ verdicts.Refused n
         → _≡_ {A = Fed × List ℕ} (record { answer = answers.Refused n; session = s }, canvas) (fedBy s canvas bytes allowance)
@@ -218,7 +218,16 @@ module _ (s : Session) (canvas bytes : List ℕ) (allowance : ℕ) where
         ∙ not-ended s canvas bytes allowance (s .life) l
         ∙ ap (λ (k : Verdict). fedAs k s canvas bytes allowance) (sym h ∙ e)
 
-pub ruleset feedings = (answered-as, fed-live, feed-fits, fed-refused, fed-ended, fed-on)
+-- the same of a session's parts, whose life is known
+pub fed-over : (u : Setup) (life : Life) (f : Frame) (p : Palette) (canvas bytes : List ℕ) (allowance : ℕ) {b : ℕ}
+    → verdicts.Fine ≡ feedJudged (over u life f p) (length canvas) allowance → life ≡ lives.Ended b
+    → _≡_ {A = Fed × List ℕ} (record { answer = answers.Ended 0 0 b; session = over u (lives.Ended b) f p }, canvas)
+    (fedBy (over u life f p) canvas bytes allowance)
+fed-over u life f p canvas bytes allowance {b} e l =
+    ap (λ (k : Life). (record { answer = answers.Ended 0 0 b; session = over u k f p }, canvas)) (sym l)
+    ∙ fed-ended (over u life f p) canvas bytes allowance e refl l
+
+pub ruleset feedings = (fed-live, fed-refused, fed-ended, fed-on)
 
 -- ---- finishing
 
@@ -245,14 +254,14 @@ unfolding reportedAs
 reported-as f o e k = rw (e, k) refl
 
 module _ (s : Session) (owner : Palette) (canvas : List ℕ) {j : Verdict} (e : j ≡ finishJudged s (length canvas)) where
-  pub finish-refused : {n : Refusal} {x : Finished} → j ≡ verdicts.Refused n → x ≡ record { answer = finishes.Refused n; palette = owner }
-      → (x, canvas) ≡ finishedBy s owner canvas
+  pub finish-refused : {n : Refusal} → j ≡ verdicts.Refused n
+      → _≡_ {A = Finished × List ℕ} (record { answer = finishes.Refused n; palette = owner }, canvas) (finishedBy s owner canvas)
   unfolding finishedBy finishedAs turnedAway
-  finish-refused h y = ap (λ (z : Finished). (z, canvas)) y ∙ ap (λ (i : Verdict). finishedAs i s owner canvas) (sym h ∙ e)
+  finish-refused h = ap (λ (i : Verdict). finishedAs i s owner canvas) (sym h ∙ e)
 
   pub finish-on : {x : Finished} {later : List ℕ} → j ≡ verdicts.Fine → (x, later) ≡ finishedLive s owner canvas → (x, later) ≡ finishedBy s owner canvas
   unfolding finishedBy finishedAs
   finish-on h y = y ∙ ap (λ (i : Verdict). finishedAs i s owner canvas) (sym h ∙ e)
 
 pub ruleset finishings =
-    (ratio-left, ratio-raster, reported-as, finish-last, finish-pictured, finish-fits, finish-refused, finish-on)
+    (ratio-left, ratio-raster, reported-as, finish-last, finish-pictured, finish-refused, finish-on)

@@ -1,5 +1,6 @@
 pub mod Refusals
 pub mod Session
+pub mod Core
 pub mod Meant
 pub mod History
 pub mod Deferred

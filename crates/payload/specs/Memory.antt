@@ -14,6 +14,7 @@ use Rattle.frame.specs.declared.Raster.{Raster}
 use Rattle.frame.specs.declared.VisibleArea.{VisibleArea}
 use Rattle.payload.specs.declared.Session.{Session}
 use Rattle.payload.specs.declared.Settings.{Settings}
+use Rattle.payload.specs.declared.core.Setup.{Setup}
 use Rattle.payload.specs.Codes.{givenNumber, givenFrom, lifeNumber, lifeFrom, kindNumber, kindFrom, colorNumber, colorFrom}
 
 -- ---- a session as numbers
@@ -133,6 +134,10 @@ frameFrom ns =
       raster = rasterFrom ns;
       command = commandFrom ns;
     }
+
+unfoldable pub setupFrom : List ℕ → Setup
+unfolding groundFrom settingsFrom
+setupFrom ns = record { ground = groundFrom ns; length = getD ns 7 0; settings = settingsFrom ns }
 
 unfoldable pub sessionFrom : List ℕ → List ℕ → Session
 unfolding groundFrom settingsFrom lifeFrom frameFrom

@@ -1,72 +1,50 @@
-// What a DCS session needs of a payload session, which starts later: one that has not begun, its start at `q`, and its failing.
+// What a DCS session needs of a payload session, which starts later: one that has not begun, and its start at `q`.
 // Inner: for the crate dcs alone.
 ghost use mathlib.Core.Path.{_≡_};
-ghost use Rattle.payload.specs.Deferred.{reservedBy, begunBy, failedOf};
-use crate::Life;
-use crate::Opened;
-use crate::Session;
+ghost use Rattle.colours.specs.Palette.{ofTable};
+ghost use Rattle.frame.specs.declared.Frame.{Frame};
+ghost use Rattle.payload.specs.declared.Life.{Life};
+ghost use Rattle.payload.specs.Core.{over, openedOver, begunOver};
+ghost use Rattle.payload.specs.Deferred.{reservedBy, begunBy};
 use crate::Settings;
-use crate::background_for;
-use crate::blank_frame;
+use crate::core::Setup;
+use crate::core::opening::Opened;
+use crate::core::opening::background_for;
+use crate::core::opening::open_if;
+use crate::core::opening::paint_if;
 use crate::no_settings;
-use crate::open_if;
-use crate::paint_if;
 use crate::refusals::may_open;
-use colours::Palette;
 use frame::Ground;
 use frame::Limits;
 
 // A session that has not begun: nothing is written.
-pub fn reserve(limits: Limits, stride: usize, palette: Palette, length: usize) -> Opened
-    ensures { λ r. ⌜ r ≡ reservedBy limits stride palette length ⌝ }
+pub fn reserve(limits: Limits, stride: usize, colors: &[u32; 256], length: usize) -> Opened
+    ensures { λ r. ⌜ openedOver r (ofTable (now (colors .entry))) ≡ reservedBy limits stride (ofTable (now (colors .entry))) length ⌝ }
 {
     let settings = no_settings();
     let may = may_open(limits, stride, length);
-    open_if(may, limits, stride, length, settings, palette)
+    open_if(may, limits, stride, length, settings, colors)
 }
 
-// The payload starts with these settings: pixel (0, 0) gets the background, where there is one.
-pub fn start(session: Session, settings: Settings, canvas: &mut [u8]) -> Session
-    ensures { λ r. ⌜ (r, now (canvas .exit)) ≡ begunBy session settings (now (canvas .entry)) ⌝ }
+// The setup of a payload that starts with these settings, at `q`: pixel (0, 0) gets the background, where there is one.
+pub fn start(setup: Setup, settings: Settings, colors: &[u32; 256], canvas: &mut [u8]) -> Setup
+    ensures { λ r. ⌜ ((life : Life) (f : Frame) → begunOver r life (ofTable (now (colors .entry))) (now (canvas .exit))
+        ≡ begunBy (over setup life f (ofTable (now (colors .entry)))) settings (now (canvas .entry))) ⌝ }
 {
-    let palette = session.palette;
-    let life = session.life;
-    let old = session.ground;
+    let old = setup.ground;
     let limits = old.limits;
     let p2 = settings.p2;
-    let background = background_for(palette, p2);
+    let background = background_for(colors, p2);
     let ground = Ground {
         limits,
         stride: old.stride,
         rows: old.rows,
         background,
     };
-    let frame = blank_frame(palette);
     paint_if(4 <= canvas.len(), canvas, background);
-    Session {
+    Setup {
         ground,
-        length: session.length,
+        length: setup.length,
         settings,
-        life,
-        frame,
-        palette,
-    }
-}
-
-// The session fails: it answers 9 from now on.
-pub fn fail(session: Session) -> Session
-    ensures { λ r. ⌜ r ≡ failedOf session ⌝ }
-{
-    let ground = session.ground;
-    let settings = session.settings;
-    let frame = session.frame;
-    let palette = session.palette;
-    Session {
-        ground,
-        length: session.length,
-        settings,
-        life: Life::Failed,
-        frame,
-        palette,
     }
 }

@@ -1,8 +1,10 @@
 // A session as 48 numbers and 256 registers, for a caller that keeps it in its own memory. Any numbers are a session: one that was
 // never opened here answers as its fields say, and 48 zeros are a failed one. The numbers from 34 on are those of a DCS session.
 ghost use mathlib.Core.Path.{_≡_};
-ghost use Rattle.payload.specs.Memory.{groundFrom, settingsFrom, penFrom, areaFrom, extentFrom, rasterFrom, commandFrom, numbersOf, sessionFrom, tableOf};
-use crate::Session;
+ghost use Rattle.colours.specs.declared.Palette.{Palette};
+ghost use Rattle.payload.specs.Core.{over};
+ghost use Rattle.payload.specs.Memory.{groundFrom, settingsFrom, penFrom, areaFrom, extentFrom, rasterFrom, commandFrom, frameFrom, numbersOf, setupFrom};
+use crate::Life;
 use crate::Settings;
 use crate::codes::color_from;
 use crate::codes::color_number;
@@ -10,10 +12,9 @@ use crate::codes::given_from;
 use crate::codes::given_number;
 use crate::codes::kind_from;
 use crate::codes::kind_number;
-use crate::codes::life_from;
 use crate::codes::life_number;
+use crate::core::Setup;
 use crate::places;
-use colours::Palette;
 use frame::Command;
 use frame::Extent;
 use frame::Frame;
@@ -121,16 +122,14 @@ fn command_from(numbers: &[u64; 48]) -> Command
 // ---- a session
 
 // The zeros at the end are where a DCS session has its own numbers.
-pub fn numbers_of(session: Session) -> [u64; 48]
-    ensures { λ r. ⌜ r ≡ numbersOf session ⌝ }
+pub fn numbers_of(setup: Setup, life: Life, frame: Frame) -> [u64; 48]
+    ensures { λ r. ⌜ ((p : Palette) → r ≡ numbersOf (over setup life frame p)) ⌝ }
 {
-    let ground = session.ground;
+    let ground = setup.ground;
     let background = ground.background;
-    let settings = session.settings;
+    let settings = setup.settings;
     let p1 = settings.p1;
     let p2 = settings.p2;
-    let life = session.life;
-    let frame = session.frame;
     let pen = frame.pen;
     let color = pen.color;
     let command = frame.command;
@@ -144,7 +143,7 @@ pub fn numbers_of(session: Session) -> [u64; 48]
         ground.stride as u64,
         ground.rows as u64,
         color_number(background),
-        session.length as u64,
+        setup.length as u64,
         given_number(p1),
         given_number(p2),
         life_number(life),
@@ -188,30 +187,24 @@ pub fn numbers_of(session: Session) -> [u64; 48]
     ]
 }
 
-pub fn session_from(numbers: &[u64; 48], registers: &[u32; 256]) -> Session
-    ensures { λ r. ⌜ r ≡ sessionFrom (now (numbers .entry)) (now (registers .entry)) ⌝ }
+pub fn setup_from(numbers: &[u64; 48]) -> Setup
+    ensures { λ r. ⌜ r ≡ setupFrom (now (numbers .entry)) ⌝ }
 {
-    let frame = Frame {
+    Setup {
+        ground: ground_from(numbers),
+        length: numbers[places::LENGTH] as usize,
+        settings: settings_from(numbers),
+    }
+}
+
+pub fn frame_from(numbers: &[u64; 48]) -> Frame
+    ensures { λ r. ⌜ r ≡ frameFrom (now (numbers .entry)) ⌝ }
+{
+    Frame {
         pen: pen_from(numbers),
         area: area_from(numbers),
         extent: extent_from(numbers),
         raster: raster_from(numbers),
         command: command_from(numbers),
-    };
-    Session {
-        ground: ground_from(numbers),
-        length: numbers[places::LENGTH] as usize,
-        settings: settings_from(numbers),
-        life: life_from(numbers[places::LIFE]),
-        frame,
-        palette: Palette::of_table(*registers),
     }
-}
-
-// The session's registers.
-pub fn table_of(session: Session) -> [u32; 256]
-    ensures { λ r. ⌜ r ≡ tableOf session ⌝ }
-{
-    let palette = session.palette;
-    palette.table()
 }

@@ -1,8 +1,11 @@
 // The refusals that a session gives before it reads a byte, in the order of rules 5.2 and 5.3.
 ghost use mathlib.Core.Path.{_≡_};
+ghost use Rattle.colours.specs.declared.Palette.{Palette};
+ghost use Rattle.payload.specs.Core.{over};
 ghost use Rattle.payload.specs.Refusals.{inRange, limitsFit, openable, isFailed, misfitting, feedJudged, finishJudged};
 use crate::Life;
-use crate::Session;
+use crate::core::Setup;
+use frame::Frame;
 use frame::Limits;
 use frame::Refusal;
 
@@ -53,13 +56,12 @@ pub fn may_open(limits: Limits, stride: usize, length: usize) -> bool
 }
 
 // Another length than at the opening, or a picture that does not fit.
-fn misfits(session: Session, length: usize) -> bool
-    ensures { λ r. ⌜ r ≡ misfitting session length ⌝ }
+fn misfits(setup: Setup, life: Life, frame: Frame, length: usize) -> bool
+    ensures { λ r. ⌜ ((p : Palette) → r ≡ misfitting (over setup life frame p) length) ⌝ }
 {
-    let ground = session.ground;
-    let frame = session.frame;
+    let ground = setup.ground;
     let area = frame.area;
-    if length != session.length {
+    if length != setup.length {
         return true;
     }
     if ground.rows != canvas::rows(length, ground.stride) {
@@ -82,31 +84,33 @@ fn has_failed(life: Life) -> bool
 }
 
 // 9, 12.
-pub fn finish_refusal(session: Session, length: usize) -> Verdict
-    ensures { λ r. ⌜ r ≡ finishJudged session length ⌝ }
+pub fn finish_refusal(setup: Setup, life: Life, frame: Frame, length: usize) -> Verdict
+    ensures { λ r. ⌜ ((p : Palette) → r ≡ finishJudged (over setup life frame p) length) ⌝ }
 {
-    let life = session.life;
     if has_failed(life) {
         return Verdict::Refused(Refusal::Failed);
     }
-    if misfits(session, length) {
+    if misfits(setup, life, frame, length) {
         return Verdict::Refused(Refusal::Canvas);
     }
     Verdict::Fine
 }
 
 // 9, 12, 13. An allowance below 6W is found by division, since 6W could overflow in a damaged session.
-pub fn feed_refusal(session: Session, length: usize, allowance: usize) -> Verdict
-    ensures { λ r. ⌜ r ≡ feedJudged session length allowance ⌝ }
+pub fn feed_refusal(
+    setup: Setup,
+    life: Life,
+    frame: Frame,
+    length: usize,
+    allowance: usize,
+) -> Verdict
+    ensures { λ r. ⌜ ((p : Palette) → r ≡ feedJudged (over setup life frame p) length allowance) ⌝ }
 {
-    let life = session.life;
-    if has_failed(life) {
-        return Verdict::Refused(Refusal::Failed);
+    let verdict = finish_refusal(setup, life, frame, length);
+    if let Verdict::Refused(refusal) = verdict {
+        return Verdict::Refused(refusal);
     }
-    if misfits(session, length) {
-        return Verdict::Refused(Refusal::Canvas);
-    }
-    if allowance / 6 < session.ground.limits.width {
+    if allowance / 6 < setup.ground.limits.width {
         return Verdict::Refused(Refusal::Allowance);
     }
     Verdict::Fine

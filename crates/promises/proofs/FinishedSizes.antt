@@ -24,6 +24,8 @@ use Rattle.meaning.specs.Drawing.{Setting}
 use Rattle.meaning.specs.Sizes.{Roomy, Fits, ReportFits, SizesFit}
 use Rattle.meaning.proofs.AreaLaws.{cond-case, opens-roomy, blank-sound}
 use Rattle.meaning.proofs.SizeHistories.{payload-reported, dcs-reported, one-shot-reported}
+use Rattle.frame.specs.declared.Refusal.the-variants as refusals
+use Rattle.reference.specs.Step as step
 use Rattle.reference.proofs.StepLaws.{settle-room}
 use Rattle.agreement.specs.Same as same
 use Rattle.agreement.proofs.Settle.{same-fact}
@@ -40,7 +42,7 @@ use Rattle.payload.specs.Refusals.{isFailed, fitting, misfitting, finishJudged}
 use Rattle.payload.specs.Meant.{limitsMeant, settingMeant, parametersMeant, answerMeant}
 use Rattle.payload.specs.Session as payloadCoded
 use Rattle.payload.proofs.History as history
-use Rattle.payload.proofs.RefusalLaws.{finish-fits}
+use Rattle.payload.proofs.RefusalLaws.{passes, fitting-fits}
 use Rattle.payload.proofs.Openings.{opened-stands}
 use Rattle.dcs.specs.declared.Session as dcsSession
 use Rattle.dcs.specs.declared.Phase as codedPhase
@@ -189,6 +191,13 @@ module _ (s : session.Session) (owner : Palette) (canvas : List ℕ) where
   outcome-on-canvas (outcomes.Ended b) last p room = room
   outcome-on-canvas (outcomes.Refused n) last p room = tt
 
+  -- what is not refused has room for its area
+  judged-fits : finishJudged s (length canvas) ≡ judged.Fine → step.Fits (s .frame) (s .ground) (length canvas)
+  unfolding finishJudged
+  judged-fits e =
+      fitting-fits s (length canvas)
+      (passes refusals.Canvas (misfitting s (length canvas)) judged.Fine (passes refusals.Failed (isFailed (s .life)) _ e .1) .0)
+
   -- A damaged session too reports a size that lies on the canvas, since 12 is judged before, and 7 of what the pending command asks.
   pub payload-reports-on-canvas : OnCanvas (s .ground .stride) (length canvas) (payloadCoded.finishedBy s owner canvas .0 .answer)
   unfolding payloadCoded.finishedBy payloadCoded.finishedAs payloadCoded.finishedLive payloadCoded.turnedAway
@@ -200,8 +209,7 @@ module _ (s : session.Session) (owner : Palette) (canvas : List ℕ) where
       go : (j : Verdict) → finishJudged s (length canvas) ≡ j
           → OnCanvas (s .ground .stride) (length canvas) (payloadCoded.finishedAs j s owner canvas .0 .answer)
       go judged.Fine e =
-          let fits = finish-fits s (length canvas) (sym e) refl in
-          let room = settle-room {s = last .progress} {q = last .palette} (s .frame) (s .ground) (s .palette) (length canvas) fits refl in
+          let room = settle-room {s = last .progress} {q = last .palette} (s .frame) (s .ground) (s .palette) (length canvas) (judged-fits e) refl in
           outcome-on-canvas (last .progress .outcome) (last .progress .frame) (last .palette) (room .1, room .3)
       go (judged.Refused n) e = tt
 

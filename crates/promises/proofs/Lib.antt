@@ -49,6 +49,7 @@ pub mod OneDump
 pub mod OnePieces
 pub mod OneInplace
 pub mod OneOwlgantry
+pub mod OneTiming
 pub mod Alike
 pub mod MemoryReaders
 pub mod MemoryDemands

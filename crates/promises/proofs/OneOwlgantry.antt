@@ -4,8 +4,6 @@ use mathlib.Core.List.{List}
 use denote.Ref.{now}
 use Rattle.colours.specs.declared.Palette.{Palette}
 use Rattle.colours.specs.Palette.{ofTable}
-use Rattle.owlgantry.proofs.sixbench_decode.Reads as sixbench-decode
-use Rattle.owlgantry.proofs.sixbench_decode.Kinds as sixbench-decode'
 use Rattle.owlgantry.proofs.owlgantry_raw_read.Reads as owlgantry-raw-read
 use Rattle.owlgantry.proofs.owlgantry_raw_read.Kinds as owlgantry-raw-read'
 use Rattle.owlgantry.proofs.owlgantry_raw_copy.Reads as owlgantry-raw-copy
@@ -26,9 +24,6 @@ use Rattle.owlgantry.proofs.dcs_session.owlgantry_raw_dcs_finish.Reads as owlga
 use Rattle.owlgantry.proofs.dcs_session.owlgantry_raw_dcs_finish.Kinds as owlgantry-raw-dcs-finish'
 use Rattle.promises.proofs.Meanings.{table-known}
 use Rattle.promises.proofs.One.{only, Seen, OneLent, OneWith}
-
-pub sixbench-decode-one : OneWith sixbench-decode'.ps sixbench-decode'.r sixbench-decode.Learnt (λ κs e. now (e .0))
-sixbench-decode-one κs a z z' e e' p q = only p q
 
 -- the answer, the canvas, the palette and the report
 pub owlgantry-raw-read-one : Seen owlgantry-raw-read'.ps owlgantry-raw-read'.r owlgantry-raw-read.Learnt

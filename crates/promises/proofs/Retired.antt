@@ -45,9 +45,9 @@ use Rattle.pieces.specs.declared.Standing.{Standing}
 use Rattle.pieces.specs.declared.Standing.the-variants as standings
 use Rattle.pieces.specs.Pieces as pieces
 use Rattle.pieces.specs.Stream.{takenAll}
-use Rattle.owlgantry.specs.Bench.{sizeOrNumber, benchDecoded}
 use Rattle.owlgantry.specs.Reading.{refusalNumber, sixelRead}
 use Rattle.owlgantry.specs.Sessions as exported
+use Rattle.timing.specs.Bench.{sizeOrNumber, benchDecoded}
 use Rattle.promises.specs.Refusals.{openingNumber, payloadNumber, dcsNumber, finishNumber, readNumber, orZero, oneOf, Only, openingNumbers, payloadFeedNumbers, dcsFeedNumbers, payloadFinishNumbers, dcsFinishNumbers, readNumbers, payloadFinishOrder, dcsFinishOrder}
 use Rattle.promises.proofs.AnySession.{payload-finish-order, dcs-finish-order}
 use Rattle.promises.proofs.RefusedFinishes.{finish-numbers}

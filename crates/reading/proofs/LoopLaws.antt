@@ -19,16 +19,18 @@ use Rattle.reference.proofs.FeedLaws.{Going, pending, left-over}
 
 -- ---- the frame after an advance
 
-pub resumed-yes : {r : Frame} (f : Frame) (a : Advance) → a .settled ≡ true
-    → r ≡ withCommand (record { pen = a .pen; area = a .area; extent = a .extent; raster = f .raster; command = f .command }) noCommand
-    → r ≡ afterAdvance f a
-unfolding afterAdvance withCommand
-resumed-yes f a e h = h ∙ rw e
+-- `n` is the frame made anew
+module _ {n : Frame} (f : Frame) (a : Advance) (same : n ≡ f) where
+  pub resumed-yes : {r : Frame} → a .settled ≡ true
+      → r ≡ withCommand (record { pen = a .pen; area = a .area; extent = a .extent; raster = n .raster; command = n .command }) noCommand
+      → r ≡ afterAdvance f a
+  unfolding afterAdvance withCommand
+  resumed-yes e h = h ∙ rw (same, e) refl
 
-pub resumed-no : (f : Frame) (a : Advance) → a .settled ≡ false
-    → _≡_ {A = Frame} (record { pen = a .pen; area = a .area; extent = a .extent; raster = f .raster; command = f .command }) (afterAdvance f a)
-unfolding afterAdvance
-resumed-no f a e = rw e
+  pub resumed-no : a .settled ≡ false
+      → _≡_ {A = Frame} (record { pen = a .pen; area = a .area; extent = a .extent; raster = n .raster; command = n .command }) (afterAdvance f a)
+  unfolding afterAdvance
+  resumed-no e = rw (same, e) refl
 
 pub ruleset resumes = (resumed-yes, resumed-no)
 

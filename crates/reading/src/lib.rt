@@ -57,7 +57,7 @@ fn resume(frame: Frame, advance: Advance) -> Frame
     let pen = advance.pen;
     let area = advance.area;
     let extent = advance.extent;
-    let mut next = frame;
+    let mut next = renewed(frame);
     next.pen = pen;
     next.area = area;
     next.extent = extent;

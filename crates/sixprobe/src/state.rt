@@ -1,5 +1,15 @@
 // What the program holds from line to line.
 use colours::Palette;
+use dcs::core::core_of;
+use dcs::core::with_palette;
+use payload::codes::life_from;
+use payload::core::frame_of;
+use payload::core::life_of;
+use payload::core::session_of;
+use payload::core::setup_of;
+use payload::memory::frame_from;
+use payload::memory::setup_from;
+use payload::places::LIFE;
 
 // Which session is open.
 pub(crate) enum Open {
@@ -22,11 +32,13 @@ pub(crate) struct State {
 impl State {
     pub(crate) fn with_payload(self, session: payload::Session) -> State {
         let palette = self.palette;
+        let inner = payload::core::palette_of(session);
+        let life = life_of(session);
         State {
             palette,
             open: Open::Payload,
-            numbers: payload::memory::numbers_of(session),
-            registers: payload::memory::table_of(session),
+            numbers: payload::memory::numbers_of(setup_of(session), life, frame_of(session)),
+            registers: inner.table(),
             length: self.length,
             lent: self.lent,
         }
@@ -34,11 +46,12 @@ impl State {
 
     pub(crate) fn with_dcs(self, session: dcs::Session) -> State {
         let palette = self.palette;
+        let inner = dcs::core::palette_of(session);
         State {
             palette,
             open: Open::Dcs,
-            numbers: dcs::memory::numbers_of(session),
-            registers: dcs::memory::table_of(session),
+            numbers: dcs::memory::numbers_of(core_of(session)),
+            registers: inner.table(),
             length: self.length,
             lent: self.lent,
         }
@@ -48,14 +61,17 @@ impl State {
     pub(crate) fn payload_session(self) -> payload::Session {
         let numbers = self.numbers;
         let registers = self.registers;
-        payload::memory::session_from(&numbers, &registers)
+        let palette = Palette::of_table(registers);
+        let life = life_from(numbers[LIFE]);
+        session_of(setup_from(&numbers), life, frame_from(&numbers), palette)
     }
 
     // The session that was stored, where a DCS session is open.
     pub(crate) fn dcs_session(self) -> dcs::Session {
         let numbers = self.numbers;
         let registers = self.registers;
-        dcs::memory::session_from(&numbers, &registers)
+        let palette = Palette::of_table(registers);
+        with_palette(dcs::memory::core_from(&numbers), palette)
     }
 
     // No session, and a palette of the owner's.

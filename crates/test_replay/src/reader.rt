@@ -14,9 +14,19 @@ use crate::fields::limits_of;
 use crate::fields::settings_of;
 use colours::Palette;
 use dcs::Ending;
+use dcs::core::core_of;
+use dcs::core::with_palette;
 use frame::Refusal;
 use payload::Finished;
 use payload::Opening;
+use payload::codes::life_from;
+use payload::core::frame_of;
+use payload::core::life_of;
+use payload::core::session_of;
+use payload::core::setup_of;
+use payload::memory::frame_from;
+use payload::memory::setup_from;
+use payload::places::LIFE;
 
 // The session at work as its memory form has it. Which kind's numbers they are: a DCS session's are framed.
 pub(crate) struct Reader {
@@ -26,31 +36,37 @@ pub(crate) struct Reader {
 }
 
 fn plain(session: payload::Session) -> Reader {
+    let palette = payload::core::palette_of(session);
+    let life = life_of(session);
     Reader {
         is_framed: false,
-        numbers: payload::memory::numbers_of(session),
-        registers: payload::memory::table_of(session),
+        numbers: payload::memory::numbers_of(setup_of(session), life, frame_of(session)),
+        registers: palette.table(),
     }
 }
 
 fn framed(session: dcs::Session) -> Reader {
+    let palette = dcs::core::palette_of(session);
     Reader {
         is_framed: true,
-        numbers: dcs::memory::numbers_of(session),
-        registers: dcs::memory::table_of(session),
+        numbers: dcs::memory::numbers_of(core_of(session)),
+        registers: palette.table(),
     }
 }
 
 fn plain_session(reader: Reader) -> payload::Session {
     let numbers = reader.numbers;
     let registers = reader.registers;
-    payload::memory::session_from(&numbers, &registers)
+    let palette = Palette::of_table(registers);
+    let life = life_from(numbers[LIFE]);
+    session_of(setup_from(&numbers), life, frame_from(&numbers), palette)
 }
 
 fn framed_session(reader: Reader) -> dcs::Session {
     let numbers = reader.numbers;
     let registers = reader.registers;
-    dcs::memory::session_from(&numbers, &registers)
+    let palette = Palette::of_table(registers);
+    with_palette(dcs::memory::core_from(&numbers), palette)
 }
 
 pub(crate) struct Began {

@@ -1,38 +1,48 @@
--- `dcs::feed` meets its contract: the call is refused at once (9, 12 and 13), or is what `feed_in` makes of the session's phase.
-use Rattle.dcs.proofs.SessionLaws.{feedings}
+-- `feed` meets its contract: the feed over the parts, with the palette lent as a table.
+use mathlib.Core.Path.{_∙_}
+use Rattle.dcs.proofs.CoreLaws.{fed-whole}
 use borrow.Author.Needs.{needs}
 use Rattle.dcs.proofs.feed.Statement.{statement}
 use Rattle.dcs.proofs.feed.Tie as tie
 
-feed-refusal-requires : tie.Need-feed-refusal-requires
-feed-refusal-requires c κs = search needs
+palette-of-requires : tie.Need-palette-of-requires
+palette-of-requires c κs = search needs
 
-enum-known-refusal : tie.Need-enum-known-refusal
-enum-known-refusal c = search needs
+table-requires : tie.Need-table-requires
+table-requires c κs = search needs
 
-returns : tie.Need-returns
-returns c = search (needs, feedings)
+core-of-requires : tie.Need-core-of-requires
+core-of-requires c κs = search needs
 
-enum-told : tie.Need-enum-told
-enum-told c = search needs
+feed-requires : tie.Need-feed-requires
+feed-requires c κs = search needs
 
-feed-in-requires : tie.Need-feed-in-requires
-feed-in-requires c κs = search needs
+of-table-requires : tie.Need-of-table-requires
+of-table-requires c κs = search needs
+
+with-palette-requires : tie.Need-with-palette-requires
+with-palette-requires c κs = search needs
 
 same-length : tie.Need-same-length
 same-length c = search needs
 
-returns-2 : tie.Need-returns-2
-returns-2 c = search (needs, feedings)
+returns : tie.Need-returns
+returns c =
+    let fed = c .before .before .before .before in
+    let cored = fed .before .before .before in
+    let tabled = cored .before in
+    fed-whole _ _ _ _ (cored .core-of .ensures) (tabled .table .ensures ∙ tabled .before .palette-of .ensures) (fed .feed .ensures)
+    (c .before .of-table .ensures) (c .with-palette .ensures)
 
 pub feed-spec : {M : Type 1} → statement M
 feed-spec =
     tie.close
     (tie.spec
-    feed-refusal-requires
-    enum-known-refusal
-    returns
-    enum-told
-    feed-in-requires
+    palette-of-requires
+    table-requires
+    core-of-requires
+    feed-requires
+    of-table-requires
+    with-palette-requires
     same-length
-    returns-2)
+    returns)

@@ -51,11 +51,12 @@ grow-requires c κs = search (needs, held-room)
 abbrev grown-start : tie.After-grow → tie.Start
 grown-start c = start (c .before .before .before)
 
-paint-sixel-requires : tie.Need-paint-sixel-requires
-paint-sixel-requires c κs =
+paint-rows-requires : tie.Need-paint-rows-requires
+paint-rows-requires c κs =
     let grown = c .before .before .before .before in
     let s = grown-start grown in
-    sixel-room (s .args .frame) (s .args .ground) _ _ _ _ (grown .grow .kept .1 .1 .0) (s .pre .0) (s .pre .1)
+    let room = sixel-room (s .args .frame) (s .args .ground) _ _ _ _ (grown .grow .kept .1 .1 .0) (s .pre .0) (s .pre .1) in
+    (room .0, room .1, sixel-bits _ (s .pre .4))
 
 after-sixel-requires : tie.Need-after-sixel-requires
 after-sixel-requires c κs = search needs
@@ -86,7 +87,7 @@ returns-2 c =
     (a .left)
     (omega (arith, grown .before .before .if1 .left))
     (grown .grow .ensures)
-    (painted .paint-sixel .ensures)
+    (painted .paint-rows .ensures)
     (c .before .after-sixel .ensures)
     (c .advance-to .ensures)
 
@@ -102,7 +103,7 @@ paint-repeated-spec =
     nothing-requires
     returns
     grow-requires
-    paint-sixel-requires
+    paint-rows-requires
     after-sixel-requires
     add-advance-to
     advance-to-requires

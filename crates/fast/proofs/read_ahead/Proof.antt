@@ -13,30 +13,30 @@ shared-slice-read-byte c = search needs
 is-sixel-requires : tie.Need-is-sixel-requires
 is-sixel-requires c κs = search needs
 
-read-run-requires : tie.Need-read-run-requires
-read-run-requires c κs = search needs
-
-same-length : tie.Need-same-length
-same-length c = search needs
-
 -- the start, where the byte is read
 abbrev start : tie.After-is-sixel → tie.Start
 start c = c .before .before .before .before
 
+read-run-requires : tie.Need-read-run-requires
+read-run-requires c κs =
+    let once = c .before in
+    let sixel = once .before .before in
+    let s = start (sixel .before) in
+    (s .pre .0, s .pre .1, once .if2 .taken, s .pre .2, sym (sixel .before .is-sixel .ensures) ∙ sixel .if1 .taken)
+
+same-length : tie.Need-same-length
+same-length c = search needs
+
 returns : tie.Need-returns
 returns c = c .before .before .read-run .ensures _
 
-read-repeated-requires : tie.Need-read-repeated-requires
-read-repeated-requires c κs =
-    let sixel = c .before .before .before in
-    let s = start (sixel .before) in
-    (s .pre .0, s .pre .1, s .pre .2, sym (sixel .before .is-sixel .ensures) ∙ sixel .if1 .taken)
-
-same-length-2 : tie.Need-same-length-2
-same-length-2 c = search needs
+nothing-requires : tie.Need-nothing-requires
+nothing-requires c κs = search needs
 
 returns-2 : tie.Need-returns-2
-returns-2 c = c .before .before .read-repeated .ensures _
+returns-2 c =
+    let s = start (c .before .before .before .before) in
+    nothing-advances _ _ _ _ _ _ _ (s .pre .0) (omega (arith, s .pre .2)) (c .nothing .ensures)
 
 -- the start, where the byte is no sixel
 abbrev other : tie.Else1 → tie.Start
@@ -51,8 +51,11 @@ returns-3 c = c .read-color .ensures _ _ _ (other (c .before .before .before) .p
 read-repeat-requires : tie.Need-read-repeat-requires
 read-repeat-requires c κs = search needs
 
+same-length-2 : tie.Need-same-length-2
+same-length-2 c = search needs
+
 returns-4 : tie.Need-returns-4
-returns-4 c = c .read-repeat .ensures _ _ _ (other (c .before .before .before) .pre .0)
+returns-4 c = c .before .before .read-repeat .ensures _
 
 move-to-requires : tie.Need-move-to-requires
 move-to-requires c κs = search needs
@@ -74,13 +77,13 @@ returns-6 c =
     let s = other (below .before .before .before .before .before) in
     dash-advances _ _ _ _ _ _ _ (s .pre .0) (s .pre .1) (s .pre .2) (below .before .if6 .taken) (below .row-below .ensures) (c .move-to2 .ensures)
 
-nothing-requires : tie.Need-nothing-requires
-nothing-requires c κs = search needs
+nothing-requires-2 : tie.Need-nothing-requires-2
+nothing-requires-2 c κs = search needs
 
 returns-7 : tie.Need-returns-7
 returns-7 c =
     let s = other (c .before .before .before .before .before) in
-    nothing-advances _ _ _ _ _ _ _ (s .pre .0) (omega (arith, s .pre .2)) (c .nothing .ensures)
+    nothing-advances _ _ _ _ _ _ _ (s .pre .0) (omega (arith, s .pre .2)) (c .nothing2 .ensures)
 
 pub read-ahead-spec : {M : Type 1} → statement M
 read-ahead-spec =
@@ -91,17 +94,17 @@ read-ahead-spec =
     read-run-requires
     same-length
     returns
-    read-repeated-requires
-    same-length-2
+    nothing-requires
     returns-2
     read-color-requires
     returns-3
     read-repeat-requires
+    same-length-2
     returns-4
     move-to-requires
     returns-5
     row-below-requires
     move-to-requires-2
     returns-6
-    nothing-requires
+    nothing-requires-2
     returns-7)

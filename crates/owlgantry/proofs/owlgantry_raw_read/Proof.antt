@@ -1,24 +1,15 @@
--- `owlgantry_raw_read` meets its contract: what `read` and `payload_part` promise, told as numbers (`read-out`); the part is no
--- longer than the bytes, so that its place can be computed (`part-short`).
-use Rattle.owlgantry.proofs.ReportLaws.{readings}
+-- `owlgantry_raw_read` meets its contract: what `read_onto` promises, told as numbers (`read-out`); the part is no longer than the bytes, so
+-- that its place can be computed (`part-short`).
+use Rattle.owlgantry.proofs.ReportLaws.{part-short, read-out}
 use borrow.Author.Needs.{needs}
 use Rattle.owlgantry.proofs.owlgantry_raw_read.Statement.{statement}
 use Rattle.owlgantry.proofs.owlgantry_raw_read.Tie as tie
 
-payload-part-requires : tie.Need-payload-part-requires
-payload-part-requires c κs = search needs
-
-of-table-requires : tie.Need-of-table-requires
-of-table-requires c κs = search needs
-
-read-requires : tie.Need-read-requires
-read-requires c κs = search needs
-
-table-requires : tie.Need-table-requires
-table-requires c κs = search needs
+read-onto-requires : tie.Need-read-onto-requires
+read-onto-requires c κs = search needs
 
 sub-report-numbers : tie.Need-sub-report-numbers
-sub-report-numbers c = search (needs, readings)
+sub-report-numbers c = part-short _ _ _ _ (c .before .before .before .read-onto .ensures .1)
 
 report-numbers-requires : tie.Need-report-numbers-requires
 report-numbers-requires c κs = search needs
@@ -30,16 +21,17 @@ same-length : tie.Need-same-length
 same-length c = search needs
 
 returns : tie.Need-returns
-returns c = search (needs, readings)
+returns c =
+    let reported = c .before in
+    let read = reported .before .before .before .before in
+    read-out _ _ _ _ _ _ _ _ _ _ _ (read .read-onto .ensures .0) (read .read-onto .ensures .1) (reported .report-numbers .ensures)
+    (c .refusal-number .ensures)
 
 pub owlgantry-raw-read-spec : {M : Type 1} → statement M
 owlgantry-raw-read-spec =
     tie.close
     (tie.spec
-    payload-part-requires
-    of-table-requires
-    read-requires
-    table-requires
+    read-onto-requires
     sub-report-numbers
     report-numbers-requires
     refusal-number-requires

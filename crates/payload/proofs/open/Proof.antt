@@ -1,34 +1,24 @@
--- `open` meets its contract: where the opening may be, the canvas has a pixel to paint.
-use Rattle.payload.proofs.SessionLaws.{openings-made}
+-- `open` meets its contract: the opening over the parts, with the palette lent as a table.
+use Rattle.payload.proofs.CoreLaws.{wholes}
 use borrow.Author.Needs.{needs}
 use Rattle.payload.proofs.open.Statement.{statement}
 use Rattle.payload.proofs.open.Tie as tie
 
-may-open-requires : tie.Need-may-open-requires
-may-open-requires c κs = search needs
+table-requires : tie.Need-table-requires
+table-requires c κs = search needs
 
-background-for-requires : tie.Need-background-for-requires
-background-for-requires c κs = search needs
+open-requires : tie.Need-open-requires
+open-requires c κs = search needs
 
-paint-if-requires : tie.Need-paint-if-requires
-paint-if-requires c κs = search (needs, openings-made)
-
-open-if-requires : tie.Need-open-if-requires
-open-if-requires c κs = search needs
+session-of-requires : tie.Need-session-of-requires
+session-of-requires c κs = search needs
 
 same-length : tie.Need-same-length
 same-length c = search needs
 
 returns : tie.Need-returns
-returns c = search (needs, openings-made)
+returns c = search (needs, wholes)
 
 pub open-spec : {M : Type 1} → statement M
 open-spec =
-    tie.close
-    (tie.spec
-    may-open-requires
-    background-for-requires
-    paint-if-requires
-    open-if-requires
-    same-length
-    returns)
+    tie.close (tie.spec table-requires open-requires session-of-requires same-length returns)

@@ -1,10 +1,10 @@
--- `dcs::memory::numbers_of` meets its contract: the payload session's numbers, with the phase and the header's nine written over
--- the places 34 to 43, are the session's.
+-- `dcs::memory::numbers_of` meets its contract: the payload session's numbers, with phase and header written over the zeros.
 use Rattle.dcs.specs.Memory.{nineWritten}
 use Rattle.dcs.proofs.MemoryLaws.{numbers-told}
 use borrow.Author.Needs.{needs}
 use Rattle.dcs.proofs.memory.numbers_of.Statement.{statement}
 use Rattle.dcs.proofs.memory.numbers_of.Tie as tie
+use Rattle.payload.proofs.memory.numbers_of.Reads as memory-numbers-of-reads′
 
 numbers-of-requires : tie.Need-numbers-of-requires
 numbers-of-requires c κs = search needs
@@ -74,7 +74,7 @@ array-write-numbers-10 c = search needs
 
 returns : tie.Need-returns
 unfolding nineWritten
-returns c = numbers-told _ (c .before .before .numbers-of .ensures) (c .before .numbers-of2 .ensures) (c .phase-number .ensures)
+returns c p = numbers-told _ (c .before .before .numbers-of .ensures) (c .before .numbers-of2 .ensures p) (c .phase-number .ensures)
 
 pub numbers-of-spec : {M : Type 1} → statement M
 numbers-of-spec =

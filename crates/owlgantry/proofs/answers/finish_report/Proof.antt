@@ -29,7 +29,7 @@ array-read-t24 : tie.Need-array-read-t24
 array-read-t24 c = search needs
 
 returns : tie.Need-returns
-returns c = search (needs, seven-told)
+returns c p = seven-told _ (c .report-numbers .ensures p)
 
 pub finish-report-spec : {M : Type 1} → statement M
 finish-report-spec =

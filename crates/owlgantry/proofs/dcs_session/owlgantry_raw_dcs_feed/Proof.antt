@@ -1,20 +1,17 @@
--- `owlgantry_raw_dcs_feed` meets its contract: the feed by value of the session that the memory holds (`dcs-fed`).
+-- `owlgantry_raw_dcs_feed` meets its contract: the feed of the session that the memory holds, in parts (`dcs-fed`).
 use Rattle.owlgantry.proofs.SessionCalls.{dcs-fed}
 use borrow.Author.Needs.{needs}
 use Rattle.owlgantry.proofs.dcs_session.owlgantry_raw_dcs_feed.Statement.{statement}
 use Rattle.owlgantry.proofs.dcs_session.owlgantry_raw_dcs_feed.Tie as tie
 
-session-from-requires : tie.Need-session-from-requires
-session-from-requires c κs = search needs
+core-from-requires : tie.Need-core-from-requires
+core-from-requires c κs = search needs
 
 feed-requires : tie.Need-feed-requires
 feed-requires c κs = search needs
 
 numbers-of-requires : tie.Need-numbers-of-requires
 numbers-of-requires c κs = search needs
-
-table-of-requires : tie.Need-table-of-requires
-table-of-requires c κs = search needs
 
 dcs-report-requires : tie.Need-dcs-report-requires
 dcs-report-requires c κs = search needs
@@ -27,21 +24,18 @@ same-length c = search needs
 
 returns : tie.Need-returns
 returns c =
-    let stored = c .before .before .before in
-    let painted = stored .before .before .before in
-    let fed = painted .before in
-    let made = fed .before .before in
-    dcs-fed _ _ _ _ _ _ _ (made .session-from .ensures) (fed .feed .ensures) (stored .numbers-of .ensures)
-    (c .before .before .table-of .ensures) (c .before .dcs-report .ensures) (c .dcs-number .ensures)
+    let stored = c .before .before in
+    let fed = stored .before .before .before in
+    dcs-fed _ _ _ _ _ _ _ _ (fed .before .before .before .core-from .ensures) (fed .feed .ensures) (stored .numbers-of .ensures)
+    (c .before .dcs-report .ensures) (c .dcs-number .ensures)
 
 pub owlgantry-raw-dcs-feed-spec : {M : Type 1} → statement M
 owlgantry-raw-dcs-feed-spec =
     tie.close
     (tie.spec
-    session-from-requires
+    core-from-requires
     feed-requires
     numbers-of-requires
-    table-of-requires
     dcs-report-requires
     dcs-number-requires
     same-length

@@ -1,20 +1,28 @@
--- `owlgantry_raw_payload_feed` meets its contract: the feed by value of the session that the memory holds (`payload-fed`).
+-- `owlgantry_raw_payload_feed` meets its contract: the feed of the session that the memory holds, in parts (`payload-fed`).
 use Rattle.owlgantry.proofs.SessionCalls.{payload-fed}
 use borrow.Author.Needs.{needs}
-use Rattle.owlgantry.proofs.payload_session.owlgantry_raw_payload_feed.Statement.{statement}
+use Rattle.owlgantry.proofs.payload_session.owlgantry_raw_payload_feed.Statement.{
+  statement,
+}
 use Rattle.owlgantry.proofs.payload_session.owlgantry_raw_payload_feed.Tie as tie
 
-session-from-requires : tie.Need-session-from-requires
-session-from-requires c κs = search needs
+setup-from-requires : tie.Need-setup-from-requires
+setup-from-requires c κs = search needs
+
+element-copy-out-life-from : tie.Need-element-copy-out-life-from
+element-copy-out-life-from c = search needs
+
+life-from-requires : tie.Need-life-from-requires
+life-from-requires c κs = search needs
+
+frame-from-requires : tie.Need-frame-from-requires
+frame-from-requires c κs = search needs
 
 feed-requires : tie.Need-feed-requires
 feed-requires c κs = search needs
 
 numbers-of-requires : tie.Need-numbers-of-requires
 numbers-of-requires c κs = search needs
-
-table-of-requires : tie.Need-table-of-requires
-table-of-requires c κs = search needs
 
 payload-report-requires : tie.Need-payload-report-requires
 payload-report-requires c κs = search needs
@@ -27,21 +35,23 @@ same-length c = search needs
 
 returns : tie.Need-returns
 returns c =
-    let stored = c .before .before .before in
-    let painted = stored .before .before .before in
-    let fed = painted .before in
-    let made = fed .before .before in
-    payload-fed _ _ _ _ _ _ _ (made .session-from .ensures) (fed .feed .ensures) (stored .numbers-of .ensures)
-    (c .before .before .table-of .ensures) (c .before .payload-report .ensures) (c .payload-number .ensures)
+    let stored = c .before .before in
+    let fed = stored .before .before .before in
+    let framed = fed .before .before .before in
+    let lived = framed .before .before in
+    payload-fed _ _ _ _ _ _ _ _ (lived .before .before .setup-from .ensures) (lived .life-from .ensures) (framed .frame-from .ensures)
+    (fed .feed .ensures) (stored .numbers-of .ensures) (c .before .payload-report .ensures) (c .payload-number .ensures)
 
 pub owlgantry-raw-payload-feed-spec : {M : Type 1} → statement M
 owlgantry-raw-payload-feed-spec =
     tie.close
     (tie.spec
-    session-from-requires
+    setup-from-requires
+    element-copy-out-life-from
+    life-from-requires
+    frame-from-requires
     feed-requires
     numbers-of-requires
-    table-of-requires
     payload-report-requires
     payload-number-requires
     same-length

@@ -1,7 +1,9 @@
--- `owlgantry_raw_payload_open` meets its contract: the memory gets the session that `open` made (`payload-opened`).
+-- `owlgantry_raw_payload_open` meets its contract: the memory gets the session that `open` made, and the registers (`payload-opened`).
 use Rattle.owlgantry.proofs.SessionCalls.{payload-opened}
 use borrow.Author.Needs.{needs}
-use Rattle.owlgantry.proofs.payload_session.owlgantry_raw_payload_open.Statement.{statement}
+use Rattle.owlgantry.proofs.payload_session.owlgantry_raw_payload_open.Statement.{
+  statement,
+}
 use Rattle.owlgantry.proofs.payload_session.owlgantry_raw_payload_open.Tie as tie
 
 given-from-requires : tie.Need-given-from-requires
@@ -10,17 +12,11 @@ given-from-requires c κs = search needs
 given-from-requires-2 : tie.Need-given-from-requires-2
 given-from-requires-2 c κs = search needs
 
-of-table-requires : tie.Need-of-table-requires
-of-table-requires c κs = search needs
-
 open-requires : tie.Need-open-requires
 open-requires c κs = search needs
 
 numbers-of-requires : tie.Need-numbers-of-requires
 numbers-of-requires c κs = search needs
-
-table-of-requires : tie.Need-table-of-requires
-table-of-requires c κs = search needs
 
 opening-number-requires : tie.Need-opening-number-requires
 opening-number-requires c κs = search needs
@@ -29,7 +25,12 @@ same-length : tie.Need-same-length
 same-length c = search needs
 
 returns : tie.Need-returns
-returns c = search (needs, payload-opened)
+returns c =
+    let stored = c .before .before in
+    let opened = stored .before .before .before in
+    let given = opened .before .before in
+    payload-opened _ _ _ _ _ _ _ _ _ _ _ (given .before .given-from .ensures) (given .given-from2 .ensures) (opened .«open» .ensures)
+    (stored .numbers-of .ensures) (c .opening-number .ensures)
 
 pub owlgantry-raw-payload-open-spec : {M : Type 1} → statement M
 owlgantry-raw-payload-open-spec =
@@ -37,10 +38,8 @@ owlgantry-raw-payload-open-spec =
     (tie.spec
     given-from-requires
     given-from-requires-2
-    of-table-requires
     open-requires
     numbers-of-requires
-    table-of-requires
     opening-number-requires
     same-length
     returns)

@@ -20,11 +20,11 @@ cast-result c = search needs
 
 returns : tie.Need-returns
 unfolding refusalNumber finishMeant
-returns c = search (needs, refusal-as)
+returns c p = search (needs, refusal-as)
 
 returns-2 : tie.Need-returns-2
 unfolding refusalNumber finishMeant
-returns-2 c = search (needs, refusal-as)
+returns-2 c p = search (needs, refusal-as)
 
 pub refusal-number-spec : {M : Type 1} → statement M
 refusal-number-spec =

@@ -15,18 +15,18 @@ ratio-kind-requires c κs = search needs
 ratio-number-requires : tie.Need-ratio-number-requires
 ratio-number-requires c κs = search needs
 
-cast-t14 : tie.Need-cast-t14
-cast-t14 c = search needs
+cast-t13 : tie.Need-cast-t13
+cast-t13 c = search needs
 
 enum-told : tie.Need-enum-told
 enum-told c = search needs
 
 returns : tie.Need-returns
-returns c = search (needs, reported)
+returns c p = search (needs, reported)
 
 returns-2 : tie.Need-returns-2
 unfolding reportNumbers finishMeant
-returns-2 c = search (needs, reported)
+returns-2 c p = search (needs, reported)
 
 pub report-numbers-spec : {M : Type 1} → statement M
 report-numbers-spec =
@@ -35,7 +35,7 @@ report-numbers-spec =
     enum-known-answer
     ratio-kind-requires
     ratio-number-requires
-    cast-t14
+    cast-t13
     enum-told
     returns
     returns-2)

@@ -1,4 +1,4 @@
--- `start` meets its contract: a blank frame and the background, painted where the canvas has a pixel.
+-- `start` meets its contract: a new background, and its pixel where the canvas has one.
 use Rattle.payload.proofs.DeferredLaws.{beginnings}
 use borrow.Author.Needs.{needs}
 use Rattle.payload.proofs.deferred.start.Statement.{statement}
@@ -7,9 +7,6 @@ use Rattle.payload.proofs.deferred.start.Tie as tie
 background-for-requires : tie.Need-background-for-requires
 background-for-requires c κs = search needs
 
-blank-frame-requires : tie.Need-blank-frame-requires
-blank-frame-requires c κs = search needs
-
 paint-if-requires : tie.Need-paint-if-requires
 paint-if-requires c κs = search needs
 
@@ -17,9 +14,7 @@ same-length : tie.Need-same-length
 same-length c = search needs
 
 returns : tie.Need-returns
-returns c = search (needs, beginnings)
+returns c life f = search (needs, beginnings)
 
 pub start-spec : {M : Type 1} → statement M
-start-spec =
-    tie.close
-    (tie.spec background-for-requires blank-frame-requires paint-if-requires same-length returns)
+start-spec = tie.close (tie.spec background-for-requires paint-if-requires same-length returns)

@@ -56,7 +56,7 @@ array-read-t65 : tie.Need-array-read-t65
 array-read-t65 c = search needs
 
 returns : tie.Need-returns
-returns c = search (needs, numbers-told)
+returns c p = search (needs, numbers-told)
 
 pub numbers-of-spec : {M : Type 1} → statement M
 numbers-of-spec =

@@ -8,16 +8,16 @@ has-failed-requires : tie.Need-has-failed-requires
 has-failed-requires c κs = search needs
 
 returns : tie.Need-returns
-returns c = search (needs, refusing)
+returns c p = search (needs, refusing)
 
 misfits-requires : tie.Need-misfits-requires
 misfits-requires c κs = search needs
 
 returns-2 : tie.Need-returns-2
-returns-2 c = search (needs, refusing)
+returns-2 c p = search (needs, refusing, c .before .misfits .ensures p)
 
 returns-3 : tie.Need-returns-3
-returns-3 c = search (needs, refusing)
+returns-3 c p = search (needs, refusing, c .before .misfits .ensures p)
 
 pub finish-refusal-spec : {M : Type 1} → statement M
 finish-refusal-spec =

@@ -1,0 +1,85 @@
+-- `read_visible` meets its contract: the sixels that were painted need no more than the visible area, so that nothing had to grow.
+use native.Mathlib.Omega.{arith}
+use borrow.Author.Needs.{needs}
+use denote.Ref.{now}
+use lib.ListN.{length}
+use Rattle.fast.proofs.RunLaws.{visible-advances, visible-room}
+use Rattle.fast.proofs.run.read_visible.Statement.{statement}
+use Rattle.fast.proofs.run.read_visible.Tie as tie
+
+blend-sixels-requires : tie.Need-blend-sixels-requires
+blend-sixels-requires c κs =
+    let s = c .before .before .before .before in
+    let fits = s .pre .0 in
+    (s .pre .3, omega (arith, s .pre .4, fits .width), omega (arith, s .pre .5, fits .height, fits .rows), s .pre .6, s .pre .7)
+
+-- where the sixels are painted, and the start
+abbrev painted : tie.After-as-repeated → tie.After-blend-sixels
+painted c = c .before .before .before
+
+abbrev start : tie.After-blend-sixels → tie.Start
+start c = c .before .before .before .before .before
+
+as-repeated-requires : tie.Need-as-repeated-requires
+as-repeated-requires c κs = search needs
+
+mark-requires : tie.Need-mark-requires
+mark-requires c κs = search needs
+
+after-sixel-requires : tie.Need-after-sixel-requires
+after-sixel-requires c κs =
+    let whole = c .before in
+    let done = painted whole in
+    let s = start done in
+    let a = s .args in
+    visible-room (a .frame) (a .ground) _ (length (now (a .canvas))) (whole .as-repeated .ensures) (s .pre .0) (omega arith)
+    (omega (arith, s .pre .4, done .blend-sixels .ensures .1))
+    (s .pre .5)
+
+add-advance-to : tie.Need-add-advance-to
+add-advance-to c =
+    let done = painted (c .before .before .before) in
+    let s = start done in
+    omega (arith, s .pre .3, done .blend-sixels .ensures .1, s .good .1 .1 .1 .0 .0)
+
+advance-to-requires : tie.Need-advance-to-requires
+advance-to-requires c κs = search needs
+
+same-length : tie.Need-same-length
+same-length c = search needs
+
+returns : tie.Need-returns
+returns c =
+    let after = c .before .before in
+    let whole = after .before .before in
+    let done = painted whole in
+    let s = start done in
+    let a = s .args in
+    let sixels = done .blend-sixels .ensures in
+    λ p left enough.
+    visible-advances (a .frame) (a .ground) (now (a .bytes)) (a .from) _ (s .pre .0) (s .pre .1) (s .pre .2) (sixels .2)
+    (sixels .0)
+    (omega (arith, s .pre .4, sixels .1))
+    (s .pre .5)
+    (sixels .3)
+    (sixels .4)
+    (whole .as-repeated .ensures)
+    (after .before .mark .ensures)
+    (after .after-sixel .ensures)
+    (c .advance-to .ensures)
+    p
+    left
+    (omega (arith, enough, sixels .1))
+
+pub read-visible-spec : {M : Type 1} → statement M
+read-visible-spec =
+    tie.close
+    (tie.spec
+    blend-sixels-requires
+    as-repeated-requires
+    mark-requires
+    after-sixel-requires
+    add-advance-to
+    advance-to-requires
+    same-length
+    returns)
