@@ -21,7 +21,7 @@
 #include <stdint.h>
 
 /* The version that the file VERSION names; CHANGELOG.md says what it brings. */
-#define OWLGANTRY_VERSION "0.5.0"
+#define OWLGANTRY_VERSION "0.6.0"
 
 #if SIZE_MAX != UINT64_MAX
 #error "the reader is made for machines whose size_t has 64 bits"
@@ -162,8 +162,8 @@ typedef struct {
     uint64_t how, consumed, ink, byte;
 } owlgantry_fed;
 
-/* Right and bottom are the extent: the rightmost column any sixel reached, and the lowest row of a band with ink, plus
- * 1 each. */
+/* Right and bottom are the extent (rule 4.4): one past the last column and one past the last row that hold a painted
+ * pixel, or 0 and 0 where nothing was painted. A crop to them loses no ink. */
 typedef struct {
     uint64_t width, height, right, bottom, ratio_kind, ratio, transparent;
 } owlgantry_picture;

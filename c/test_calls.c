@@ -63,6 +63,7 @@ static void check_nulls(void) {
          OWLGANTRY_OPENING);
     same(name, "nothing to read", owlgantry_read(house, canvas, NULL, 0, palette, &picture, &part), 0);
     same(name, "the picture of nothing", picture.width * picture.height, 1);
+    same(name, "its right and bottom", picture.right | picture.bottom, 0);
 }
 
 static void check_reading(const char *bytes, uint64_t answer, size_t place) {

@@ -72,7 +72,8 @@ static void check_feeds(const char *name, kind which) {
 static void check_finish(const char *name, kind which) {
     uint64_t answer = finish_one(which);
     holds(name, "a finish answers 0, 4 to 9 or 12", answer == 0 || (answer >= 4 && answer <= 9) || answer == 12);
-    holds(name, "a refused finish reports zeros", answer == 0 || (report[0] | report[1] | report[6]) == 0);
+    holds(name, "a refused finish reports zeros",
+          answer == 0 || (report[0] | report[1] | report[2] | report[3] | report[6]) == 0);
     for (size_t at = 0; at < OWLGANTRY_SESSION_NUMBERS; at++) {
         same(name, "a number after a finish", numbers[at], 0);
     }

@@ -7,6 +7,7 @@
 #define HOUSE {1024, 768, 1024, 786432}
 #define HOUSE_CANVAS 1024, 768
 #define SIX(row) row row row row row row
+#define FORTY(pixel) SIX(pixel) SIX(pixel) SIX(pixel) SIX(pixel) SIX(pixel) SIX(pixel) pixel pixel pixel pixel
 
 /* A payload and its outcome: the refusal, or size, extent, ink, ratio and every pixel (a letter of `colour_of` each). */
 typedef struct {
@@ -18,7 +19,7 @@ typedef struct {
 } example;
 
 static const example examples[] = {
-    {"", HOUSE, HOUSE_CANVAS, 0, 1, 1, 1, 1, 0, 0, 0, "k"},
+    {"", HOUSE, HOUSE_CANVAS, 0, 1, 1, 0, 0, 0, 0, 0, "k"},
     {"~-?", HOUSE, HOUSE_CANVAS, 0, 1, 12, 1, 6, 6, 0, 0, "kkkkkkkkkkkk"},
     {"!5#1~", HOUSE, HOUSE_CANVAS, 0, 5, 6, 5, 6, 30, 0, 0, SIX("ddddd")},
     {"!0~", HOUSE, HOUSE_CANVAS, 0, 1, 6, 1, 6, 6, 0, 0, SIX("k")},
@@ -27,24 +28,38 @@ static const example examples[] = {
     {"#1;2;100;0;~", HOUSE, HOUSE_CANVAS, 0, 1, 6, 1, 6, 6, 0, 0, SIX("r")},
     {"#300~", HOUSE, HOUSE_CANVAS, 0, 1, 6, 1, 6, 6, 0, 0, SIX("w")},
     {"~#0;2;100;100;100-~", HOUSE, HOUSE_CANVAS, 0, 1, 12, 1, 12, 12, 0, 0, SIX("k") SIX("w")},
-    {"\"2;1\"1;2", HOUSE, HOUSE_CANVAS, 0, 1, 1, 1, 1, 0, 0, 0, "k"},
+    {"\"2;1\"1;2", HOUSE, HOUSE_CANVAS, 0, 1, 1, 0, 0, 0, 0, 0, "k"},
     {"!8~", {8, 768, 8, 786432}, HOUSE_CANVAS, 0, 8, 6, 8, 6, 48, 0, 0, SIX("kkkkkkkk")},
     {"!9~", {8, 768, 8, 786432}, HOUSE_CANVAS, 4, 0, 0, 0, 0, 0, 0, 0, ""},
     {"!9~", {8, 768, 1024, 786432}, HOUSE_CANVAS, 5, 0, 0, 0, 0, 0, 0, 0, ""},
     {"--~", {1024, 12, 1024, 786432}, HOUSE_CANVAS, 5, 0, 0, 0, 0, 0, 0, 0, ""},
-    {"--", {1024, 12, 1024, 786432}, HOUSE_CANVAS, 0, 1, 1, 1, 1, 0, 0, 0, "k"},
+    {"--", {1024, 12, 1024, 786432}, HOUSE_CANVAS, 0, 1, 1, 0, 0, 0, 0, 0, "k"},
     {"!8~", {8, 12, 1024, 48}, HOUSE_CANVAS, 0, 8, 6, 8, 6, 48, 0, 0, SIX("kkkkkkkk")},
     {"!8~-?", {8, 12, 1024, 48}, HOUSE_CANVAS, 6, 0, 0, 0, 0, 0, 0, 0, ""},
     {"!5~", HOUSE, 4, 6, 7, 0, 0, 0, 0, 0, 0, 0, ""},
     {"!8~$!8~", {8, 768, 1024, 786432}, HOUSE_CANVAS, 0, 8, 6, 8, 6, 96, 0, 0, SIX("kkkkkkkk")},
     {"#1;1;120;50;100~", HOUSE, HOUSE_CANVAS, 0, 1, 6, 1, 6, 6, 0, 0, SIX("r")},
     {"#1;1;0;50;100~", HOUSE, HOUSE_CANVAS, 0, 1, 6, 1, 6, 6, 0, 0, SIX("b")},
-    {"#1;2;100;0;0!2B", {128, 128, 128, 16384}, 128, 128, 0, 2, 6, 2, 6, 4, 0, 0, "rr" "rr" "kk" "kk" "kk" "kk"},
+    {"#1;2;100;0;0!2B", {128, 128, 128, 16384}, 128, 128, 0, 2, 6, 2, 2, 4, 0, 0, "rr" "rr" "kk" "kk" "kk" "kk"},
     /* A sixel on another, a raster larger than the ink, and a ratio that stays. */
-    {"\"4;2;4;3#1!3@$#255A", HOUSE, 5, 7, 0, 4, 6, 3, 6, 4, 2, 2, "ddd" "k" "w" "kkk" "kkkk" "kkkk" "kkkk" "kkkk"},
+    {"\"4;2;4;3#1!3@$#255A", HOUSE, 5, 7, 0, 4, 6, 3, 2, 4, 2, 2, "ddd" "k" "w" "kkk" "kkkk" "kkkk" "kkkk" "kkkk"},
     /* Every sixel of the first band is one column further, and stops come between. */
     {"#1~#255~#1~#255~-#1!4~", {4, 12, 9, 48}, 4, 12, 0, 4, 12, 4, 12, 48, 0, 0, SIX("dwdw") SIX("dddd")},
-    {"\"3;1;2;2-\"5;1", HOUSE, 2, 2, 0, 2, 2, 1, 1, 0, 2, 5, "kkkk"},
+    {"\"3;1;2;2-\"5;1", HOUSE, 2, 2, 0, 2, 2, 0, 0, 0, 2, 5, "kkkk"},
+    /* The extent: no blank column, no blank row of a band, and nothing of what has only grown. */
+    {"@!40?", HOUSE, HOUSE_CANVAS, 0, 41, 6, 1, 1, 1, 0, 0, SIX("k" FORTY("k"))},
+    {"_", HOUSE, HOUSE_CANVAS, 0, 1, 6, 1, 6, 1, 0, 0, SIX("k")},
+    {"!7?", HOUSE, HOUSE_CANVAS, 0, 7, 6, 0, 0, 0, 0, 0, SIX("kkkkkkk")},
+    {"\"1;1;4;3", HOUSE, HOUSE_CANVAS, 0, 4, 3, 0, 0, 0, 2, 1, "kkkk" "kkkk" "kkkk"},
+    {"!3@", HOUSE, HOUSE_CANVAS, 0, 3, 6, 3, 1, 3, 0, 0, SIX("kkk")},
+    {"C", HOUSE, HOUSE_CANVAS, 0, 1, 6, 1, 3, 1, 0, 0, SIX("k")},
+    {"#1?@G?A??", HOUSE, HOUSE_CANVAS, 0, 7, 6, 5, 4, 3, 0, 0, "kdkkkkk" "kkkkdkk" "kkkkkkk" "kkdkkkk" "kkkkkkk" "kkkkkkk"},
+    {"!3@-O$-", HOUSE, HOUSE_CANVAS, 0, 3, 12, 3, 11, 4, 0, 0, SIX("kkk") SIX("kkk")},
+    /* In the background's own colour, and covered by it later. */
+    {"#0!2A", HOUSE, HOUSE_CANVAS, 0, 2, 6, 2, 2, 2, 0, 0, SIX("kk")},
+    {"#1!4B$#0!4B", HOUSE, HOUSE_CANVAS, 0, 4, 6, 4, 2, 16, 0, 0, SIX("kkkk")},
+    /* The last sixel waits for a second call, and counts when that reads it. */
+    {"!8~-!8N", {8, 12, 8, 96}, 8, 12, 0, 8, 12, 8, 10, 80, 0, 0, SIX("kkkkkkkk") SIX("kkkkkkkk")},
 };
 
 static uint32_t colour_of(char letter) {
@@ -156,6 +171,29 @@ static void test_stop(void) {
     same(name, "ink", fed.ink, 48);
 }
 
+/* What a stop leaves unread is not painted: two finishes of one session, before and after its waiting sixel is read. */
+static void test_stopped_extent(void) {
+    const char *name = "the extent at a stop";
+    uint32_t palette[OWLGANTRY_REGISTERS];
+    owlgantry_session session, stopped;
+    owlgantry_fed fed;
+    owlgantry_picture picture;
+    owlgantry_canvas canvas = fresh_canvas(8, 12);
+    owlgantry_standard_palette(palette);
+    same(name, "the opening", open_session(PAYLOAD, &session, owlgantry_limits_of(8, 12, 8, 96), canvas, palette), 0);
+    same(name, "the first call", owlgantry_payload_feed(&session, canvas, "!7~-!8N", 7, 48, &fed), 0);
+    same(name, "how", fed.how, OWLGANTRY_PAYLOAD_STOPPED);
+    same(name, "consumed", fed.consumed, 6);
+    stopped = session;
+    same(name, "a finish", owlgantry_payload_finish(&stopped, canvas, palette, &picture), 0);
+    same(name, "right", picture.right, 7);
+    same(name, "bottom", picture.bottom, 6);
+    same(name, "the second call", owlgantry_payload_feed(&session, canvas, "N", 1, 48, &fed), 0);
+    same(name, "the other finish", owlgantry_payload_finish(&session, canvas, palette, &picture), 0);
+    same(name, "right", picture.right, 8);
+    same(name, "bottom", picture.bottom, 10);
+}
+
 /* Every end of a DCS sequence, and that it is repeated. */
 static void test_ends(void) {
     static const struct {
@@ -185,6 +223,7 @@ static void test_ends(void) {
         }
         same(name, "the finish", owlgantry_dcs_finish(&session, canvas, palette, &picture), 0);
         same(name, "width", picture.width, 1);
+        same(name, "right", picture.right, 1); /* what comes after the end paints nothing */
     }
 }
 
@@ -209,6 +248,7 @@ static void test_parameters(void) {
     same("P1 2, P2 1", "the ratio's kind", picture.ratio_kind, OWLGANTRY_RATIO_P1);
     same("P1 2, P2 1", "the ratio", picture.ratio, 2);
     same("P1 2, P2 1", "transparent", picture.transparent, 1);
+    same("P1 2, P2 1", "right and bottom", picture.right | picture.bottom, 0);
     holds("P1 2, P2 1", "a blank sixel is clear", memcmp(canvas.bytes + 32, "\0\0\0\0", 4) == 0);
 }
 
@@ -217,6 +257,7 @@ void test_examples(void) {
         test_example(&examples[at]);
     }
     test_stop();
+    test_stopped_extent();
     test_ends();
     test_parameters();
 }

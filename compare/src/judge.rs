@@ -173,13 +173,18 @@ fn status(entry: Entry, [how, _, _, byte]: [u64; 4]) -> Status {
 }
 
 /// A finish's numbers against the oracle's picture, and against the count.
+///
+/// The Rust has no extent to compare with: its reach counts blank columns and whole bands. But where the background is
+/// clear, the opaque pixels of its picture are just the painted ones.
 fn finished(expected: &Expected, ours: (u64, [u64; 7]), counted: Result<[u64; 7], u64>) -> Same {
     let (number, report) = ours;
     if number == 0 {
         let [width, height, right, bottom, kind, ratio, transparent] = report;
         let answer = &expected.answer;
         same("size", [width, height], answer.size.map(|side| side as u64))?;
-        same("extent", [right, bottom], answer.reach.map(|side| side as u64))?;
+        if !answer.opaque {
+            same("extent on a clear background", [right, bottom], opaque_box(answer.size, &answer.pixels))?;
+        }
         let vertical = match kind {
             0 => PixelAspectRatio::default().pad(),
             1 => PixelAspectRatio::from_p1(ratio.min(65_535) as u16).pad(),
@@ -188,7 +193,20 @@ fn finished(expected: &Expected, ours: (u64, [u64; 7]), counted: Result<[u64; 7]
         same("ratio", vertical, u16::from(answer.ratio))?;
         same("background", transparent, u64::from(!answer.opaque))?;
     }
-    same("finish's numbers", (number, report), counted.map_or_else(|number| (number, [0; 7]), |report| (0, report)))
+    let counted = counted.map_or_else(|number| (number, [0; 7]), |report| (0, report));
+    same("extent", &report[2..4], &counted.1[2..4])?;
+    same("finish's numbers", (number, report), counted)
+}
+
+/// One past the last column and the last row that hold an opaque pixel, or 0 x 0.
+fn opaque_box([width, _]: [usize; 2], pixels: &[u8]) -> [u64; 2] {
+    let mut sides = [0, 0];
+    for (y, row) in pixels.chunks(4 * width).enumerate() {
+        if let Some(x) = row.chunks(4).rposition(|pixel| pixel[3] != 0) {
+            sides = [sides[0].max(x + 1), y + 1];
+        }
+    }
+    sides.map(|side| side as u64)
 }
 
 /// Every byte that was lent.

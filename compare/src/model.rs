@@ -1,6 +1,7 @@
 //! The rules of reading (docs/RULES.md), without pixels and colours: what each call has to answer, and the ink of every draw.
 //!
-//! Written from the document and not from either reader, so that calls, stops and ink are counted by a third party.
+//! Written from the document and not from either reader, so that calls, stops, ink and extent are counted by a third
+//! party.
 use crate::values::{ends, header_byte, skipped, Settings, Values};
 
 /// What a session is opened with: W, H, R, M, and the canvas's stride and rows.
@@ -75,7 +76,8 @@ pub struct Model {
     row: u64,
     /// The visible area; 0 x 0 before any payload.
     pub area: [u64; 2],
-    pub extent: [u64; 2],
+    /// One past the last painted column and row; 0 x 0 before the first ink.
+    extent: [u64; 2],
     ratio: Option<u64>,
     kept: [u64; 2],
     /// The ink of all draws, those of a refused call too.
@@ -101,7 +103,7 @@ impl Model {
             column: 0,
             row: 0,
             area: [0, 0],
-            extent: [1, 1],
+            extent: [0, 0],
             ratio: None,
             kept: [0, 0],
             ink: 0,
@@ -220,9 +222,10 @@ impl Model {
         }
         self.grow(area, effects);
         effects(Effect::Stroke { column: self.column, row: self.row, repeat: self.repeat, bits });
-        self.extent[0] = self.extent[0].max(needs[0]);
+        // A sixel without a set bit is blank and paints nothing, however far it makes the picture grow.
         if bits != 0 {
-            self.extent[1] = self.extent[1].max(needs[1]);
+            let lowest = u64::from(bits.ilog2());
+            self.extent = [self.extent[0].max(needs[0]), self.extent[1].max(self.row + lowest + 1)];
         }
         self.ink += u128::from(ink);
         self.column = needs[0];

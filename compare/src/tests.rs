@@ -1,6 +1,7 @@
 //! Mutation testing: that the comparison can fail, at each thing it compares, and that shrinking works.
 use crate::expected::Expected;
 use crate::judge::judge;
+use crate::model::{Bounds, Model};
 use crate::reader::{Memory, Opening, Reader, Registers, GUARD, SESSION};
 use crate::run::{difference, smallest};
 use crate::shrink::shrink;
@@ -22,6 +23,12 @@ enum Damage {
     FinishNumber,
     Read(usize),
     ReadNumber,
+    /// An extent of 1 x 1 where nothing was painted.
+    ExtentNotEmpty,
+    /// One that counts a band's six rows.
+    ExtentInBands,
+    /// One that counts what has only grown.
+    ExtentOfSize,
     Palette,
     Copy,
     CopyNumber,
@@ -56,6 +63,16 @@ impl Damaged {
     fn is(&self, damage: Damage) -> bool {
         self.damage == damage
     }
+
+    /// Puts a wrong extent into the report of a picture.
+    fn stretch(&self, number: u64, report: &mut [u64]) {
+        match self.damage {
+            Damage::ExtentNotEmpty if number == 0 => report[2..4].iter_mut().for_each(|side| *side = (*side).max(1)),
+            Damage::ExtentInBands => report[3] = report[3].next_multiple_of(6),
+            Damage::ExtentOfSize => report.copy_within(..2, 2),
+            _ => {}
+        }
+    }
 }
 
 impl Reader for Damaged {
@@ -84,6 +101,7 @@ impl Reader for Damaged {
     fn finish(&mut self) -> (u64, [u64; 7]) {
         self.ended = true;
         let (number, mut report) = self.inner.finish();
+        self.stretch(number, &mut report);
         if let Damage::Finish(place) = self.damage {
             report[place] += 1;
         }
@@ -92,6 +110,7 @@ impl Reader for Damaged {
 
     fn read(&mut self, opening: &Opening, bytes: &[u8]) -> (u64, [u64; 9]) {
         let (number, mut report) = self.inner.read(opening, bytes);
+        self.stretch(number, &mut report);
         if let Damage::Read(place) = self.damage {
             report[place] += 1;
         }
@@ -172,6 +191,9 @@ fn every_damage_is_noticed() {
         Read(7),
         Read(8),
         ReadNumber,
+        ExtentNotEmpty,
+        ExtentInBands,
+        ExtentOfSize,
         Palette,
         Copy,
         CopyNumber,
@@ -245,8 +267,42 @@ fn each_field_is_named() {
     for (damage, name) in names {
         assert_eq!(difference(&plain, &mut Damaged::new(damage)).map(|found| found.what).as_deref(), Some(name));
     }
+    assert!(found(Damage::ExtentOfSize).is_some_and(|what| what.starts_with("extent")));
     assert!(found(Damage::Palette).is_some_and(|what| what.starts_with("palette")));
     assert!(found(Damage::Before).is_some_and(|what| what.contains("outside the picture")));
+}
+
+/// The count by itself, on what the Rust's reach or the size would tell otherwise.
+#[test]
+fn the_extent_is_that_of_the_painted_pixels() {
+    let bounds = Bounds { limits: [64, 64, 64, 4_096], stride: 64, rows: 64 };
+    let nothing = &mut |_| ();
+    let mut counted = |payload: &str| {
+        let mut model = Model::payload(bounds, [None; 2], nothing);
+        let fed = model.feed(payload.as_bytes(), u64::MAX, nothing);
+        let [_, _, right, bottom, ..] = fed.and_then(|_| model.finish(nothing)).expect("a picture");
+        [right, bottom]
+    };
+    for blank in ["", "!7?", "\"1;1;8;12", "--", "#1;2;100;0;0!3"] {
+        assert_eq!(counted(blank), [0, 0], "{blank}");
+    }
+    for (bits, depth) in [("@", 1), ("A", 2), ("C", 3), ("D", 3), ("G", 4), ("O", 5), ("_", 6), ("`", 6)] {
+        assert_eq!(counted(bits), [1, depth], "{bits}");
+    }
+    let others = [
+        ("@!40?", [1, 1]),
+        ("~-?", [1, 6]),
+        ("-@", [1, 7]),
+        ("!3@", [3, 1]),
+        ("!5@-G", [5, 10]),
+        // In the background's own colour, and covered by it later.
+        ("#0!2@", [2, 1]),
+        ("#1!4B$#0!4B", [4, 2]),
+        ("@\x1b~", [1, 1]),
+    ];
+    for (payload, extent) in others {
+        assert_eq!(counted(payload), extent, "{payload}");
+    }
 }
 
 #[test]
@@ -283,7 +339,7 @@ fn a_shrunk_difference_is_printed() {
     let mut reader = Damaged::new(Damage::Pixel);
     let trial = (0..).map(|number| Trial::new(SEED, number)).find(|trial| trial.entry == Entry::Payload([None; 3]));
     let words = smallest(&trial.expect("there is one"), &mut reader);
-    for part in ["pixel at column 0, row 0", "    open: 0\n", "    finish: (0, [1, 1, 1, 1, ", "picture status more"] {
+    for part in ["pixel at column 0, row 0", "    open: 0\n", "    finish: (0, [1, 1, 0, 0, ", "picture status more"] {
         assert!(words.contains(part), "{part} is not in\n{words}");
     }
 }

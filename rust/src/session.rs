@@ -57,9 +57,9 @@ pub struct Picture {
     pub width: usize,
     /// Height in pixels.
     pub height: usize,
-    /// The extent's columns: the rightmost column that a sixel reached, plus 1 (rule 4.4).
+    /// The extent's columns: one past the last that holds a painted pixel, or 0 where nothing was painted (rule 4.4).
     pub right: usize,
-    /// The lowest row of a band with ink, plus 1.
+    /// The extent's rows: one past the last that holds a painted pixel, or 0.
     pub bottom: usize,
     /// Where the ratio comes from.
     pub ratio: Ratio,

@@ -116,6 +116,22 @@ fn a_stop_for_ink() {
     assert_eq!((fed.status, fed.consumed, fed.ink), (PayloadStatus::Ended(0x1b), 0, 0));
 }
 
+/// Two finishes of one session, before and after the sixel is read that a stop left waiting.
+#[test]
+fn the_extent_at_a_stop() {
+    let limits = limits(8, 12, 8, 96);
+    let (mut canvas, mut palette) = (fresh_canvas([8, 12]), Palette::standard());
+    let mut session = PayloadSession::open(limits, 8, DcsSettings::default(), &mut canvas, &palette).unwrap();
+    let fed = session.feed(&mut canvas, b"!7~-!8N", 48).unwrap();
+    assert_eq!((fed.status, fed.consumed), (PayloadStatus::StoppedForInk, 6));
+    let picture = session.clone().finish(&mut canvas, &mut palette).unwrap();
+    assert_eq!([picture.right, picture.bottom], [7, 6]);
+    let fed = session.feed(&mut canvas, b"N", 48).unwrap();
+    assert_eq!((fed.status, fed.ink), (PayloadStatus::AllRead, 32));
+    let picture = session.finish(&mut canvas, &mut palette).unwrap();
+    assert_eq!([picture.right, picture.bottom], [8, 10]);
+}
+
 #[test]
 fn a_canvas_too_small() {
     let mut canvas = fresh_canvas([4, 6]);
@@ -167,6 +183,7 @@ fn a_report_in_full() {
     let picture = reading.picture.unwrap();
     assert_eq!(picture.ratio, Ratio::LeftToP1(Some(2)));
     assert!(picture.background_mode.is_transparent());
+    assert_eq!([picture.width, picture.height, picture.right, picture.bottom], [1, 6, 1, 1]);
     assert_eq!(canvas[..4], [1, 2, 3, 255]);
     assert_eq!(canvas[32..36], [0, 0, 0, 0]);
 }

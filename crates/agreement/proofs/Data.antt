@@ -123,7 +123,7 @@ module _ {s : Setting} (bounded : Bounded s) (opening : List ℕ) (o : Parameter
   moved-same row held e =
       record {
         bounded = bounded;
-        sound = record { fits = sound .fits; strokes = sound .strokes; repeats = sound .repeats };
+        sound = record { fits = sound .fits; strokes = sound .strokes; once = sound .once; repeats = sound .repeats };
         rated = rated;
         ground = refl;
         frame = ap (movedTo (frameOf d c)) e;

@@ -7,7 +7,7 @@ use mathlib.Core.Option.{Option}
 use mathlib.Core.List.{List, [], _∷_, _++_}
 use lib.Dec.{eqb}
 use Rattle.colours.specs.Palette.{registerOf}
-use Rattle.canvas.specs.Picture.{Stroke, Area, areaOf, reach, picture}
+use Rattle.canvas.specs.Picture.{Stroke, Area, depth, areaOf, reach, picture}
 use Rattle.canvas.specs.Paint as paint
 use Rattle.canvas.proofs.Strokes.{reach-within, reach-inside}
 use Rattle.canvas.proofs.Pictures.{picture-grown, picture-stroke}
@@ -15,37 +15,24 @@ use Rattle.canvas.proofs.Shows.{sixel-stroked}
 use Rattle.frame.specs.declared.Command.{Command}
 use Rattle.frame.specs.declared.Extent.{Extent}
 use Rattle.frame.specs.declared.Frame.{Frame}
-use Rattle.reference.specs.Step.{penAfter, inked, extentAfter, areaGrown, canvasAfter, rowCeiling}
+use Rattle.reference.specs.Step.{penAfter, paintedTo, rightAfter, bottomAfter, extentAfter, passedTo, inked, areaGrown, canvasAfter, rowCeiling}
 use Rattle.meaning.specs.Commands.{draw}
-use Rattle.meaning.specs.Drawing.{Setting, Drawing, unless, strokeOf, stroked, drawCommand, columnsReached, rowsReached, extentOf}
+use Rattle.meaning.specs.Drawing.{Setting, Drawing, unless, strokeOf, stroked, drawCommand, rightOf, bottomOf, columnsPainted, rowsPainted, extentOf}
 use Rattle.meaning.proofs.AreaLaws.{Allowed, Sound, Follows, command-drawn}
 use Rattle.agreement.specs.Same.{groundOf, penOf, codeArea, codeExtent, rasterOf, frameOf, canvasOf, Rated, Bounded, SameDrawing}
 use Rattle.agreement.proofs.Sizes.{allowed-none}
 
 -- ---- the extent of one stroke more
 
-columns-more : (ks : List Stroke) (k : Stroke) → columnsReached (ks ++ k ∷ []) ≡ max (columnsReached ks) (k .column + k .repeat)
-unfolding columnsReached
+columns-more : (ks : List Stroke) (k : Stroke) → columnsPainted (ks ++ k ∷ []) ≡ max (columnsPainted ks) (rightOf k)
+unfolding columnsPainted
 columns-more [] k = omega arith
 columns-more (j ∷ ks) k = let later = columns-more ks k in omega arith
 
-rows-more : (ks : List Stroke) (k : Stroke) → rowsReached (ks ++ k ∷ []) ≡ cond (eqb (k .bits) 0) (rowsReached ks) (max (rowsReached ks) (k .row + 6))
-unfolding rowsReached
-rows-more [] k = go (eqb (k .bits) 0)
-  where
-    go : (t : Bool) → max (cond t 1 (k .row + 6)) 1 ≡ cond t 1 (max 1 (k .row + 6))
-    go true = refl
-    go false = omega arith
-rows-more (j ∷ ks) k = ap (max here) (rows-more ks k) ∙ go (eqb (k .bits) 0)
-  where
-    here : ℕ
-    here = cond (eqb (j .bits) 0) 1 (j .row + 6)
-
-    go : (t : Bool)
-        → max here (cond t (rowsReached ks) (max (rowsReached ks) (k .row + 6)))
-        ≡ cond t (max here (rowsReached ks)) (max (max here (rowsReached ks)) (k .row + 6))
-    go true = refl
-    go false = omega arith
+rows-more : (ks : List Stroke) (k : Stroke) → rowsPainted (ks ++ k ∷ []) ≡ max (rowsPainted ks) (bottomOf k)
+unfolding rowsPainted
+rows-more [] k = omega arith
+rows-more (j ∷ ks) k = let later = rows-more ks k in omega arith
 
 -- ---- one stroke more
 
@@ -62,17 +49,14 @@ module _ {s : Setting} (bounded : Bounded s) (opening : List ℕ) {d : Drawing} 
 
   -- the extent is that of one stroke more
   stroke-extent : extentAfter (codeExtent d) (penOf (d .palette) (d .pen)) bits ≡ codeExtent (stroked d (strokeOf bits d))
-  unfolding extentAfter codeExtent penOf stroked strokeOf extentOf
+  unfolding extentAfter rightAfter bottomAfter paintedTo codeExtent penOf stroked strokeOf extentOf rightOf bottomOf
   stroke-extent = λ i. record { right = sym (columns-more (d .strokes) k) i; bottom = low i }
     where
       k : Stroke
       k = strokeOf bits d
 
-      low : cond (eqb bits 0) (rowsReached (d .strokes)) (max (rowsReached (d .strokes)) (min (d .pen .row) rowCeiling + 6))
-          ≡ rowsReached (d .strokes ++ k ∷ [])
-      low =
-          ap (λ (row : ℕ). cond (eqb bits 0) (rowsReached (d .strokes)) (max (rowsReached (d .strokes)) (row + 6))) row-known
-          ∙ sym (rows-more (d .strokes) k)
+      low : bottomAfter (rowsPainted (d .strokes)) bits (min (d .pen .row) rowCeiling) ≡ rowsPainted (d .strokes ++ k ∷ [])
+      low = ap (bottomAfter (rowsPainted (d .strokes)) bits) row-known ∙ sym (rows-more (d .strokes) k)
 
   -- the canvas shows the stroke on the grown area
   stroke-canvas : (c : Command) {w h : ℕ} → areaOf w h ≡ reach (d .area) (strokeOf bits d)
@@ -101,7 +85,7 @@ module _ {s : Setting} (bounded : Bounded s) (opening : List ℕ) {d : Drawing} 
       → h ≡ reach (d .area) (strokeOf bits d) .height
       → SameDrawing s opening (stroked d (strokeOf bits d)) (groundOf s (d .background)) (inked (frameOf d c) bits w h) (d .palette)
       (canvasAfter (frameOf d c) (groundOf s (d .background)) bits w h (canvasOf s d opening))
-  unfolding inked frameOf codeArea stroked strokeOf
+  unfolding inked passedTo frameOf codeArea stroked strokeOf
   stroke-same rated c p q =
       record {
         bounded = bounded;

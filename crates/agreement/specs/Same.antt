@@ -83,7 +83,7 @@ blankFrame p c =
     record {
       pen = record { column = 0; row = 0; repeat = 1; register = 0; color = registerOf p 0 };
       area = record { width = 1; height = 1 };
-      extent = record { right = 1; bottom = 1 };
+      extent = record { right = 0; bottom = 0 };
       raster = record { ratio = 0; width = 0; height = 0 };
       command = c;
     }

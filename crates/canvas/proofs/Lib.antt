@@ -1,5 +1,6 @@
 pub mod Bytes
 pub mod Covers
+pub mod Depth
 pub mod Grid
 pub mod Growth
 pub mod Strokes

@@ -36,6 +36,12 @@ span first last n = leb first n && ltb n last
 unfoldable pub bit : ℕ → ℕ → Bool
 bit bits k = eqb (bits / 2 ^ k % 2) 1
 
+-- rule 4.4: how far down so many bits go: one past the lowest row whose bit is 1, or 0 where none is
+unfoldable pub depth : ℕ → ℕ → ℕ
+unfolding bit
+depth zero bits = 0
+depth (suc k) bits = cond (bit bits k) (suc k) (depth k bits)
+
 -- the pixels of a sixel: the repeat's columns, and of the six rows those whose bit is 1, the lowest on top
 unfoldable pub inSixel : ℕ → ℕ → ℕ → ℕ → ℕ → ℕ → Bool
 inSixel column row repeat bits x y = span column (column + repeat) x && (span row (row + 6) y && bit bits (y - row))

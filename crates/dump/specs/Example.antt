@@ -13,7 +13,7 @@ use Rattle.dcs.specs.declared.Ending.the-variants as endings
 use Rattle.dump.specs.Dump.{countLine, pairLine, statusLine, sizeLine, extentLine, ratioLine, backgroundLine, inkLine, pixelText, furtherText, rowText, rowsText, pictureRows, pictureText}
 
 unfoldable pub report : Report
-report = record { width = 2; height = 6; right = 2; bottom = 6; ratio = ratios.LeftToP1 givens.Nothing; transparent = false }
+report = record { width = 2; height = 6; right = 2; bottom = 2; ratio = ratios.LeftToP1 givens.Nothing; transparent = false }
 
 -- a row of each colour, and what lies beside it
 unfoldable pub red : List ℕ
@@ -26,7 +26,7 @@ unfoldable pub canvas : List ℕ
 canvas = red ++ red ++ black ++ black ++ black ++ black
 
 pub sample : pictureText endings.Complete 20 4 report 3 canvas
-    ≡ words "complete 20\nsize 2 6\nextent 2 6\nratio p1 none\nbackground opaque\nink 4\n"
+    ≡ words "complete 20\nsize 2 6\nextent 2 2\nratio p1 none\nbackground opaque\nink 4\n"
     ++ words "FF0000FF FF0000FF\nFF0000FF FF0000FF\n"
     ++ words "000000FF 000000FF\n000000FF 000000FF\n000000FF 000000FF\n000000FF 000000FF\n"
 unfolding pictureText statusLine sizeLine extentLine ratioLine backgroundLine inkLine countLine pairLine

@@ -1,3 +1,4 @@
+pub mod ReachLaws
 pub mod RunSteps
 pub mod BlendLaws
 pub mod RowLaws

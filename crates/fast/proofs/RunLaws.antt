@@ -1,23 +1,22 @@
 -- Laws of a run: one for each path through a function of `run`, and that a run leads where its sixels lead one by one.
 use Prim.Native.Nat.{ℕ, zero, suc, _+_, _-_, _*_, _≤_, _<_}
-use mathlib.Core.Bool.{Bool, true, false, cond, true≢false}
-use mathlib.Core.List.{List, []}
+use mathlib.Core.Bool.{Bool, true, false, true≢false}
+use mathlib.Core.List.{List}
 use mathlib.Core.Path.{_≡_, refl, sym, ap, ap₂, _∙_, subst}
 use native.Mathlib.Nat.{add-zero, not-suc-le-zero}
 use native.Mathlib.Numerals.{add-one}
 use native.Mathlib.Omega.{arith}
-use borrow.Author.Tests.{eq-eqb, ne-eqb, le-leb}
+use borrow.Author.Tests.{le-leb}
 use lib.Count.{ones}
-use lib.Dec.{eqb}
 use lib.ListN.{length, getD}
 use Rattle.numbers.specs.Bytes.{sixel}
-use Rattle.numbers.proofs.Laws.{cond-yes, cond-no}
 use Rattle.colours.specs.declared.Palette.{Palette}
 use Rattle.canvas.specs.Picture.{areaOf, rowsOf}
 use Rattle.canvas.specs.Paint.{sixelPainted}
-use Rattle.canvas.proofs.Covers.{and-both, by-test, split}
+use Rattle.canvas.proofs.Covers.{and-both, split}
 use Rattle.canvas.proofs.Grid.{rows-room, rows-few}
 use Rattle.canvas.proofs.Pictures.{grown-none}
+use Rattle.frame.specs.declared.Extent.{Extent}
 use Rattle.frame.specs.declared.Frame.{Frame}
 use Rattle.frame.specs.declared.Ground.{Ground}
 use Rattle.frame.specs.declared.Kind.the-variants as kinds
@@ -26,14 +25,14 @@ use Rattle.frame.specs.declared.sizes.Needed.{Needed}
 use Rattle.frame.specs.declared.sizes.Needed.the-variants as needs
 use Rattle.frame.specs.Sizes.{sixelArea}
 use Rattle.frame.specs.Commands.{withRepeat}
-use Rattle.reference.specs.Step.{Fits, Holds, areaGrown, penAfter, extentAfter, inked}
+use Rattle.reference.specs.Step.{Fits, Holds, areaGrown, passedTo}
 use Rattle.fast.specs.Argument.{onwards}
 use Rattle.fast.specs.Advance.{advanceTo, afterAdvance, Advances}
-use Rattle.fast.specs.Run.{Sixels, planned, runInk, runPainted, runAdvance, runCanvas}
+use Rattle.fast.specs.Run.{Sixels, planned, runInk, runPainted, runExtent, ran, runAdvance, runCanvas}
 use Rattle.frame.proofs.SizeLaws.{sixel-visible, sixel-reach}
-use Rattle.reference.proofs.StepLaws.{needed-holds, held-room, sixel-room}
+use Rattle.reference.proofs.StepLaws.{needed-holds}
 use Rattle.reference.proofs.FeedLaws.{Going}
-use Rattle.fast.proofs.RunSteps.{ink-few, going-as, wide, high, ranFrame, ranCanvas, run-going}
+use Rattle.fast.proofs.RunSteps.{ink-few, going-as, ranFrame, ranCanvas, run-going}
 
 -- ---- a run that was painted
 
@@ -48,7 +47,7 @@ module _ (f : Frame) (g : Ground) (bytes : List ℕ) (i : ℕ) (l : List ℕ) (p
   run-after : (n w h : ℕ) → Sixels bytes i (i + n) → 1 ≤ n → sixelArea (withRepeat (f .pen) n) (f .area) g ≡ needs.Area w h
       → (allowance spent : ℕ) → spent + 6 * n ≤ allowance
       → Going g allowance bytes (onwards g allowance bytes i spent f p l) (length l) p (runCanvas (planned f n) g w h bytes i l)
-      (inked (planned f n) (runInk bytes i n) w h)
+      (ran (planned f n) w h bytes i)
       (i + n)
       (spent + runInk bytes i n)
   unfolding planned withRepeat runCanvas ranCanvas ranFrame areaGrown
@@ -57,14 +56,14 @@ module _ (f : Frame) (g : Ground) (bytes : List ℕ) (i : ℕ) (l : List ℕ) (p
       let reach = sixel-reach (withRepeat (f .pen) (suc n)) (f .area) g w h area in
       let here = going-here g allowance bytes p l f i spent (omega (arith, s .within)) (omega arith) fits in
       going-as (sym (ap₂ (λ (x y : ℕ). runCanvas (planned f (suc n)) g x y bytes i l) (reach .0) (reach .1)))
-      (sym (ap₂ (λ (x y : ℕ). inked (planned f (suc n)) (runInk bytes i (suc n)) x y) (reach .0) (reach .1)))
+      (sym (ap₂ (λ (x y : ℕ). ran (planned f (suc n)) x y bytes i) (reach .0) (reach .1)))
       refl
       refl
       (run-going here (suc n) none once s enough area n (omega arith))
 
   run-advances : (n w h left : ℕ) → Sixels bytes i (i + n) → 1 ≤ n → sixelArea (withRepeat (f .pen) n) (f .area) g ≡ needs.Area w h → 6 * n ≤ left
       → Advances g bytes i left f p l (runAdvance (planned f n) w h bytes i) p (runCanvas (planned f n) g w h bytes i l)
-  unfolding planned withRepeat runAdvance advanceTo afterAdvance inked
+  unfolding planned withRepeat runAdvance advanceTo afterAdvance ran passedTo
   run-advances n w h left s some area enough =
       record {
         onward = omega arith;
@@ -112,12 +111,6 @@ nothing-advances f g bytes i left p l fits within e =
     })
 
 -- ---- the paths through a run's functions
-
-pub mark-none : (ink : ℕ) → ink ≡ 0 → _≡_ {A = ℕ} 0 (cond (eqb ink 0) 0 1)
-mark-none ink e = sym (cond-yes _ _ (eq-eqb _ _ e))
-
-pub mark-some : (ink : ℕ) → (ink ≡ 0 → ⊥) → _≡_ {A = ℕ} 1 (cond (eqb ink 0) 0 1)
-mark-some ink n = sym (cond-no _ _ (ne-eqb _ _ n))
 
 pub sixels-none : (bytes : List ℕ) (i : ℕ) → i ≤ length bytes → Sixels bytes i (i + 0)
 sixels-none bytes i h = record { within = omega arith; each = λ k h₁ h₂. absurd (let z : k < k = omega arith in omega (arith, z)) }
@@ -170,21 +163,19 @@ ink-room stride column row room bytes i n count s more columns rows =
     let six : 6 ≤ rowsOf room stride = omega arith in
     omega (arith, ink-few bytes i n part, rows-room room stride 6 six)
 
--- the frame after a run, by its mark
-inked-mark : (f : Frame) (ink w h : ℕ) → inked f (cond (eqb ink 0) 0 1) w h ≡ inked f ink w h
-unfolding inked extentAfter
-inked-mark f ink w h = by-test (eqb ink 0) (λ t. rw t) (λ t. rw t)
-
-pub painted-as : {next : Frame} {r : Advance} {l₁ l₂ : List ℕ} {m ink : ℕ} (f : Frame) (g : Ground) (w h : ℕ) (bytes : List ℕ) (i : ℕ) (l : List ℕ)
+-- the frame after a run, by the extent that was found
+pub painted-as : {next : Frame} {r : Advance} {l₁ l₂ : List ℕ} {e : Extent} {ink : ℕ} (f : Frame) (g : Ground) (w h : ℕ) (bytes : List ℕ) (i : ℕ)
+    (l : List ℕ)
     → l₁ ≡ areaGrown f g w h l
     → (ink ≡ runInk bytes i (f .pen .repeat))
     × (l₂ ≡ runPainted (g .stride) (f .pen .column) (f .pen .row) (f .pen .color) bytes i (f .pen .repeat) l₁)
-    → m ≡ cond (eqb ink 0) 0 1 → next ≡ inked f m w h → r ≡ advanceTo next false (i + f .pen .repeat) ink
+    → e ≡ runExtent (f .extent) (f .pen .column) (f .pen .row) bytes i (f .pen .repeat)
+    → next ≡ passedTo f (record { right = e .right; bottom = e .bottom }) w h → r ≡ advanceTo next false (i + f .pen .repeat) ink
     → (r ≡ runAdvance f w h bytes i) × (l₂ ≡ runCanvas f g w h bytes i l)
-unfolding runAdvance runCanvas
-painted-as {ink = ink} f g w h bytes i l e₁ e₂ e₃ e₄ e₅ =
-    let after = e₄ ∙ ap (λ (x : ℕ). inked f x w h) e₃ ∙ inked-mark f ink w h ∙ ap (λ (x : ℕ). inked f x w h) (e₂ .0) in (
-      e₅ ∙ ap₂ (λ (x : Frame) (y : ℕ). advanceTo x false (i + f .pen .repeat) y) after (e₂ .0),
+unfolding runAdvance ran runCanvas
+painted-as f g w h bytes i l e₁ e₂ x e₃ e₄ =
+    let after = e₃ ∙ ap (λ (y : Extent). passedTo f y w h) x in (
+      e₄ ∙ ap₂ (λ (y : Frame) (z : ℕ). advanceTo y false (i + f .pen .repeat) z) after (e₂ .0),
       e₂ .1 ∙ ap (runPainted (g .stride) (f .pen .column) (f .pen .row) (f .pen .color) bytes i (f .pen .repeat)) e₁,
     )
 
@@ -195,30 +186,36 @@ pub still-grown : (f : Frame) (g : Ground) (l : List ℕ) → areaGrown f g (f .
 unfolding areaGrown
 still-grown f g l = grown-none (g .stride) (areaOf (f .area .width) (f .area .height)) (g .background) l
 
-pub visible-advances : {whole next : Frame} {l l′ : List ℕ} {r : Advance} {m ink : ℕ} (f : Frame) (g : Ground) (bytes : List ℕ) (i n : ℕ)
+pub visible-advances : {whole next : Frame} {l l′ : List ℕ} {r : Advance} {e : Extent} {ink : ℕ} (f : Frame) (g : Ground) (bytes : List ℕ) (i n : ℕ)
     → Fits f g (length l) → f .command .kind ≡ kinds.Data → f .pen .repeat ≡ 1 → Sixels bytes i (i + n) → 1 ≤ n
     → f .pen .column + n ≤ f .area .width → f .pen .row + 6 ≤ f .area .height → ink ≡ runInk bytes i n
-    → l′ ≡ runPainted (g .stride) (f .pen .column) (f .pen .row) (f .pen .color) bytes i n l → whole ≡ planned f n → m ≡ cond (eqb ink 0) 0 1
-    → next ≡ inked whole m (f .area .width) (f .area .height) → r ≡ advanceTo next false (i + n) ink
+    → l′ ≡ runPainted (g .stride) (f .pen .column) (f .pen .row) (f .pen .color) bytes i n l
+    → e ≡ runExtent (whole .extent) (whole .pen .column) (whole .pen .row) bytes i (whole .pen .repeat)
+    → whole ≡ planned f n → next ≡ passedTo whole (record { right = e .right; bottom = e .bottom }) (f .area .width) (f .area .height)
+    → r ≡ advanceTo next false (i + n) ink
     → (p : Palette) (left : ℕ) → 6 * n ≤ left → Advances g bytes i left f p l r p l′
 unfolding planned withRepeat
-visible-advances {l = l} {m = m} f g bytes i n fits none once s some columns rows e₁ e₂ plan e₃ e₄ e₅ =
+visible-advances {l = l} {e = e} f g bytes i n fits none once s some columns rows e₁ e₂ x plan e₃ e₄ =
     let w : ℕ = f .area .width in
     let h : ℕ = f .area .height in
     let area : needs.Area w h ≡ sixelArea (planned f n .pen) (planned f n .area) g =
     sixel-visible (planned f n .pen) (f .area) g (sym (and-both (le-leb _ _ columns) (le-leb _ _ rows))) refl
     in
     painted-advances f g bytes i n w h refl fits none once s some area refl
-    (painted-as (planned f n) g w h bytes i l (sym (still-grown (planned f n) g l)) (e₁, e₂) e₃ (e₄ ∙ ap (λ (x : Frame). inked x m w h) plan) e₅)
+    (painted-as (planned f n) g w h bytes i l (sym (still-grown (planned f n) g l)) (e₁, e₂)
+    (x ∙ ap (λ (z : Frame). runExtent (z .extent) (z .pen .column) (z .pen .row) bytes i (z .pen .repeat)) plan)
+    (e₃ ∙ ap (λ (z : Frame). passedTo z (record { right = e .right; bottom = e .bottom }) w h) plan) e₄)
 
--- it ends below what a number can hold
-pub visible-room : {whole : Frame} (f : Frame) (g : Ground) (n room : ℕ) → whole ≡ planned f n → Fits f g room → room < 18446744073709551616
+-- it ends below what a number can hold, by the frame and by the one that is planned
+pub visible-room : (f : Frame) (g : Ground) (n room : ℕ) → Fits f g room → room < 18446744073709551616
     → f .pen .column + n ≤ f .area .width → f .pen .row + 6 ≤ f .area .height
-    → (whole .pen .column + whole .pen .repeat < 18446744073709551616) × (whole .pen .row + 6 < 18446744073709551616)
-unfolding planned withRepeat
-visible-room f g n room plan fits small columns rows =
+    → (f .pen .column + n < 18446744073709551616) × (f .pen .row + 6 < 18446744073709551616)
+visible-room f g n room fits small columns rows =
     let one : 1 ≤ rowsOf room (g .stride) = omega (arith, fits .rows, fits .height) in
-    rw plan
     (omega (arith, fits .width, rows-room room (g .stride) 1 one), omega (arith, fits .rows, fits .height, rows-few room (g .stride)))
 
-pub ruleset marks = (mark-none, mark-some)
+pub planned-run : {whole : Frame} (f : Frame) (bytes : List ℕ) (i n most : ℕ) → whole ≡ planned f n → Sixels bytes i (i + n)
+    → (f .pen .column + n < most) × (f .pen .row + 6 < most)
+    → Sixels bytes i (i + whole .pen .repeat) × (whole .pen .column + whole .pen .repeat < most) × (whole .pen .row + 6 < most)
+unfolding planned withRepeat
+planned-run f bytes i n most plan s room = rw plan (s, room .0, room .1)

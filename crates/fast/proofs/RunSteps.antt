@@ -1,20 +1,17 @@
 -- Laws of a run: so many sixels side by side, painted on an area that was grown at once, come to as many steps of the reference machine.
-use Prim.Native.Nat.{ℕ, zero, suc, _+_, _-_, _*_, _/_, _^_, _≤_, _<_, max}
-use mathlib.Core.Bool.{true, false, cond}
+use Prim.Native.Nat.{ℕ, zero, suc, _+_, _-_, _*_, _≤_, _<_, max}
+use mathlib.Core.Bool.{true}
 use mathlib.Core.List.{List}
 use mathlib.Core.Path.{_≡_, refl, sym, ap, ap₂, _∙_, subst}
-use native.Mathlib.Nat.{add-zero, pow-suc}
+use native.Mathlib.Nat.{add-zero}
 use native.Mathlib.Omega.{arith}
-use borrow.Author.Tests.{eq-eqb, ne-eqb, eqb-true, eqb-false, leb-true}
-use lib.Count.{ones, ones-step, ones-le}
-use lib.Dec.{leb, eqb}
+use lib.Count.{ones, ones-le}
 use lib.ListN.{length, getD}
-use Rattle.numbers.specs.Bytes.{sixel, between}
+use Rattle.numbers.specs.Bytes.{sixel}
 use Rattle.colours.specs.declared.Palette.{Palette}
 use Rattle.canvas.specs.Picture.{Stroke, Area, areaOf, inside}
 use Rattle.canvas.specs.Paint.{grown, sixelPainted}
 use Rattle.canvas.proofs.Bytes.{length-painted}
-use Rattle.canvas.proofs.Covers.{and-left, and-right, by-test}
 use Rattle.canvas.proofs.Pictures.{grown-stroked, grown-twice}
 use Rattle.canvas.proofs.Shows.{sixel-stroked}
 use Rattle.canvas.proofs.Strokes.{Within, inside-in}
@@ -24,23 +21,14 @@ use Rattle.frame.specs.declared.Kind.the-variants as kinds
 use Rattle.frame.specs.declared.sizes.Needed.the-variants as needs
 use Rattle.frame.specs.Sizes.{sixelArea}
 use Rattle.frame.specs.Commands.{withRepeat}
-use Rattle.reference.specs.Step.{Reached, readAs, areaGrown, penAfter, extentAfter, inked, canvasAfter}
-use Rattle.fast.specs.Run.{Sixels, planned, runInk, runPainted}
+use Rattle.reference.specs.Step.{Reached, readAs, areaGrown, penAfter, extentAfter, passedTo, inked, canvasAfter}
+use Rattle.fast.specs.Run.{Sixels, planned, runInk, runPainted, runRight, runBottom, runExtent, ran}
 use Rattle.frame.proofs.SizeLaws.{sixel-reach, sixel-part}
-use Rattle.reference.proofs.StepLaws.{painted-read, drawn-area, data-sixel, step-data}
+use Rattle.reference.proofs.StepLaws.{sixel-bits, painted-read, drawn-area, data-sixel, step-data}
 use Rattle.reference.proofs.FeedLaws.{Going, going-read}
+use Rattle.fast.proofs.ReachLaws.{sixels-fewer}
 
 -- ---- the ink of sixels
-
-no-ones : (k n : ℕ) → n < 2 ^ k → ones n ≡ 0 → n ≡ 0
-no-ones zero n h e = omega arith
-no-ones (suc k) n h e =
-    let half : n / 2 < 2 ^ k = omega (arith, pow-suc 2 k) in
-    omega (arith, no-ones k (n / 2) half (omega (arith, ones-step n)), ones-step n)
-
-pub sixel-bits : (b : ℕ) → sixel b ≡ true → b - 63 < 64
-unfolding sixel between
-sixel-bits b t = omega (arith, leb-true 63 b (and-left (leb 63 b) (leb b 126) t), leb-true b 126 (and-right (leb 63 b) (leb b 126) t))
 
 pub sixel-ones : (b : ℕ) → sixel b ≡ true → ones (b - 63) ≤ 6
 sixel-ones b t = ones-le 6 (b - 63) (sixel-bits b t)
@@ -49,23 +37,7 @@ pub ink-few : (bytes : List ℕ) (i n : ℕ) → Sixels bytes i (i + n) → runI
 unfolding runInk
 ink-few bytes i zero s = omega arith
 ink-few bytes i (suc n) s =
-    let before : Sixels bytes i (i + n) = record { within = omega (arith, s .within); each = λ k h₁ h₂. s .each k h₁ (omega arith) } in
-    omega (arith, ink-few bytes i n before, sixel-ones (getD bytes (i + n) 0) (s .each (i + n) (omega arith) (omega arith)))
-
--- the bottom of some ink and then a sixel
-bottom-more : (b y ink bits : ℕ) → bits < 64
-    → cond (eqb bits 0) (cond (eqb ink 0) b (max b y)) (max (cond (eqb ink 0) b (max b y)) y) ≡ cond (eqb (ink + ones bits) 0) b (max b y)
-unfolding ones
-bottom-more b y ink bits small =
-    by-test (eqb ink 0)
-    (λ t. by-test (eqb bits 0)
-    (λ u. let z : ones bits ≡ 0 = ap ones (eqb-true bits 0 u) in
-    rw (t, u, eq-eqb (ink + ones bits) 0 (omega (arith, eqb-true ink 0 t))))
-    (λ u. rw (t, u, ne-eqb (ink + ones bits) 0 (λ e. eqb-false bits 0 u (no-ones 6 bits small (omega arith))))))
-    (λ t. let some : eqb (ink + ones bits) 0 ≡ false = ne-eqb (ink + ones bits) 0 (λ e. eqb-false ink 0 t (omega arith)) in
-    by-test (eqb bits 0)
-    (λ u. rw (t, u, some))
-    (λ u. rw (t, u, some) (omega arith)))
+    omega (arith, ink-few bytes i n (sixels-fewer bytes i n s), sixel-ones (getD bytes (i + n) 0) (s .each (i + n) (omega arith) (omega arith)))
 
 -- ---- one step
 
@@ -124,8 +96,8 @@ abbrev pub high : Frame → ℕ
 high f = max (f .area .height) (f .pen .row + 6)
 
 unfoldable pub ranFrame : Frame → List ℕ → ℕ → ℕ → Frame
-unfolding inked planned
-ranFrame f bytes i n = inked (planned f n) (runInk bytes i n) (wide f n) (high f)
+unfolding ran planned
+ranFrame f bytes i n = ran (planned f n) (wide f n) (high f) bytes i
 
 unfoldable pub ranCanvas : Frame → Ground → List ℕ → ℕ → ℕ → List ℕ → List ℕ
 ranCanvas f g bytes i n l =
@@ -151,21 +123,17 @@ frame-same : (f : Frame) {c c′ w w′ h h′ r r′ b b′ : ℕ} → c ≡ c�
 frame-same f e₁ e₂ e₃ e₄ e₅ = rw (e₁, e₂, e₃, e₄, e₅)
 
 -- the first sixel, and one sixel more
-first-frame : (f : Frame) (bytes : List ℕ) (i : ℕ) → f .pen .repeat ≡ 1 → sixel (getD bytes i 0) ≡ true
+first-frame : (f : Frame) (bytes : List ℕ) (i : ℕ) → f .pen .repeat ≡ 1
     → inked f (getD bytes i 0 - 63) (max (f .area .width) (f .pen .column + f .pen .repeat)) (high f) ≡ ranFrame f bytes i 1
-unfolding ranFrame inked planned withRepeat penAfter extentAfter runInk
-first-frame f bytes i once six =
-    let here : getD bytes (i + 0) 0 ≡ getD bytes i 0 = ap (λ (k : ℕ). getD bytes k 0) (add-zero i) in
-    frame-same f (rw once) (rw once) refl (rw once)
-    (bottom-more (f .extent .bottom) (f .pen .row + 6) 0 (getD bytes i 0 - 63) (sixel-bits (getD bytes i 0) six) ∙ rw here)
+unfolding ranFrame ran inked passedTo planned withRepeat penAfter extentAfter runExtent runRight runBottom
+first-frame f bytes i once =
+    frame-same f (rw once) (rw once) refl (rw (once, add-zero i, add-zero (f .pen .column))) (rw (add-zero i))
 
-next-frame : (f : Frame) (bytes : List ℕ) (i n : ℕ) → sixel (getD bytes (i + n) 0) ≡ true
+next-frame : (f : Frame) (bytes : List ℕ) (i n : ℕ)
     → inked (ranFrame f bytes i n) (getD bytes (i + n) 0 - 63) (max (wide f n) (f .pen .column + n + 1)) (max (high f) (f .pen .row + 6))
     ≡ ranFrame f bytes i (suc n)
-unfolding ranFrame inked planned withRepeat penAfter extentAfter runInk
-next-frame f bytes i n six =
-    frame-same f (omega arith) (omega arith) (omega arith) (omega arith)
-    (bottom-more (f .extent .bottom) (f .pen .row + 6) (runInk bytes i n) (getD bytes (i + n) 0 - 63) (sixel-bits (getD bytes (i + n) 0) six))
+unfolding ranFrame ran inked passedTo planned withRepeat penAfter extentAfter runExtent runRight runBottom
+next-frame f bytes i n = frame-same f (omega arith) (omega arith) (omega arith) refl refl
 
 first-canvas : (f : Frame) (g : Ground) (bytes : List ℕ) (i : ℕ) (l : List ℕ) → f .pen .repeat ≡ 1
     → canvasAfter f g (getD bytes i 0 - 63) (max (f .area .width) (f .pen .column + f .pen .repeat)) (high f) l ≡ ranCanvas f g bytes i 1 l
@@ -176,7 +144,7 @@ next-canvas : (f : Frame) (g : Ground) (bytes : List ℕ) (i n : ℕ) (l : List 
     → canvasAfter (ranFrame f bytes i n) g (getD bytes (i + n) 0 - 63) (max (wide f n) (f .pen .column + n + 1)) (max (high f) (f .pen .row + 6))
     (ranCanvas f g bytes i n l)
     ≡ ranCanvas f g bytes i (suc n) l
-unfolding canvasAfter areaGrown ranCanvas runPainted ranFrame inked planned withRepeat penAfter extentAfter
+unfolding canvasAfter areaGrown ranCanvas runPainted ranFrame ran passedTo planned withRepeat penAfter
 next-canvas f g bytes i n l =
     let old : Area = areaOf (f .area .width) (f .area .height) in
     let mid : Area = areaOf (wide f n) (high f) in
@@ -196,11 +164,11 @@ module _ {g : Ground} {allowance : ℕ} {bytes : List ℕ} {whole : Reached} {ro
     (area : sixelArea (withRepeat (f .pen) all) (f .area) g ≡ needs.Area w h) where
   pub run-going : (n : ℕ) → n < all
       → Going g allowance bytes whole room p (ranCanvas f g bytes i (suc n) l) (ranFrame f bytes i (suc n)) (i + suc n) (spent + runInk bytes i (suc n))
-  unfolding ranFrame inked planned withRepeat penAfter extentAfter runInk
+  unfolding ranFrame ran passedTo planned withRepeat penAfter runInk
   run-going zero more =
       let six : sixel (getD bytes i 0) ≡ true = sixels .each i (omega arith) (omega arith) in
       let r = sixel-reach (withRepeat (f .pen) all) (f .area) g w h area in
-      going-as (first-canvas f g bytes i l once) (first-frame f bytes i once six) refl (rw (once, add-zero i) (omega arith))
+      going-as (first-canvas f g bytes i l once) (first-frame f bytes i once) refl (rw (once, add-zero i) (omega arith))
       (going-sixel _ _ going none once (omega (arith, sixels .within)) six
       (sixel-part (withRepeat (f .pen) all) (f .pen) (f .area) (f .area) g w h area refl (omega arith) (omega arith) (omega (arith, r .0))
       (omega arith)
@@ -213,7 +181,7 @@ module _ {g : Ground} {allowance : ℕ} {bytes : List ℕ} {whole : Reached} {ro
       let r = sixel-reach (withRepeat (f .pen) all) (f .area) g w h area in
       let x : wide f (suc n) ≤ w = omega (arith, r .0) in
       let y : high f ≤ h = omega (arith, r .1) in
-      going-as (next-canvas f g bytes i (suc n) l) (next-frame f bytes i (suc n) six) (omega arith) (omega arith)
+      going-as (next-canvas f g bytes i (suc n) l) (next-frame f bytes i (suc n)) (omega arith) (omega arith)
       (going-sixel _ _ before none refl (omega (arith, sixels .within)) six
       (sixel-part (withRepeat (f .pen) all) (ranFrame f bytes i (suc n) .pen) (f .area) (ranFrame f bytes i (suc n) .area) g w h area refl (omega arith)
       (omega arith)

@@ -1,6 +1,7 @@
 // The fast machine: some bytes at once, while no command is pending. A run of sixels, a repeat with its sixel, a colour with the whole of
 // its argument, `$` or `-`. What the reference machine refuses, stops for or leaves unread is left to it.
 mod argument;
+mod reach;
 mod rows;
 mod run;
 

@@ -18,13 +18,14 @@ ghost use Rattle.fast.specs.Run.{Sixels, planned, runInk, runPainted, ru
 use crate::Advance;
 use crate::advance_to;
 use crate::nothing;
+use crate::reach::extent_after;
 use frame::Frame;
 use frame::Ground;
 use frame::sizes::Needed;
 use frame::sizes::reaches;
 use frame::sizes::sixel_area;
-use reference::after_sixel;
 use reference::grow;
+use reference::passed;
 
 // The most sixels of a run. One that is refused whole is counted again at each byte, so that it must not be long.
 const LONGEST: usize = 256;
@@ -198,16 +199,6 @@ fn blend_sixels(
     Stretch { count, ink }
 }
 
-// 0 where there is no ink.
-fn mark(ink: usize) -> u8
-    ensures { λ r. ⌜ r ≡ cond (eqb ink 0) 0 1 ⌝ }
-{
-    if ink == 0 {
-        return 0;
-    }
-    1
-}
-
 // Paints the area that a run grows, and the run.
 fn paint_run(
     frame: Frame,
@@ -236,8 +227,9 @@ fn paint_run(
         from,
         count,
     );
+    let reached = extent_after(frame, bytes, from);
     advance_to(
-        after_sixel(frame, mark(ink), width, height),
+        passed(frame, reached.right, reached.bottom, width, height),
         false,
         from + count,
         ink,
@@ -320,10 +312,12 @@ fn read_visible(
         most,
     );
     let whole = as_repeated(frame, painted.count);
+    let reached = extent_after(whole, bytes, from);
     advance_to(
-        after_sixel(
+        passed(
             whole,
-            mark(painted.ink),
+            reached.right,
+            reached.bottom,
             frame.area.width,
             frame.area.height,
         ),

@@ -143,10 +143,25 @@ inside-reach a k = inside-of (record { columns = omega arith; bottom = omega ari
 
 -- ---- what holds of a drawing
 
--- its area fits, every stroke lies inside the area, and a sixel is drawn at least once
+-- a fact of each stroke
+abbrev pub Each : (Stroke → Type 0) → List Stroke → Type 0
+Each P [] = Unit {0}
+Each P (k ∷ ks) = P k × Each P ks
+
+-- one stroke more
+pub each-append : (P : Stroke → Type 0) (ks : List Stroke) (k : Stroke) → Each P ks → P k → Each P (ks ++ (k ∷ []))
+each-append P [] k h q = (q, tt)
+each-append P (j ∷ ks) k h q = (h .0, each-append P ks k (h .1) q)
+
+-- each takes a column at least
+abbrev pub AllOnce : List Stroke → Type 0
+AllOnce = Each (λ k. 1 ≤ k .repeat)
+
+-- its area fits, every stroke lies inside the area and takes a column at least, and so will the next
 pub record Sound (s : Setting) (d : Drawing) : Type 0 where
   pub fits : Fits s (d .area)
   pub strokes : allInside (d .area) (d .strokes) ≡ true
+  pub once : AllOnce (d .strokes)
   pub repeats : 1 ≤ d .pen .repeats
 
 -- what commands make of a drawing: the area never shrinks, strokes are only appended, the background stays, and a sound drawing stays sound
@@ -185,7 +200,13 @@ same-follows {s} {d} {e} a k b r =
       added = [];
       appended = k ∙ sym (append-nil _);
       background = b;
-      sound = λ h. record { fits = rw a (h .fits); strokes = rw (a, k) (h .strokes); repeats = r (h .repeats) };
+      sound = λ h.
+          record {
+            fits = rw a (h .fits);
+            strokes = rw (a, k) (h .strokes);
+            once = subst AllOnce (sym k) (h .once);
+            repeats = r (h .repeats);
+          };
     }
 
 -- ---- what each command does
@@ -194,6 +215,11 @@ same-follows {s} {d} {e} a k b r =
 abbrev pub Gives : (Drawing → Type 0) → Drawn → Type 0
 Gives P (drawn e) = P e
 Gives P (refused n) = (4 ≤ n) × (n ≤ 7)
+
+-- a fact that follows from another
+pub gives-map : {P Q : Drawing → Type 0} → ((e : Drawing) → P e → Q e) → (x : Drawn) → Gives P x → Gives Q x
+gives-map f (drawn e) h = f e h
+gives-map f (refused n) h = h
 
 -- the drawing that was given
 pub given : (P : Drawing → Type 0) {x : Drawn} {e : Drawing} → Gives P x → x ≡ drawn e → P e
@@ -216,7 +242,12 @@ stretched-follows s r d =
       appended = sym (append-nil _);
       background = refl;
       sound = λ q.
-          record { fits = grown-fits (q .fits) allowed; strokes = all-grown (d .area) w h (d .strokes) (q .strokes); repeats = q .repeats };
+          record {
+            fits = grown-fits (q .fits) allowed;
+            strokes = all-grown (d .area) w h (d .strokes) (q .strokes);
+            once = q .once;
+            repeats = q .repeats;
+          };
     }
   where
     w : ℕ
@@ -233,10 +264,10 @@ rastered-follows s r d =
     (λ _. stretched-follows s r d)
 
 -- a stroke more, where its size is allowed
-stroked-follows : (s : Setting) (d : Drawing) (k : Stroke) → Allowed s (d .area) (k .column + k .repeat) (k .row + 6)
-    → Follows s d (stroked d k)
+stroked-follows : (s : Setting) (d : Drawing) (k : Stroke) → k .repeat ≡ d .pen .repeats
+    → Allowed s (d .area) (k .column + k .repeat) (k .row + 6) → Follows s d (stroked d k)
 unfolding stroked reach grownTo withRepeats
-stroked-follows s d k allowed =
+stroked-follows s d k same allowed =
     record {
       wider = omega arith;
       taller = omega arith;
@@ -249,6 +280,7 @@ stroked-follows s d k allowed =
             strokes = all-append (reach (d .area) k) (d .strokes) k
                 (all-grown (d .area) (k .column + k .repeat) (k .row + 6) (d .strokes) (q .strokes))
                 (inside-reach (d .area) k);
+            once = each-append (λ j. 1 ≤ j .repeat) (d .strokes) k (q .once) (omega (arith, q .repeats));
             repeats = le-refl 1;
           };
     }
@@ -256,7 +288,7 @@ stroked-follows s d k allowed =
 sixelled-follows : (s : Setting) (bits : ℕ) (d : Drawing) → Gives (Follows s d) (sixelled s bits d)
 unfolding sixelled strokeOf
 sixelled-follows s bits d =
-    unless-case (Gives (Follows s d)) s (d .area) _ _ _ (λ n low high. (low, high)) (stroked-follows s d (strokeOf bits d))
+    unless-case (Gives (Follows s d)) s (d .area) _ _ _ (λ n low high. (low, high)) (stroked-follows s d (strokeOf bits d) refl)
 
 repeated-follows : (s : Setting) (n : ℕ) (d : Drawing) → Gives (Follows s d) (repeated s n d)
 unfolding repeated withPen withRepeats
@@ -311,6 +343,24 @@ drawAll-numbers s (c ∷ cs) d = go (drawCommand s (c .command) d) (command-foll
     go (drawn e) p later = later e
     go (refused n) p later = p
 
+-- a fact of each of some commands
+abbrev pub AllOf : (Command → Type 0) → List Placed → Type 0
+AllOf P [] = Unit {0}
+AllOf P (c ∷ cs) = P (c .command) × AllOf P cs
+
+-- what such commands keep one by one, they keep in their order, refused or not
+pub drawAll-keeps : (Q : Command → Type 0) (P : Drawing → Type 0) (s : Setting)
+    → ((c : Command) (d : Drawing) → Q c → P d → Gives P (drawCommand s c d)) → (cs : List Placed) (d : Drawing) → AllOf Q cs → P d
+    → P (drawAll s cs d .drawing)
+unfolding drawAll andThen
+drawAll-keeps Q P s keep [] d q h = h
+drawAll-keeps Q P s keep (c ∷ cs) d q h =
+    go (drawCommand s (c .command) d) (keep (c .command) d (q .0) h) (λ e. drawAll-keeps Q P s keep cs e (q .1))
+  where
+    go : (x : Drawn) → Gives P x → ((e : Drawing) → P e → P (drawAll s cs e .drawing)) → P (andThen d x (drawAll s cs) .drawing)
+    go (drawn e) g later = later e g
+    go (refused n) g later = h
+
 -- ---- commands that draw nothing
 
 -- every command but a sixel
@@ -322,8 +372,7 @@ Quiet (draw bits) = ⊥
 
 -- no sixel is among some commands
 abbrev pub AllQuiet : List Placed → Type 0
-AllQuiet [] = Unit {0}
-AllQuiet (c ∷ cs) = Quiet (c .command) × AllQuiet cs
+AllQuiet = AllOf Quiet
 
 -- the strokes are those of a drawing
 abbrev pub StrokesOf : Drawing → Drawing → Type 0

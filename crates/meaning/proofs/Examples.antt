@@ -7,12 +7,12 @@ use mathlib.Core.List.{List, [], _∷_, _++_, map}
 use Rattle.meaning.specs.Payload.{byRaster, leftToP1}
 use Rattle.meaning.specs.Sessions.{complete, cancelled, interrupted}
 use Rattle.meaning.specs.Calls.{needsMore, stoppedForInk, ended, told, refused}
-use Rattle.meaning.proofs.Trials.{Row, limited, onCanvas, row, under, partly, dcs, once, size, extent, ink, shows, ratio, transparent, opaque, refusal, ends, goesOn, leaves, rowsHold, Calls, houseCalls, calls, feeding, finishing, fed, sized, declined, heard, computed}
+use Rattle.meaning.proofs.Trials.{Row, limited, onCanvas, row, under, partly, dcs, once, size, extent, upTo, ink, shows, ratio, transparent, opaque, refusal, ends, goesOn, leaves, rowsHold, Calls, houseCalls, calls, feeding, finishing, fed, sized, declined, heard, computed}
 
 -- the bench examples, and the program's
 bench : List Row
 bench =
-    row "" (size 1 1 ∷ [])
+    row "" (size 1 1 ∷ extent 0 0 ∷ [])
     ∷ row "~-?" (size 1 12 ∷ ink 6 ∷ [])
     ∷ row "!5#1~" (size 5 6 ∷ shows 0 0 0x3333CCFF ∷ shows 4 5 0x3333CCFF ∷ ink 30 ∷ [])
     ∷ row "!0~" (size 1 6 ∷ [])
@@ -36,7 +36,7 @@ bench =
     (ends complete
     ∷ leaves ""
     ∷ size 2 6
-    ∷ extent 2 6
+    ∷ extent 2 2
     ∷ ratio (leftToP1 none)
     ∷ opaque
     ∷ ink 4
@@ -71,10 +71,33 @@ commands =
     ∷ row "!1\u{7f}\u{19}2~" (size 12 6 ∷ [])
     ∷ row "~~$~" (size 2 6 ∷ ink 18 ∷ [])
     ∷ row "~~-~" (size 2 12 ∷ extent 2 12 ∷ [])
-    ∷ row "!7?" (size 7 6 ∷ extent 7 1 ∷ ink 0 ∷ [])
+    ∷ row "!7?" (size 7 6 ∷ extent 0 0 ∷ ink 0 ∷ [])
     ∷ row "#1`" (shows 0 0 0x3333CCFF ∷ shows 0 1 0x000000FF ∷ shows 0 5 0x3333CCFF ∷ ink 2 ∷ [])
     ∷ row "~\u{18}~" (size 1 6 ∷ leaves "\u{18}~" ∷ [])
     ∷ row "!3\u{9f}~" (size 1 1 ∷ leaves "\u{9f}~" ∷ [])
+    ∷ []
+
+-- the extent: blank sixels do not count, and of a band only the rows down to the lowest that is painted; a refused sixel does not, and one
+-- in the background's colour does, also where another is covered by it
+extents : List Row
+extents =
+    row "@!40?" (size 41 6 ∷ extent 1 1 ∷ [])
+    ∷ row "!40?@" (size 41 6 ∷ extent 41 1 ∷ [])
+    ∷ row "_" (size 1 6 ∷ extent 1 6 ∷ ink 1 ∷ [])
+    ∷ row "C" (extent 1 3 ∷ ink 1 ∷ [])
+    ∷ row "D" (extent 1 3 ∷ ink 2 ∷ [])
+    ∷ row "!3@" (size 3 6 ∷ extent 3 1 ∷ ink 3 ∷ [])
+    ∷ row "!3@-A" (size 3 12 ∷ extent 3 8 ∷ [])
+    ∷ row "-@" (size 1 12 ∷ extent 1 7 ∷ [])
+    ∷ row "_$@" (extent 1 6 ∷ [])
+    ∷ row "#0~" (extent 1 6 ∷ shows 0 5 0x000000FF ∷ ink 6 ∷ [])
+    ∷ row "#1!3~$#0!3~" (extent 3 6 ∷ shows 2 5 0x000000FF ∷ ink 36 ∷ [])
+    ∷ row "@\"1;1;9;9" (size 9 9 ∷ extent 1 1 ∷ [])
+    ∷ under (limited 8 768 1024 786432) "@!9~" (refusal 5 ∷ upTo 1 1 ∷ [])
+    ∷ under (limited 8 768 1024 786432) "!9~" (refusal 5 ∷ upTo 0 0 ∷ [])
+    ∷ partly "A!5" (extent 1 2 ∷ [])
+    ∷ once "A" (extent 1 2 ∷ [])
+    ∷ dcs "\u{90}q???\u{9c}" (size 3 6 ∷ extent 0 0 ∷ ink 0 ∷ [])
     ∷ []
 
 -- registers, and numbers that saturate
@@ -100,7 +123,7 @@ rasters =
     ∷ row "\"3;2" (ratio (leftToP1 none) ∷ [])
     ∷ row "\"3;1\"7" (ratio (byRaster 3) ∷ [])
     ∷ row "\"4294967294;2147483647" (ratio (byRaster 1) ∷ [])
-    ∷ row "\"1;1;3;4" (size 3 4 ∷ extent 1 1 ∷ shows 2 3 0x000000FF ∷ [])
+    ∷ row "\"1;1;3;4" (size 3 4 ∷ extent 0 0 ∷ shows 2 3 0x000000FF ∷ [])
     ∷ row "\"1;1;3\"1;1;0;4" (size 3 4 ∷ [])
     ∷ row "\"1;1;3;4~" (size 3 6 ∷ [])
     ∷ under (limited 8 12 1024 48) "\"1;1;8;12" (refusal 6 ∷ [])
@@ -181,8 +204,8 @@ shots =
 
 -- rules 12.1, 12.2: all of them
 pub table : List Row
-unfolding bench slips commands colours rasters pending sequences shots
-table = bench ++ (slips ++ (commands ++ (colours ++ (rasters ++ (pending ++ (sequences ++ shots))))))
+unfolding bench slips commands extents colours rasters pending sequences shots
+table = bench ++ (slips ++ (commands ++ (extents ++ (colours ++ (rasters ++ (pending ++ (sequences ++ shots)))))))
 
 -- the bench examples and all the others are read as their rows say
 pub table-holds : rowsHold table ≡ true

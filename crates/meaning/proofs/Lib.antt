@@ -16,6 +16,7 @@ pub mod KeptLaws
 pub mod SizeHistories
 pub mod AreaLaws
 pub mod SixelLaws
+pub mod ExtentLaws
 pub mod InkLaws
 pub mod PayloadLaws
 pub mod WholeLaws

@@ -13,11 +13,11 @@ use lib.ListN.{length, drop}
 use lib.Seq.{drop-append-seam}
 use Rattle.numbers.specs.Bytes.{skipped, digit, sixel, ends, semicolon, bang, quote, hash, dollar, dash}
 use Rattle.canvas.specs.Picture.{Stroke}
-use Rattle.meaning.specs.Commands.{Kind, repeat, colour, raster, Command, return, line, draw, Placed, Begun, lengthens, taken, Scanned, closed, does, own, scanByte}
+use Rattle.meaning.specs.Commands.{Kind, repeat, colour, raster, Command, argued, return, line, draw, Placed, Begun, lengthens, taken, Scanned, closed, does, own, scanByte}
 use Rattle.meaning.specs.Drawing.{Setting, Drawing, strokeOf, stroked, sixelled, drawCommand, Outcome, andThen, drawAll, inkOf, inkOfAll, strokesSince}
 use Rattle.meaning.specs.Reader.{Step}
 use Rattle.meaning.specs.Sessions.{Reading, settled, endedAt, wentOn, readByte}
-use Rattle.meaning.proofs.AreaLaws.{both, cond-case, option-case, drawOn, drawAll-append, unless-case, Quiet, AllQuiet, quiet-strokes}
+use Rattle.meaning.proofs.AreaLaws.{both, cond-case, option-case, drawOn, drawAll-append, unless-case, Quiet, AllOf, AllQuiet, quiet-strokes}
 
 -- ---- sums
 
@@ -113,36 +113,47 @@ scan-sixel at c b e =
       e,
     )
 
--- a begun command is no sixel
+-- a fact of each of some commands, and of each after them
+pub append-each : (P : Command → Type 0) (xs ys : List Placed) → AllOf P xs → AllOf P ys → AllOf P (xs ++ ys)
+append-each P [] ys p q = q
+append-each P (x ∷ xs) ys p q = (p .0, append-each P xs ys (p .1) q)
+
+-- a fact of the commands that end at a byte: of the begun one, and of what the byte is
+module _ (P : Command → Type 0) (argument : (k : Kind) (bs : List ℕ) → P (argued k bs)) (left : P return) (down : P line) where
+  pub closed-each : (c : Option Begun) → AllOf P (closed c)
+  unfolding closed
+  closed-each none = tt
+  closed-each (some c) = (argument (c .kind) (c .argument), tt)
+
+  does-each : (at : ℕ) (before : List Placed) (c : Command) → AllOf P before → P c → AllOf P (does at before c .ended)
+  unfolding does
+  does-each at before c q h = append-each P before _ q (h, tt)
+
+  own-each : (at b : ℕ) (before : List Placed) → (sixel b ≡ true → P (draw (b - 63))) → AllOf P before → AllOf P (own at b before .ended)
+  unfolding own
+  own-each at b before h q =
+      cond-case Good (eqb b bang) (λ _. q)
+      λ _. cond-case Good (eqb b hash) (λ _. q)
+      λ _. cond-case Good (eqb b quote) (λ _. q)
+      λ _. cond-case Good (eqb b dollar) (λ _. does-each at before return q left)
+      λ _. cond-case Good (eqb b dash) (λ _. does-each at before line q down)
+      λ _. cond-case Good (sixel b) (λ t. does-each at before (draw (b - 63)) q (h t)) (λ _. q)
+    where
+      Good : Scanned → Type 0
+      Good x = AllOf P (x .ended)
+
+  pub scan-each : (at : ℕ) (c : Option Begun) (b : ℕ) → (sixel b ≡ true → P (draw (b - 63))) → AllOf P (scanByte at c b .ended)
+  unfolding scanByte
+  scan-each at c b h =
+      cond-case (λ (x : Scanned). AllOf P (x .ended)) (skipped b) (λ _. tt)
+      λ _. cond-case (λ (x : Scanned). AllOf P (x .ended)) (taken c b) (λ _. tt) (λ _. own-each at b (closed c) h (closed-each c))
+
+-- a begun command is no sixel, and any other byte ends none
 closed-quiet : (c : Option Begun) → AllQuiet (closed c)
-unfolding closed
-closed-quiet none = tt
-closed-quiet (some c) = (tt, tt)
+closed-quiet = closed-each Quiet (λ k bs. tt) tt tt
 
-does-quiet : (at : ℕ) (before : List Placed) (c : Command) → AllQuiet before → Quiet c → AllQuiet (does at before c .ended)
-unfolding does
-does-quiet at [] c q h = (h, tt)
-does-quiet at (x ∷ before) c q h = (q .0, does-quiet at before c (q .1) h)
-
-own-quiet : (at b : ℕ) (before : List Placed) → sixel b ≡ false → AllQuiet before → AllQuiet (own at b before .ended)
-unfolding own
-own-quiet at b before e q =
-    cond-case Good (eqb b bang) (λ _. q)
-    λ _. cond-case Good (eqb b hash) (λ _. q)
-    λ _. cond-case Good (eqb b quote) (λ _. q)
-    λ _. cond-case Good (eqb b dollar) (λ _. does-quiet at before return q tt)
-    λ _. cond-case Good (eqb b dash) (λ _. does-quiet at before line q tt)
-    λ _. cond-case Good (sixel b) (λ t. absurd (true≢false (sym t ∙ e))) (λ _. q)
-  where
-    Good : Scanned → Type 0
-    Good x = AllQuiet (x .ended)
-
--- any other byte ends no sixel
 pub scan-quiet : (at : ℕ) (c : Option Begun) (b : ℕ) → sixel b ≡ false → AllQuiet (scanByte at c b .ended)
-unfolding scanByte
-scan-quiet at c b e =
-    cond-case (λ (x : Scanned). AllQuiet (x .ended)) (skipped b) (λ _. tt)
-    λ _. cond-case (λ (x : Scanned). AllQuiet (x .ended)) (taken c b) (λ _. tt) (λ _. own-quiet at b (closed c) e (closed-quiet c))
+scan-quiet at c b e = scan-each Quiet (λ k bs. tt) tt tt at c b (λ t. true≢false (sym t ∙ e))
 
 -- ---- what a byte does to a payload
 

@@ -1,22 +1,24 @@
 -- Laws of whole payloads: their drawing keeps within every limit, the extent lies inside the size, and what a finish reports fits.
-use Prim.Native.Nat.{ℕ, _^_, _≤_, max}
+use Prim.Native.Nat.{ℕ, _+_, _^_, _≤_, max}
 use native.Mathlib.Nat.{le-refl}
 use native.Mathlib.Omega.{arith}
 use mathlib.Core.Path.{_≡_, refl, subst}
-use mathlib.Core.Bool.{true, _&&_}
+use mathlib.Core.Bool.{Bool, true, false, cond, _&&_}
 use mathlib.Core.Option.{Option, none}
 use mathlib.Core.List.{List, [], _∷_}
-use borrow.Author.Tests.{leb-true}
+use mathlib.Core.Logic.{_↔_}
+use borrow.Author.Tests.{leb-true, eqb-true, eqb-false}
 use lib.Dec.{leb, eqb}
 use Rattle.colours.specs.declared.Palette.{Palette}
-use Rattle.canvas.specs.Picture.{Stroke, Area, rowsOf, allInside}
+use Rattle.canvas.specs.Picture.{Stroke, Area, depth, rowsOf, allInside}
+use Rattle.canvas.proofs.Depth.{depth-most}
 use Rattle.meaning.specs.Commands.{Placed, commands}
-use Rattle.meaning.specs.Drawing.{Limits, Setting, Drawing, blank, pixelsOf, Outcome, drawAll, extentOf, columnsReached, rowsReached}
+use Rattle.meaning.specs.Drawing.{Limits, Setting, Drawing, blank, pixelsOf, Outcome, drawAll, rightOf, bottomOf, columnsPainted, rowsPainted, extentOf}
 use Rattle.meaning.specs.Payload.{Parameters, payload, Finished, finished, turnedDown, reportOf, finish}
-use Rattle.meaning.specs.Sizes.{Roomy, ReportFits}
+use Rattle.meaning.specs.Sizes.{Roomy, ExtentIn, ReportFits}
 use Rattle.meaning.specs.Calls.{opens, limitsHold, ranges, settingFor}
-use Rattle.meaning.proofs.Cases.{cond-case, option-case, both}
-use Rattle.meaning.proofs.CommandLaws.{Within, within-of, Sound, drawAll-sound, FourToSeven, drawAll-numbers, all-parts}
+use Rattle.meaning.proofs.Cases.{option-case, both}
+use Rattle.meaning.proofs.CommandLaws.{Within, within-of, AllOnce, Sound, drawAll-sound, FourToSeven, drawAll-numbers, all-parts}
 
 -- ---- a whole payload
 
@@ -57,6 +59,7 @@ blank-sound r p p2 =
         rows = r .rows;
       };
       strokes = refl;
+      once = tt;
       repeats = le-refl 1;
     }
 
@@ -72,52 +75,46 @@ payload-sound r o p bs = drawAll-sound (commands bs) (blank-sound r p (o .p2))
 
 -- ---- extent
 
--- the columns that strokes inside an area reach lie in the area
-columns-inside : (a : Area) (ks : List Stroke) → 1 ≤ a .width → allInside a ks ≡ true → columnsReached ks ≤ a .width
-unfolding columnsReached allInside
-columns-inside a [] h e = h
-columns-inside a (k ∷ ks) h e =
+-- ---- the extent
+
+-- a stroke paints nothing, or its columns, and its rows down to the lowest whose bit is 1
+pub painted-case : (P : ℕ → ℕ → Type 0) (k : Stroke) → (depth 6 (k .bits) ≡ 0 → P 0 0)
+    → ((depth 6 (k .bits) ≡ 0 → ⊥) → P (k .column + k .repeat) (k .row + depth 6 (k .bits))) → P (rightOf k) (bottomOf k)
+unfolding rightOf bottomOf
+painted-case P k blank inked = go (eqb (depth 6 (k .bits)) 0) refl
+  where
+    go : (t : Bool) → eqb (depth 6 (k .bits)) 0 ≡ t → P (cond t 0 (k .column + k .repeat)) (cond t 0 (k .row + depth 6 (k .bits)))
+    go true e = blank (eqb-true _ _ e)
+    go false e = inked (eqb-false _ _ e)
+
+-- what strokes inside an area paint lies in the area
+painted-inside : (a : Area) (ks : List Stroke) → allInside a ks ≡ true → (columnsPainted ks ≤ a .width) × (rowsPainted ks ≤ a .height)
+unfolding columnsPainted rowsPainted
+painted-inside a [] e = (omega arith, omega arith)
+painted-inside a (k ∷ ks) e =
     let first : Within a k = within-of a k (all-parts a k ks e .0) in
-    let later : columnsReached ks ≤ a .width = columns-inside a ks h (all-parts a k ks e .1) in
-    omega (arith, first .columns)
+    let later : (columnsPainted ks ≤ a .width) × (rowsPainted ks ≤ a .height) = painted-inside a ks (all-parts a k ks e .1) in
+    painted-case (λ r b. (max r (columnsPainted ks) ≤ a .width) × (max b (rowsPainted ks) ≤ a .height)) k
+    (λ _. (omega arith, omega arith))
+    (λ _. (omega (arith, first .columns), omega (arith, first .bottom, depth-most 6 (k .bits))))
 
--- and so do the rows
-rows-inside : (a : Area) (ks : List Stroke) → 1 ≤ a .height → allInside a ks ≡ true → rowsReached ks ≤ a .height
-unfolding rowsReached allInside
-rows-inside a [] h e = h
-rows-inside a (k ∷ ks) h e =
-    let first : Within a k = within-of a k (all-parts a k ks e .0) in
-    let later : rowsReached ks ≤ a .height = rows-inside a ks h (all-parts a k ks e .1) in
-    cond-case (λ (n : ℕ). max n (rowsReached ks) ≤ a .height) (eqb (k .bits) 0) (λ _. omega arith) (λ _. omega (arith, first .bottom))
-
--- an extent is at least one pixel
-columns-positive : (ks : List Stroke) → 1 ≤ columnsReached ks
-unfolding columnsReached
-columns-positive [] = le-refl 1
-columns-positive (k ∷ ks) = omega (arith, columns-positive ks)
-
-rows-positive : (ks : List Stroke) → 1 ≤ rowsReached ks
-unfolding rowsReached
-rows-positive [] = le-refl 1
-rows-positive (k ∷ ks) = let h : 1 ≤ rowsReached ks = rows-positive ks in omega arith
-
--- an extent of at least one pixel that lies inside an area
-pub record ExtentIn (x a : Area) : Type 0 where
-  pub wide : 1 ≤ x .width
-  pub tall : 1 ≤ x .height
-  pub width : x .width ≤ a .width
-  pub height : x .height ≤ a .height
+-- if every stroke takes a column, no column is painted if and only if no row is
+neither-painted : (ks : List Stroke) → AllOnce ks → (columnsPainted ks ≡ 0) ↔ (rowsPainted ks ≡ 0)
+unfolding columnsPainted rowsPainted
+neither-painted [] h = (λ e. e, λ e. e)
+neither-painted (k ∷ ks) h =
+    let later : (columnsPainted ks ≡ 0) ↔ (rowsPainted ks ≡ 0) = neither-painted ks (h .1) in
+    painted-case (λ r b. (max r (columnsPainted ks) ≡ 0) ↔ (max b (rowsPainted ks) ≡ 0)) k
+    (λ _. (λ e. omega (arith, later .0 (omega arith)), λ e. omega (arith, later .1 (omega arith))))
+    (λ inked. (λ e. omega (arith, h .0), λ e. omega arith))
 
 -- the extent of a sound drawing lies inside its area
 pub extent-inside : {s : Setting} {d : Drawing} → Sound s d → ExtentIn (extentOf (d .strokes)) (d .area)
 unfolding extentOf
 extent-inside {d = d} h =
-    record {
-      wide = columns-positive (d .strokes);
-      tall = rows-positive (d .strokes);
-      width = columns-inside (d .area) (d .strokes) (h .fits .wide) (h .strokes);
-      height = rows-inside (d .area) (d .strokes) (h .fits .tall) (h .strokes);
-    }
+    let inside : (columnsPainted (d .strokes) ≤ d .area .width) × (rowsPainted (d .strokes) ≤ d .area .height) =
+    painted-inside (d .area) (d .strokes) (h .strokes) in
+    record { width = inside .0; height = inside .1; empty = neither-painted (d .strokes) (h .once) }
 
 -- ---- finishing
 
@@ -126,10 +123,10 @@ pub outcome-reports : (o : Parameters) (out : Outcome) → out .refusal ≡ none
 unfolding finish
 outcome-reports o out e = rw e refl
 
--- and what it reports of a sound drawing fits
+-- and of a sound drawing the size that it reports fits, with the extent inside
 pub outcome-fits : (s : Setting) (o : Parameters) (out : Outcome) → Sound s (out .drawing) → ReportFits s (finish o out)
 unfolding finish reportOf
-outcome-fits s o out h = option-case (ReportFits s) (out .refusal) (λ _. h .fits) (λ n _. tt)
+outcome-fits s o out h = option-case (ReportFits s) (out .refusal) (λ _. (h .fits, extent-inside h)) (λ n _. tt)
 
 -- a report, or a number of 4 to 7
 abbrev pub ReportOr4To7 : Finished → Type 0

@@ -1,4 +1,4 @@
--- Laws of bytes: what each does to a payload and to a DCS sequence, and that every drawing stays sound, after every byte, stop and call.
+-- Laws of bytes: what each does to a payload and to a DCS sequence, and what a drawing keeps through every byte, stop and call.
 use Prim.Native.Nat.{ℕ, _-_}
 use mathlib.Core.Path.{_≡_, refl, subst}
 use mathlib.Core.Bool.{cond, _||_}
@@ -7,16 +7,13 @@ use mathlib.Core.List.{List, [], _∷_}
 use lib.Dec.{leb, eqb}
 use Rattle.numbers.specs.Bytes.{ends}
 use Rattle.colours.specs.declared.Palette.{Palette}
-use Rattle.meaning.specs.Commands.{Scanned, closed, scanByte}
-use Rattle.meaning.specs.Drawing.{Setting, Drawing, drawAll}
+use Rattle.meaning.specs.Commands.{Scanned, scanByte}
+use Rattle.meaning.specs.Drawing.{Setting, Drawing, blank, drawAll}
 use Rattle.meaning.specs.Payload.{Parameters}
 use Rattle.meaning.specs.Reader.{Step, next, halt, refuse, stopped, Run, still, after, follow, readFrom, call}
 use Rattle.meaning.specs.Sessions.{Reading, opened, settled, rested, endedAt, wentOn, readByte, payloadStep, End, Phase, start, introduced, header, within, afterEscape, over, startStep, introducedStep, headerStep, HeaderByte, goesOn, settles, wrong, headerByte, endStep, withinStep, escapeStep, dcsStep, dcsRested}
 use Rattle.meaning.specs.Calls.{drawingOf}
 use Rattle.meaning.proofs.Cases.{cond-case, option-case}
-use Rattle.meaning.proofs.CommandLaws.{Sound, Follows, follows-refl, drawAll-follows, drawAll-sound}
-use Rattle.meaning.specs.Sizes.{Roomy}
-use Rattle.meaning.proofs.SizeLaws.{blank-sound}
 
 -- ---- a payload, byte by byte
 
@@ -42,38 +39,22 @@ pub payload-case : (P : Step Reading → Type 0) (s : Setting) (r : Reading) (b 
 unfolding payloadStep
 payload-case P s r b f g = option-case P (r .over) f (λ e q. g (rw q))
 
--- what a byte leaves follows from the drawing before it
-pub readByte-follows : (s : Setting) (r : Reading) (b : ℕ) → Leaves (λ t. Follows s (r .drawing) (t .drawing)) (readByte s r b)
-unfolding readByte endedAt wentOn settled
-readByte-follows s r b =
-    cond-case Good (ends b) (λ _. option-case Good (settled s r .refusal) (λ _. before) (λ n _. before))
-    (λ _. option-case Good (drawAll s (c .ended) (r .drawing) .refusal) (λ _. after-it) (λ n _. after-it))
+-- A fact of the drawing before a byte, of that with the begun command carried out, and of that with the commands that the byte ends or is:
+-- it holds of what the byte leaves, one that is read, one that ends the payload, and one that is refused.
+pub payload-leaves : (P : Drawing → Type 0) (s : Setting) (r : Reading) (b : ℕ) → P (r .drawing) → P (settled s r .drawing)
+    → P (drawAll s (scanByte (r .passed) (r .begun) b .ended) (r .drawing) .drawing) → Leaves (λ t. P (t .drawing)) (payloadStep s r b)
+unfolding readByte endedAt wentOn
+payload-leaves P s r b still before after-it =
+    payload-case Good s r b
+    (λ _. cond-case Good (ends b) (λ _. option-case Good (settled s r .refusal) (λ _. before) (λ n _. before))
+    (λ _. option-case Good (drawAll s (c .ended) (r .drawing) .refusal) (λ _. after-it) (λ n _. after-it)))
+    (λ _. still)
   where
     c : Scanned
     c = scanByte (r .passed) (r .begun) b
 
-    before : Follows s (r .drawing) (settled s r .drawing)
-    before = drawAll-follows s (closed (r .begun)) (r .drawing)
-
-    after-it : Follows s (r .drawing) (drawAll s (c .ended) (r .drawing) .drawing)
-    after-it = drawAll-follows s (c .ended) (r .drawing)
-
     Good : Step Reading → Type 0
-    Good = Leaves (λ t. Follows s (r .drawing) (t .drawing))
-
--- in an ended payload too
-pub payload-follows : (s : Setting) (r : Reading) (b : ℕ) → Leaves (λ t. Follows s (r .drawing) (t .drawing)) (payloadStep s r b)
-payload-follows s r b =
-    payload-case (Leaves (λ t. Follows s (r .drawing) (t .drawing))) s r b (λ _. readByte-follows s r b) (λ _. follows-refl s (r .drawing))
-
--- a byte keeps a payload's drawing sound: one that is read, one that ends it, and one that is refused
-pub payload-step-sound : (s : Setting) (r : Reading) (b : ℕ) → Sound s (r .drawing) → Leaves (λ t. Sound s (t .drawing)) (payloadStep s r b)
-payload-step-sound s r b h = leaves-map (λ t f. f .sound h) (payloadStep s r b) (payload-follows s r b)
-
--- and so does a stop
-pub rested-sound : (s : Setting) (r : Reading) → Sound s (r .drawing) → Sound s (rested s r .drawing)
-unfolding rested settled
-rested-sound s r h = drawAll-sound (closed (r .begun)) h
+    Good = Leaves (λ t. P (t .drawing))
 
 -- ---- a DCS sequence, byte by byte
 
@@ -145,57 +126,54 @@ module _ (s : Setting) (p : Palette) (b : ℕ) where
   dcs-does (afterEscape r) = cond-case (DcsDoes s p b (afterEscape r)) (eqb b 0x5C) (λ _. completes) (λ _. lapses)
   dcs-does (over e r) = remains
 
--- a drawing is sound, if there is one
-abbrev pub SoundIf : Setting → Option Drawing → Type 0
-SoundIf s none = Unit {0}
-SoundIf s (some d) = Sound s d
+-- a fact of the drawing, if there is one
+abbrev pub OnDrawing : (Drawing → Type 0) → Option Drawing → Type 0
+OnDrawing P none = Unit {0}
+OnDrawing P (some d) = P d
 
--- the drawing of a DCS sequence, once there is one, is sound
-abbrev pub PhaseSound : Setting → Phase → Type 0
-PhaseSound s t = SoundIf s (drawingOf t)
-
--- before the payload there is nothing to be sound
-before-sound : (s : Setting) (t : Phase) → Before t → PhaseSound s t
+-- before the payload there is none
+before-drawn : (P : Drawing → Type 0) (t : Phase) → Before t → OnDrawing P (drawingOf t)
 unfolding drawingOf
-before-sound s start h = tt
-before-sound s introduced h = tt
-before-sound s (header bs) h = tt
-before-sound s (within r) h = absurd h
-before-sound s (afterEscape r) h = absurd h
-before-sound s (over e r) h = absurd h
+before-drawn P start h = tt
+before-drawn P introduced h = tt
+before-drawn P (header bs) h = tt
+before-drawn P (within r) h = absurd h
+before-drawn P (afterEscape r) h = absurd h
+before-drawn P (over e r) h = absurd h
 
-module _ {s : Setting} (roomy : Roomy s) (p : Palette) (b : ℕ) where
-  -- a payload's byte keeps its drawing sound, with its step known
-  kept-sound : (r : Reading) {x : Step Reading} → Sound s (r .drawing) → payloadStep s r b ≡ x → Leaves (λ t. Sound s (t .drawing)) x
-  kept-sound r h e = subst (Leaves (λ t. Sound s (t .drawing))) e (payload-step-sound s r b h)
+-- what holds of the first drawing of a payload and is kept by its bytes and stops holds of a DCS sequence's, once there is one
+module _ (s : Setting) (p : Palette) (P : Drawing → Type 0) (first : (o : Parameters) → P (blank p (o .p2)))
+    (keep : (r : Reading) (b : ℕ) → P (r .drawing) → Leaves (λ t. P (t .drawing)) (payloadStep s r b))
+    (stop : (r : Reading) → P (r .drawing) → P (rested s r .drawing)) where
+  -- a payload's byte keeps it, with its step known
+  kept-by : (r : Reading) (b : ℕ) {x : Step Reading} → P (r .drawing) → payloadStep s r b ≡ x → Leaves (λ t. P (t .drawing)) x
+  kept-by r b h e = subst (Leaves (λ t. P (t .drawing))) e (keep r b h)
 
-  does-sound : {t : Phase} {x : Step Phase} → DcsDoes s p b t x → PhaseSound s t → Leaves (PhaseSound s) x
+  does-keep : (b : ℕ) {t : Phase} {x : Step Phase} → DcsDoes s p b t x → OnDrawing P (drawingOf t) → Leaves (λ u. OnDrawing P (drawingOf u)) x
   unfolding drawingOf opened
-  does-sound (advances {u = u} _ k) h = before-sound s u k
-  does-sound (begins _ o) h = blank-sound roomy p (o .p2)
-  does-sound (turns _) h = h
-  does-sound (reads r e) h = kept-sound r h e
-  does-sound (refuses r e) h = kept-sound r h e
-  does-sound (escapes r e) h = kept-sound r h e
-  does-sound (closes r e) h = kept-sound r h e
-  does-sound (breaks r e) h = kept-sound r h e
-  does-sound completes h = h
-  does-sound lapses h = h
-  does-sound remains h = h
+  does-keep b (advances {u = u} _ k) h = before-drawn P u k
+  does-keep b (begins _ o) h = first o
+  does-keep b (turns _) h = h
+  does-keep b (reads r e) h = kept-by r b h e
+  does-keep b (refuses r e) h = kept-by r b h e
+  does-keep b (escapes r e) h = kept-by r b h e
+  does-keep b (closes r e) h = kept-by r b h e
+  does-keep b (breaks r e) h = kept-by r b h e
+  does-keep b completes h = h
+  does-keep b lapses h = h
+  does-keep b remains h = h
 
--- a byte keeps a DCS sequence's drawing sound, and the payload begins with a sound one
-pub dcs-step-sound : {s : Setting} → Roomy s → (p : Palette) (t : Phase) (b : ℕ) → PhaseSound s t → Leaves (PhaseSound s) (dcsStep s p t b)
-dcs-step-sound {s} roomy p t b = does-sound roomy p b (dcs-does s p b t)
+  pub dcs-step-keeps : (t : Phase) (b : ℕ) → OnDrawing P (drawingOf t) → Leaves (λ u. OnDrawing P (drawingOf u)) (dcsStep s p t b)
+  dcs-step-keeps t b = does-keep b (dcs-does s p b t)
 
--- and so does a stop
-pub dcs-rested-sound : (s : Setting) (t : Phase) → PhaseSound s t → PhaseSound s (dcsRested s t)
-unfolding dcsRested drawingOf
-dcs-rested-sound s start h = h
-dcs-rested-sound s introduced h = h
-dcs-rested-sound s (header bs) h = h
-dcs-rested-sound s (within r) h = rested-sound s r h
-dcs-rested-sound s (afterEscape r) h = h
-dcs-rested-sound s (over e r) h = h
+  pub dcs-rested-keeps : (t : Phase) → OnDrawing P (drawingOf t) → OnDrawing P (drawingOf (dcsRested s t))
+  unfolding dcsRested drawingOf
+  dcs-rested-keeps start h = h
+  dcs-rested-keeps introduced h = h
+  dcs-rested-keeps (header bs) h = h
+  dcs-rested-keeps (within r) h = stop r h
+  dcs-rested-keeps (afterEscape r) h = h
+  dcs-rested-keeps (over e r) h = h
 
 -- ---- runs
 

@@ -41,11 +41,11 @@ bytes (cons c cs) = code c ∷ bytes cs
 pub data Way : Type 0 where
   asPayload soFar asDcs atOnce : Way
 
--- what a row says: the size's or the extent's width and height; ink; the pixel at a column and a row, as RRGGBBAA; the ratio; the
--- background; a refusal's number; that a DCS sequence has come to an end, or has not; and what stays unread, or is the part handed
--- back
+-- what a row says: the size's or the extent's width and height, or those of the extent of what was drawn up to a refusal; ink; the pixel at
+-- a column and a row, as RRGGBBAA; the ratio; the background; a refusal's number; that a DCS sequence has come to an end, or has not; and
+-- what stays unread, or is the part handed back
 pub data Says : Type 0 where
-  size extent : ℕ → ℕ → Says
+  size extent upTo : ℕ → ℕ → Says
   ink : ℕ → Says
   shows : ℕ → ℕ → ℕ → Says
   ratio : Ratio → Says
@@ -262,6 +262,7 @@ unfoldable pub isSo : Result → Says → Bool
 unfolding sameBytes sameArea sameRatio asNumber reports refuses endsBy unended bytes
 isSo r (size w h) = reports (r .answer) (λ a. sameArea (a .size) w h)
 isSo r (extent w h) = reports (r .answer) (λ a. sameArea (a .extent) w h)
+isSo r (upTo w h) = sameArea (Strokes.extentOf (r .drawing .strokes)) w h
 isSo r (ink n) = eqb (inkOfAll (r .drawing .strokes)) n && eqb (r .ink) n
 isSo r (shows x y n) = eqb (asNumber (shownColour (r .drawing .background) (r .drawing .strokes) x y)) n
 isSo r (ratio q) = reports (r .answer) (λ a. sameRatio (a .ratio) q)
@@ -363,7 +364,7 @@ unfolding payload finish finishDcs oneShot findPayload partOf readFrom call payl
     openPayload feedPayload finishPayload inkOfAll Strokes.strokesSince shownColour standard Commands.commands Strokes.drawAll Strokes.extentOf
     Bytes.ends Bytes.skipped Bytes.sixel Bytes.digit Values.decimal Values.values Values.held16
     Picture.reach Picture.grownTo Picture.rowsOf Picture.fits Picture.colourAt Picture.lastStroke Picture.orHere Picture.covers Picture.inSixel
-    Picture.span Picture.bit
+    Picture.span Picture.bit Picture.depth
     Registers.ofTable Registers.registerOf Registers.stored Registers.setRgb Registers.setHls Registers.packedBytes
     Standard.listed Standard.standardAt Standard.base Standard.cube Standard.grey Standard.percents
     Packing.packed Packing.pixelOf Percent.percentByte Percent.held Turn.turned Turn.modulo360

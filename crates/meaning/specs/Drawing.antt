@@ -11,7 +11,7 @@ use lib.ListN.{length, getD, drop}
 use Rattle.numbers.specs.Values.{decimal, values}
 use Rattle.colours.specs.declared.Palette.{Palette}
 use Rattle.colours.specs.Palette.{registerOf, setRgb, setHls}
-use Rattle.canvas.specs.Picture.{Stroke, Area, grownTo, reach}
+use Rattle.canvas.specs.Picture.{Stroke, Area, depth, grownTo, reach}
 use Rattle.meaning.specs.Commands.{repeat, colour, raster, Command, argued, return, line, draw, Placed}
 
 -- rule 1.1: W, H, R and M
@@ -273,17 +273,27 @@ inkOfAll (k ∷ ks) = inkOf k + inkOfAll ks
 unfoldable pub strokesSince : Drawing → Drawing → List Stroke
 strokesSince before now = drop (length (before .strokes)) (now .strokes)
 
--- rule 4.4: the rightmost column that any sixel reached, blank or not, plus 1
-unfoldable pub columnsReached : List Stroke → ℕ
-columnsReached [] = 1
-columnsReached (k ∷ ks) = max (k .column + k .repeat) (columnsReached ks)
+-- rule 4.4: one past the last column that a stroke paints, or 0 where it paints nothing
+unfoldable pub rightOf : Stroke → ℕ
+rightOf k = cond (eqb (depth 6 (k .bits)) 0) 0 (k .column + k .repeat)
 
--- rule 4.4: the lowest row of any band with ink, plus 1
-unfoldable pub rowsReached : List Stroke → ℕ
-rowsReached [] = 1
-rowsReached (k ∷ ks) = max (cond (eqb (k .bits) 0) 1 (k .row + 6)) (rowsReached ks)
+-- rule 4.4: one past the last row that it paints, or 0
+unfoldable pub bottomOf : Stroke → ℕ
+bottomOf k = cond (eqb (depth 6 (k .bits)) 0) 0 (k .row + depth 6 (k .bits))
+
+-- rule 4.4: one past the last column that some strokes paint, or 0
+unfoldable pub columnsPainted : List Stroke → ℕ
+unfolding rightOf
+columnsPainted [] = 0
+columnsPainted (k ∷ ks) = max (rightOf k) (columnsPainted ks)
+
+-- rule 4.4: one past the last row, or 0
+unfoldable pub rowsPainted : List Stroke → ℕ
+unfolding bottomOf
+rowsPainted [] = 0
+rowsPainted (k ∷ ks) = max (bottomOf k) (rowsPainted ks)
 
 -- rule 4.4: both
 unfoldable pub extentOf : List Stroke → Area
-unfolding columnsReached rowsReached
-extentOf ks = record { width = columnsReached ks; height = rowsReached ks }
+unfolding columnsPainted rowsPainted
+extentOf ks = record { width = columnsPainted ks; height = rowsPainted ks }

@@ -1,5 +1,6 @@
 pub mod Commands
 pub mod Drawing
+pub mod Extents
 pub mod Payload
 pub mod Reader
 pub mod Sessions

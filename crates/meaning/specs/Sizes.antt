@@ -3,6 +3,8 @@
 use Prim.Native.Nat.{ℕ, _≤_}
 use mathlib.Core.Option.{Option, none, some}
 use mathlib.Core.List.{List}
+use mathlib.Core.Logic.{_↔_}
+use mathlib.Core.Path.{_≡_}
 use Rattle.colours.specs.declared.Palette.{Palette}
 use Rattle.canvas.specs.Picture.{Area}
 use Rattle.meaning.specs.Drawing.{Setting, Drawing, pixelsOf}
@@ -29,14 +31,20 @@ pub record Fits (s : Setting) (a : Area) : Type 0 where
   pub stride : a .width ≤ s .stride
   pub rows : a .height ≤ s .rows
 
+-- rule 4.4: an extent inside a size, of which neither side is 0 alone
+pub record ExtentIn (x a : Area) : Type 0 where
+  pub width : x .width ≤ a .width
+  pub height : x .height ≤ a .height
+  pub empty : (x .width ≡ 0) ↔ (x .height ≡ 0)
+
 -- the visible area of what has been drawn is one; before the payload nothing has been
 abbrev pub VisibleFits : Setting → Option Drawing → Type 0
 VisibleFits s none = Unit {0}
 VisibleFits s (some d) = Fits s (d .area)
 
--- rule 4.3: the size that a finish reports is one, where it reports any
+-- rules 4.3, 4.4: the size that a finish reports is one, where it reports any, and the extent lies in it
 abbrev pub ReportFits : Setting → Finished → Type 0
-ReportFits s (finished r) = Fits s (r .size)
+ReportFits s (finished r) = Fits s (r .size) × ExtentIn (r .extent) (r .size)
 ReportFits s (turnedDown n) = Unit {0}
 
 -- Of any reader, as its caller meets it (Demands): so is what a finish reports after any calls, with any bytes and allowances, on

@@ -70,7 +70,7 @@ pub blank-as : {px : List ℕ} {q : Parameters} (p : Palette) → px ≡ registe
     (record {
       pen = record { column = 0; row = 0; repeat = 1; register = 0; color = px };
       area = record { width = 1; height = 1 };
-      extent = record { right = 1; bottom = 1 };
+      extent = record { right = 0; bottom = 0 };
       raster = record { ratio = 0; width = 0; height = 0 };
       command = record { kind = kinds.Data; number = 0; parameters = q };
     })

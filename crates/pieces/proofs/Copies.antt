@@ -54,7 +54,7 @@ reported (declines n) e = absurd (let never : _≡_ {A = ℕ} 0 1 = cc in omega 
 -- a size that is reported has room
 pub report-fits : (s : Setting) (p : Palette) (bs : List ℕ) {r : meant.Report}
     → Roomy s → oneShot s p bs ≡ meant.finished r → Fits s (r .size)
-report-fits s p bs roomy e = subst (ReportFits s) e (one-shot-reported roomy p bs)
+report-fits s p bs roomy e = subst (ReportFits s) e (one-shot-reported roomy p bs) .0
 
 -- and so it is copied without gaps, where the other buffer has room
 pub copy-rows : (s : Setting) {a : Area} (canvas : List ℕ)

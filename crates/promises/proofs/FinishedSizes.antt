@@ -1,5 +1,6 @@
--- No finish has a size to judge: after any calls of an accepted opening what it reports is at least one pixel and keeps within W, H, M, the
--- stride and the rows. Of the four readers (promises/Readers) and of a reading all at once; and so does the area that a session holds.
+-- No finish has a size to judge: after any calls of an accepted opening the size that it reports is at least one pixel and keeps within W, H, M,
+-- the stride and the rows, and the extent that it reports lies inside the size. Of the four readers (promises/Readers) and of a reading all at
+-- once. The area that a session holds keeps within them too.
 use Prim.Native.Nat.{ℕ, _≤_}
 use mathlib.Core.Bool.{true}
 use mathlib.Core.List.{List, [], _∷_}
@@ -95,7 +96,7 @@ module _ (l : Limits) (stride : ℕ) (o : Settings) (p : Palette) (opening : Lis
       told-stands (payload.feedWith payloadCoded.fedBy) answerMeant (held l stride o p opening) cs
       (history.history-stands (opened-stands l stride o p opening (may-open l stride (length opening) opens)) cs)
 
-  -- What a finish reports fits.
+  -- The size that a finish reports fits, and its extent lies inside it.
   pub payload-sizes-fit : SizesFit payloadFeed payloadLend payloadFinish setting (held l stride o p opening) cs
   unfolding concludedBy
   payload-sizes-fit lent owner =
@@ -122,7 +123,7 @@ module _ (l : Limits) (stride : ℕ) (p : Palette) (opening : List ℕ)
       told-stands dcs.feedHeld dcsMeant.answerMeant first cs
       (dcsHistory.history-stands l stride p opening (dcsOpenings.opened-stands l stride p opening (may-open l stride (length opening) opens)) cs)
 
-  -- What a finish reports fits.
+  -- The size that a finish reports fits, and its extent lies inside it.
   pub dcs-sizes-fit : SizesFit dcsFeed dcsLend dcsFinish (settingMeant l stride (length opening)) first cs
   unfolding concludedBy
   dcs-sizes-fit lent owner =
@@ -165,7 +166,7 @@ module _ (l : Limits) (stride : ℕ) (registers opening : List ℕ)
 
 -- ---- reading all at once
 
--- What it reports fits; where it cannot be opened it reports nothing.
+-- The size that it reports fits, and its extent lies inside it; where it cannot be opened it reports nothing.
 pub read-fits : (l : drawing.Limits) (stride : ℕ) (p : Palette) (canvas bytes : List ℕ)
     → ReportFits (calls.settingFor l stride (length canvas)) (readWhole l stride p canvas bytes .answer)
 unfolding readWhole calls.readOneShot

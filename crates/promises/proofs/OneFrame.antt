@@ -27,6 +27,12 @@ use Rattle.frame.proofs.sizes.sixel_area.Reads as sixel-area
 use Rattle.frame.proofs.sizes.sixel_area.Kinds as sixel-area'
 use Rattle.reference.proofs.after_sixel.Reads as after-sixel
 use Rattle.reference.proofs.after_sixel.Kinds as after-sixel'
+use Rattle.reference.proofs.passed.Reads as passed
+use Rattle.reference.proofs.passed.Kinds as passed'
+use Rattle.reference.proofs.extent.right_after.Reads as right-after
+use Rattle.reference.proofs.extent.right_after.Kinds as right-after'
+use Rattle.reference.proofs.extent.bottom_after.Reads as bottom-after
+use Rattle.reference.proofs.extent.bottom_after.Kinds as bottom-after'
 use Rattle.reference.proofs.step.Reads as step
 use Rattle.reference.proofs.step.Kinds as step'
 use Rattle.frame.proofs.commands.without_command.Reads as without-command
@@ -81,6 +87,15 @@ sixel-area-one κs a z z' e e' p q = only p q
 
 pub after-sixel-one : One after-sixel'.ps after-sixel'.r after-sixel.Learnt
 after-sixel-one κs a z z' e e' p q = only p q
+
+pub passed-one : One passed'.ps passed'.r passed.Learnt
+passed-one κs a z z' e e' p q = only p q
+
+pub right-after-one : One right-after'.ps right-after'.r right-after.Learnt
+right-after-one κs a z z' e e' p q = only p q
+
+pub bottom-after-one : One bottom-after'.ps bottom-after'.r bottom-after.Learnt
+bottom-after-one κs a z z' e e' p q = only p q
 
 pub step-one : Seen step'.ps step'.r step.Learnt (λ κs. Reached)
     (λ κs z e. record { progress = z; palette = ofTable (now (e .1 .1 .0)); canvas = now (e .1 .1 .1 .0) })

@@ -285,6 +285,6 @@ bench-export stride canvas bytes =
 
     number : (x : meant.Finished) → meant.finish noParameters (meant.payload setting noParameters standard bytes) ≡ x → ReportFits setting x
         → ¬ (sizeOrNumber x ≡ 10)
-    number (meant.finished r) q fits e = let wide : 1 ≤ r .size .width = fits .wide in omega arith
+    number (meant.finished r) q fits e = let wide : 1 ≤ r .size .width = fits .0 .wide in omega arith
     number (meant.turnedDown n) q fits e =
         let low : (4 ≤ n) × (n ≤ 7) = finish-numbers setting noParameters (commands bytes) (drawing.blank standard none) n q in omega arith

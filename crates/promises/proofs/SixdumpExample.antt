@@ -161,7 +161,7 @@ unfolding words
 output =
     words "complete 20\n"
     ++ words "size 2 6\n"
-    ++ words "extent 2 6\n"
+    ++ words "extent 2 2\n"
     ++ words "ratio p1 none\n"
     ++ words "background opaque\n"
     ++ words "ink 4\n"

@@ -13,9 +13,10 @@ use types.Run.{OneOf, miss}
 use Rattle.numbers.specs.Bytes.{skipped, digit, sixel, ends, between, semicolon, bang, quote, hash, dollar, dash}
 use Rattle.numbers.proofs.Laws.{cond-yes, cond-no}
 use Rattle.colours.specs.declared.Palette.{Palette}
-use Rattle.canvas.specs.Picture.{areaOf, rowsOf}
+use Rattle.canvas.specs.Picture.{depth, areaOf, rowsOf}
 use Rattle.canvas.specs.Paint.{grown, sixelPainted}
-use Rattle.canvas.proofs.Covers.{and-left, by-test}
+use Rattle.canvas.proofs.Covers.{and-left, and-right, by-test}
+use Rattle.canvas.proofs.Depth.{depth-bits}
 use Rattle.canvas.proofs.Grid.{rows-room}
 use Rattle.frame.specs.declared.Extent.{Extent}
 use Rattle.frame.specs.declared.Frame.{Frame}
@@ -32,42 +33,50 @@ use Rattle.frame.specs.declared.sizes.Needed.{Needed}
 use Rattle.frame.specs.declared.sizes.Needed.the-variants.{Area, Refused}
 use Rattle.frame.specs.Sizes.{rasterArea, sixelArea}
 use Rattle.frame.specs.Commands.{withCommand, begun, byDigit, bySemicolon, settledAs, unreadAs, refusedAs, repeatEnded, colorEndedBy, finishedOf, rasterBy, rasterGrown, rasterEndedBy, Ended, endedIn, ended}
-use Rattle.reference.specs.Step.{Reached, Fits, Holds, readAs, areaGrown, penAfter, extentAfter, inked, canvasAfter, paintedOn, drawnIn, drawnBy, rowCeiling, movedTo, ownOf, dataStep, takesSemicolon, settledStep, argumentStep, stepIn, stepOf}
+use Rattle.reference.specs.Step.{Reached, Fits, Holds, readAs, areaGrown, paintedTo, rightAfter, bottomAfter, extentAfter, passedTo, inked, canvasAfter, paintedOn, drawnIn, drawnBy, rowCeiling, movedTo, ownOf, dataStep, takesSemicolon, settledStep, argumentStep, stepIn, stepOf}
 use Rattle.frame.proofs.SizeLaws.{Roomy, raster-roomy, sixel-roomy}
 use Rattle.frame.proofs.Kind as KindType
 
 -- ---- a sixel
 
-pub bottom-blank : (b row bits : ℕ) → bits ≡ 0 → b ≡ cond (eqb bits 0) b (max b (row + 6))
-bottom-blank b row bits e = sym (cond-yes _ _ (eq-eqb _ _ e))
+-- six bits of which none is 1 have no depth, and others have one
+pub to-nowhere : (bits end : ℕ) → bits < 64 → bits ≡ 0 → 0 ≡ paintedTo bits end
+unfolding paintedTo
+to-nowhere bits end six e = sym (cond-yes _ _ (eq-eqb (depth 6 bits) 0 (omega (arith, depth-bits bits six))))
 
-pub bottom-inked : {r : ℕ} (b row bits : ℕ) → (bits ≡ 0 → ⊥) → r ≡ max b (row + 6) → r ≡ cond (eqb bits 0) b (max b (row + 6))
-bottom-inked b row bits n e = e ∙ sym (cond-no _ _ (ne-eqb _ _ n))
+pub to-end : (bits end : ℕ) → bits < 64 → (bits ≡ 0 → ⊥) → end ≡ paintedTo bits end
+unfolding paintedTo
+to-end bits end six n = sym (cond-no _ _ (ne-eqb (depth 6 bits) 0 (λ (e : depth 6 bits ≡ 0). n (omega (arith, depth-bits bits six .1)))))
 
-pub inked-as : {right bottom : ℕ} (f : Frame) (bits w h : ℕ) → right ≡ max (f .extent .right) (f .pen .column + f .pen .repeat)
-    → bottom ≡ cond (eqb bits 0) (f .extent .bottom) (max (f .extent .bottom) (f .pen .row + 6))
-    → _≡_ {A = Frame}
-    (record {
-      pen = record { column = f .pen .column + f .pen .repeat; row = f .pen .row; repeat = 1; register = f .pen .register; color = f .pen .color };
-      area = record { width = w; height = h };
-      extent = record { right = right; bottom = bottom };
-      raster = f .raster;
-      command = f .command;
-    })
-    (inked f bits w h)
-unfolding inked penAfter extentAfter
-inked-as f bits w h e k =
-    ap₂
-    (λ (x y : ℕ).
-    record {
-      pen = penAfter (f .pen);
-      area = record { width = w; height = h };
-      extent = record { right = x; bottom = y };
-      raster = f .raster;
-      command = f .command;
-    })
-    e
-    k
+pub to-most : (bits end : ℕ) → paintedTo bits end ≤ end
+unfolding paintedTo
+to-most bits end = by-test (eqb (depth 6 bits) 0) (λ t. rw t (omega arith)) (λ t. rw t (omega arith))
+
+-- a blank sixel keeps both sides of the extent, and any other takes the larger
+pub right-blank : (right bits end : ℕ) → bits < 64 → bits ≡ 0 → right ≡ rightAfter right bits end
+unfolding rightAfter
+right-blank right bits end six e = let none = to-nowhere bits end six e in omega arith
+
+pub right-inked : {r : ℕ} (right bits end : ℕ) → bits < 64 → (bits ≡ 0 → ⊥) → r ≡ max right end → r ≡ rightAfter right bits end
+unfolding rightAfter
+right-inked right bits end six n e = e ∙ ap (max right) (to-end bits end six n)
+
+pub bottom-blank : (bottom bits row : ℕ) → bits < 64 → bits ≡ 0 → bottom ≡ bottomAfter bottom bits row
+unfolding bottomAfter
+bottom-blank bottom bits row six e = let none = to-nowhere bits (row + depth 6 bits) six e in omega arith
+
+pub bottom-inked : {r d : ℕ} (bottom bits row : ℕ) → bits < 64 → (bits ≡ 0 → ⊥) → d ≡ depth 6 bits → r ≡ max bottom (row + d)
+    → r ≡ bottomAfter bottom bits row
+unfolding bottomAfter
+bottom-inked bottom bits row six n k e =
+    e ∙ ap (λ (d : ℕ). max bottom (row + d)) k ∙ ap (max bottom) (to-end bits (row + depth 6 bits) six n)
+
+pub inked-as : {right bottom : ℕ} {next : Frame} (f : Frame) (bits w h : ℕ)
+    → right ≡ rightAfter (f .extent .right) bits (f .pen .column + f .pen .repeat)
+    → bottom ≡ bottomAfter (f .extent .bottom) bits (f .pen .row)
+    → next ≡ passedTo f (record { right = right; bottom = bottom }) w h → next ≡ inked f bits w h
+unfolding inked extentAfter
+inked-as f bits w h e k n = n ∙ ap₂ (λ (x y : ℕ). passedTo f (record { right = x; bottom = y }) w h) e k
 
 -- the ink of a sixel that has room is at most the canvas's bytes
 pub ink-room : (f : Frame) (g : Ground) (bits w h n : ℕ) → bits < 256 → Fits f g n → Holds f g w h → ones bits * f .pen .repeat ≤ n
@@ -191,6 +200,10 @@ own-other f b n₁ n₂ n₃ n₄ n₅ =
 pub sixel-least : {t : Bool} (b : ℕ) → t ≡ sixel b → t ≡ true → 63 ≤ b
 unfolding sixel between
 sixel-least b e t = leb-true 63 b (and-left (leb 63 b) (leb b 126) (sym e ∙ t))
+
+pub sixel-bits : (b : ℕ) → sixel b ≡ true → b - 63 < 64
+unfolding sixel between
+sixel-bits b t = omega (arith, leb-true 63 b (and-left (leb 63 b) (leb b 126) t), leb-true b 126 (and-right (leb 63 b) (leb b 126) t))
 
 module _ (f : Frame) (g : Ground) (b left : ℕ) (p : Palette) (l : List ℕ) {s : Bool} (drawn : s ≡ sixel b) where
   pub data-sixel : {t : Reached} → s ≡ true → t ≡ drawnBy f g (b - 63) left p l → t ≡ dataStep f g b left p l
@@ -361,7 +374,9 @@ pub step-argument : {t : Reached} (f : Frame) (g : Ground) (b left : ℕ) (p : P
 unfolding stepOf
 step-argument f g b left p l k e = e ∙ pending-step (f .command .kind) f g b left p l k
 
-pub ruleset drawing = (bottom-blank, bottom-inked, inked-as, put-as, painted-stopped, painted-read, drawn-area, drawn-refused)
+pub ruleset extents = (right-blank, right-inked, bottom-blank, bottom-inked)
+
+pub ruleset drawing = (inked-as, put-as, painted-stopped, painted-read, drawn-area, drawn-refused)
 
 pub ruleset effects = (own-hash, own-bang, own-dollar, own-dash, own-quote, own-other, sixel-least, data-sixel, data-ended, data-own)
 

@@ -7,7 +7,7 @@ use lib.Count.{ones}
 use lib.Dec.{leb, ltb, eqb}
 use Rattle.numbers.specs.Bytes.{skipped, digit, sixel, ends, semicolon, bang, quote, hash, dollar, dash}
 use Rattle.colours.specs.declared.Palette.{Palette}
-use Rattle.canvas.specs.Picture.{areaOf, rowsOf}
+use Rattle.canvas.specs.Picture.{depth, areaOf, rowsOf}
 use Rattle.canvas.specs.Paint.{grown, sixelPainted}
 use Rattle.frame.specs.declared.Command.{Command}
 use Rattle.frame.specs.declared.Extent.{Extent}
@@ -66,25 +66,36 @@ areaGrown f g w h l = grown (g .stride) (areaOf (f .area .width) (f .area .heigh
 unfoldable pub penAfter : Pen → Pen
 penAfter p = record { column = p .column + p .repeat; row = p .row; repeat = 1; register = p .register; color = p .color }
 
+-- how far a sixel paints that ends at a number: a blank one nowhere
+unfoldable pub paintedTo : ℕ → ℕ → ℕ
+paintedTo bits end = cond (eqb (depth 6 bits) 0) 0 end
+
+-- the extent's right after a sixel that ends in this column
+unfoldable pub rightAfter : ℕ → ℕ → ℕ → ℕ
+unfolding paintedTo
+rightAfter right bits end = max right (paintedTo bits end)
+
+-- the extent's bottom after a sixel in this row
+unfoldable pub bottomAfter : ℕ → ℕ → ℕ → ℕ
+unfolding paintedTo
+bottomAfter bottom bits row = max bottom (paintedTo bits (row + depth 6 bits))
+
 -- the extent after a sixel with these bits
 unfoldable pub extentAfter : Extent → Pen → ℕ → Extent
+unfolding rightAfter bottomAfter
 extentAfter e p bits =
-    record {
-      right = max (e .right) (p .column + p .repeat);
-      bottom = cond (eqb bits 0) (e .bottom) (max (e .bottom) (p .row + 6));
-    }
+    record { right = rightAfter (e .right) bits (p .column + p .repeat); bottom = bottomAfter (e .bottom) bits (p .row) }
+
+-- the frame past the columns of a sixel, or of some, with an extent and on an area
+unfoldable pub passedTo : Frame → Extent → ℕ → ℕ → Frame
+unfolding penAfter
+passedTo f e w h =
+    record { pen = penAfter (f .pen); area = record { width = w; height = h }; extent = e; raster = f .raster; command = f .command }
 
 -- the frame after a sixel with these bits, on an area
 unfoldable pub inked : Frame → ℕ → ℕ → ℕ → Frame
-unfolding penAfter extentAfter
-inked f bits w h =
-    record {
-      pen = penAfter (f .pen);
-      area = record { width = w; height = h };
-      extent = extentAfter (f .extent) (f .pen) bits;
-      raster = f .raster;
-      command = f .command;
-    }
+unfolding passedTo extentAfter
+inked f bits w h = passedTo f (extentAfter (f .extent) (f .pen) bits) w h
 
 -- the canvas after a sixel: the area grows, then the sixel is painted
 unfoldable pub canvasAfter : Frame → Ground → ℕ → ℕ → ℕ → List ℕ → List ℕ

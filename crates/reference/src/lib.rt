@@ -1,7 +1,9 @@
 // The reference machine: what one byte does to a frame, a palette and a canvas. The fast machine is proved equal to it.
+pub mod extent;
+
 ghost use mathlib.Core.Path.{_≡_};
-ghost use Prim.Native.Nat.{_+_, _≤_, _<_, min, max};
-ghost use mathlib.Core.Bool.{cond, _&&_};
+ghost use Prim.Native.Nat.{_+_, _≤_, _<_, min};
+ghost use mathlib.Core.Bool.{_&&_};
 ghost use lib.Dec.{eqb};
 ghost use lib.ListN.{length};
 ghost use Rattle.numbers.specs.Bytes.{semicolon};
@@ -9,7 +11,9 @@ ghost use Rattle.canvas.specs.Picture.{rowsOf};
 ghost use Rattle.colours.specs.declared.Palette.{Palette};
 ghost use Rattle.colours.specs.Palette.{ofTable};
 ghost use Rattle.frame.specs.Commands.{unreadAs};
-ghost use Rattle.reference.specs.Step.{Fits, Holds, Reached, readAs, areaGrown, inked, canvasAfter, paintedOn, drawnBy, rowCeiling, movedTo, ownOf, dataStep, takesSemicolon, settledStep, argumentStep, stepOf};
+ghost use Rattle.reference.specs.Step.{Fits, Holds, Reached, readAs, areaGrown, passedTo, inked, canvasAfter, paintedOn, drawnBy, rowCeiling, movedTo, ownOf, dataStep, takesSemicolon, settledStep, argumentStep, stepOf};
+use extent::bottom_after;
+use extent::right_after;
 use frame::Frame;
 use frame::Ground;
 use frame::Kind;
@@ -20,7 +24,6 @@ use frame::commands::end_command;
 use frame::commands::extend_by_digit;
 use frame::commands::extend_by_semicolon;
 use frame::sizes::Needed;
-use frame::sizes::larger;
 use frame::sizes::sixel_area;
 
 // The row saturates here, above every height limit.
@@ -59,33 +62,34 @@ fn unread(frame: Frame, outcome: Outcome) -> Progress
     }
 }
 
-fn inked_bottom(bottom: usize, row: usize, bits: u8) -> usize
-    requires { ⌜ row + 6 < 18446744073709551616 ⌝ }
-    ensures { λ r. ⌜ r ≡ cond (eqb bits 0) bottom (max bottom (row + 6)) ⌝ }
+// The frame past the columns of a sixel, or of a run of them, with an extent and on an area.
+// Inner: asks that it ends below what a number can hold.
+pub fn passed(frame: Frame, right: usize, bottom: usize, width: usize, height: usize) -> Frame
+    requires { ⌜ frame .pen .column + frame .pen .repeat < 18446744073709551616 ⌝ }
+    ensures { λ r. ⌜ r ≡ passedTo frame (record { right = right; bottom = bottom }) width height ⌝ }
 {
-    if bits == 0 {
-        return bottom;
-    }
-    larger(bottom, row + 6)
-}
-
-// The frame after a sixel, on an area.
-// Inner: asks that the sixel ends below what a number can hold.
-pub fn after_sixel(frame: Frame, bits: u8, width: usize, height: usize) -> Frame
-    requires { ⌜ (frame .pen .column + frame .pen .repeat < 18446744073709551616) × (frame .pen .row + 6 < 18446744073709551616) ⌝ }
-    ensures { λ r. ⌜ r ≡ inked frame bits width height ⌝ }
-{
-    let right = frame.pen.column + frame.pen.repeat;
-    let inked_right = larger(frame.extent.right, right);
-    let bottom = inked_bottom(frame.extent.bottom, frame.pen.row, bits);
+    let column = frame.pen.column + frame.pen.repeat;
     let mut next = frame;
-    next.pen.column = right;
+    next.pen.column = column;
     next.pen.repeat = 1;
     next.area.width = width;
     next.area.height = height;
-    next.extent.right = inked_right;
+    next.extent.right = right;
     next.extent.bottom = bottom;
     next
+}
+
+// The frame after a sixel, on an area.
+// Inner: asks that the sixel ends below what a number can hold, and that it has no more than six bits.
+pub fn after_sixel(frame: Frame, bits: u8, width: usize, height: usize) -> Frame
+    requires { ⌜ (frame .pen .column + frame .pen .repeat < 18446744073709551616) × (frame .pen .row + 6 < 18446744073709551616)
+        × (bits < 64) ⌝ }
+    ensures { λ r. ⌜ r ≡ inked frame bits width height ⌝ }
+{
+    let end = frame.pen.column + frame.pen.repeat;
+    let right = right_after(frame.extent.right, bits, end);
+    let bottom = bottom_after(frame.extent.bottom, bits, frame.pen.row);
+    passed(frame, right, bottom, width, height)
 }
 
 // Paints what a frame's area grows to.
@@ -135,7 +139,7 @@ fn paint(
     width: usize,
     height: usize,
 ) -> Progress
-    requires { ⌜ Fits frame ground (length (now canvas)) × Holds frame ground width height ⌝ }
+    requires { ⌜ Fits frame ground (length (now canvas)) × Holds frame ground width height × (bits < 64) ⌝ }
     ensures { λ r. ⌜ ((p : Palette) → record { progress = r; palette = p; canvas = now (canvas .exit) }
         ≡ paintedOn frame ground bits left width height p (now (canvas .entry))) ⌝ }
 {
@@ -149,7 +153,7 @@ fn paint(
 }
 
 fn draw_sixel(frame: Frame, ground: Ground, canvas: &mut [u8], bits: u8, left: usize) -> Progress
-    requires { ⌜ Fits frame ground (length (now canvas)) ⌝ }
+    requires { ⌜ Fits frame ground (length (now canvas)) × (bits < 64) ⌝ }
     ensures { λ r. ⌜ ((p : Palette) → record { progress = r; palette = p; canvas = now (canvas .exit) }
         ≡ drawnBy frame ground bits left p (now (canvas .entry))) ⌝ }
 {

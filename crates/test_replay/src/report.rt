@@ -8,8 +8,6 @@ use payload::Report;
 pub(crate) struct Picture {
     pub width: usize,
     pub height: usize,
-    pub right: usize,
-    pub bottom: usize,
     pub ratio: u8,
     pub background: u8,
 }
@@ -18,8 +16,6 @@ pub(crate) fn no_picture() -> Picture {
     Picture {
         width: 0,
         height: 0,
-        right: 0,
-        bottom: 0,
         ratio: 0,
         background: 0,
     }
@@ -52,8 +48,6 @@ fn picture_of(report: Report) -> Picture {
     Picture {
         width: report.width,
         height: report.height,
-        right: report.right,
-        bottom: report.bottom,
         ratio: vertical(ratio),
         background: background_number(report.transparent),
     }

@@ -101,7 +101,7 @@ fn do_calls_agree(record: &[u8], ran: Ran) -> bool {
         && count.consumed == answers::number_at(record, 40) as u64
 }
 
-// The report: size, extent, ratio and background.
+// The report: size, ratio and background. At 56 a record has the Rust's reach, which is not the extent of rule 4.4.
 fn does_report_agree(record: &[u8], picture: Picture) -> bool {
     if !has_picture(record) {
         return picture.ratio == 0 && picture.background == 0;
@@ -110,8 +110,6 @@ fn does_report_agree(record: &[u8], picture: Picture) -> bool {
         && picture.background == byte_at(record, 11)
         && picture.width == width_of(record)
         && picture.height == height_of(record)
-        && picture.right == answers::number_at(record, 56) as usize
-        && picture.bottom == answers::number_at(record, 60) as usize
 }
 
 fn agrees(record: &[u8], trial: Trial) -> bool {

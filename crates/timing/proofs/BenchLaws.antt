@@ -55,7 +55,7 @@ pub ruleset numbered = (width-fits, height-fits, picture-number, refused-number)
 within-house : (s : Setting) (a : Finishing) (p : Palette) → s .limits ≡ houseLimits → ReportFits s (finishMeant a p) → SizeWithin a
 unfolding finishMeant reportMeant
 within-house s (Picture r) p e h =
-    (subst (λ l. r .width ≤ l .width) e (h .width), subst (λ l. r .height ≤ l .height) e (h .height))
+    (subst (λ l. r .width ≤ l .width) e (h .0 .width), subst (λ l. r .height ≤ l .height) e (h .0 .height))
 within-house s (Refused n) p e h = tt
 
 -- ---- the reading

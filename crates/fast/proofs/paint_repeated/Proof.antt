@@ -5,8 +5,8 @@ use borrow.Author.Needs.{needs}
 use Prim.Native.Nat.{_-_, _<_}
 use denote.Ref.{now}
 use lib.ListN.{length, getD}
-use Rattle.reference.proofs.StepLaws.{sixel-least, ink-room, held-room, sixel-room}
-use Rattle.fast.proofs.RunSteps.{sixel-bits, sixel-ones}
+use Rattle.reference.proofs.StepLaws.{sixel-least, ink-room, held-room, sixel-room, sixel-bits}
+use Rattle.fast.proofs.RunSteps.{sixel-ones}
 use Rattle.fast.proofs.AdvanceLaws.{sixel-advances}
 use Rattle.fast.proofs.RunLaws.{nothing-advances}
 use Rattle.fast.proofs.paint_repeated.Statement.{statement}
@@ -59,7 +59,9 @@ paint-rows-requires c κs =
     (room .0, room .1, sixel-bits _ (s .pre .4))
 
 after-sixel-requires : tie.Need-after-sixel-requires
-after-sixel-requires c κs = search needs
+after-sixel-requires c κs =
+    let s = grown-start (c .before .before .before .before .before .before .before) in
+    (search needs, search needs, sixel-bits _ (s .pre .4))
 
 add-advance-to : tie.Need-add-advance-to
 add-advance-to c =

@@ -68,8 +68,8 @@ pub fn blank_frame(colors: &[u32; 256]) -> Frame
             height: 1,
         },
         extent: Extent {
-            right: 1,
-            bottom: 1,
+            right: 0,
+            bottom: 0,
         },
         raster: Raster {
             ratio: 0,

@@ -1,6 +1,7 @@
 -- `data_step` meets its contract: a sixel is drawn, a byte that ends the payload stays unread, another has its own effect.
+use mathlib.Core.Path.{sym, _∙_}
 use borrow.Author.Needs.{needs}
-use Rattle.reference.proofs.StepLaws.{effects}
+use Rattle.reference.proofs.StepLaws.{effects, sixel-bits}
 use Rattle.reference.proofs.data_step.Statement.{statement}
 use Rattle.reference.proofs.data_step.Tie as tie
 
@@ -11,7 +12,10 @@ sub-draw-sixel : tie.Need-sub-draw-sixel
 sub-draw-sixel c = search (needs, effects)
 
 draw-sixel-requires : tie.Need-draw-sixel-requires
-draw-sixel-requires c κs = search needs
+draw-sixel-requires c κs =
+    let six = c .before in
+    let s = six .before .before .before in
+    (s .pre, sixel-bits (s .args .byte) (sym (six .before .is-sixel .ensures) ∙ six .if1 .taken))
 
 same-length : tie.Need-same-length
 same-length c = search needs

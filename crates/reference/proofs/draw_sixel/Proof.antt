@@ -15,7 +15,8 @@ paint-requires c κs =
     let known = c .before .before in
     let area = known .before .before in
     let s = area .before .before in
-    needed-holds (s .args .frame) (s .args .ground) _ _ _ (s .pre) (area .sixel-area .ensures) (known .width .given .1)
+    let held = needed-holds (s .args .frame) (s .args .ground) _ _ _ (s .pre .0) (area .sixel-area .ensures) (known .width .given .1) in
+    (held .0, held .1, s .pre .1)
 
 enum-known-refusal : tie.Need-enum-known-refusal
 enum-known-refusal c = search needs

@@ -9,8 +9,8 @@ use lib.Count.{ones}
 use lib.ListN.{length, getD}
 use Rattle.numbers.specs.Bytes.{sixel}
 use Rattle.canvas.specs.Paint.{sixelPainted}
-use Rattle.reference.proofs.StepLaws.{sixel-least}
-use Rattle.fast.proofs.RunSteps.{sixel-bits, sixel-ones}
+use Rattle.reference.proofs.StepLaws.{sixel-least, sixel-bits}
+use Rattle.fast.proofs.RunSteps.{sixel-ones}
 use Rattle.fast.proofs.RunLaws.{ink-more, painted-more, ink-room}
 use Rattle.fast.specs.Run.{runInk, runPainted}
 use Rattle.fast.proofs.run.paint_sixels.Statement.{statement}

@@ -1,9 +1,11 @@
 -- `read_visible` meets its contract: the sixels that were painted need no more than the visible area, so that nothing had to grow.
+use Prim.Native.Nat.{_+_, _<_}
 use native.Mathlib.Omega.{arith}
 use borrow.Author.Needs.{needs}
 use denote.Ref.{now}
 use lib.ListN.{length}
-use Rattle.fast.proofs.RunLaws.{visible-advances, visible-room}
+use Rattle.fast.specs.Run.{Sixels}
+use Rattle.fast.proofs.RunLaws.{visible-advances, visible-room, planned-run}
 use Rattle.fast.proofs.run.read_visible.Statement.{statement}
 use Rattle.fast.proofs.run.read_visible.Tie as tie
 
@@ -23,18 +25,24 @@ start c = c .before .before .before .before .before
 as-repeated-requires : tie.Need-as-repeated-requires
 as-repeated-requires c κs = search needs
 
-mark-requires : tie.Need-mark-requires
-mark-requires c κs = search needs
-
-after-sixel-requires : tie.Need-after-sixel-requires
-after-sixel-requires c κs =
-    let whole = c .before in
-    let done = painted whole in
+-- what is asked of the run that is planned
+whole-run : (c : tie.After-as-repeated)
+    → Sixels (now (start (painted c) .args .bytes)) (start (painted c) .args .from) (start (painted c) .args .from + c .as-repeated .result .pen .repeat)
+    × (c .as-repeated .result .pen .column + c .as-repeated .result .pen .repeat < 18446744073709551616)
+    × (c .as-repeated .result .pen .row + 6 < 18446744073709551616)
+whole-run c =
+    let done = painted c in
     let s = start done in
     let a = s .args in
-    visible-room (a .frame) (a .ground) _ (length (now (a .canvas))) (whole .as-repeated .ensures) (s .pre .0) (omega arith)
-    (omega (arith, s .pre .4, done .blend-sixels .ensures .1))
-    (s .pre .5)
+    let sixels = done .blend-sixels .ensures in
+    planned-run (a .frame) (now (a .bytes)) (a .from) _ _ (c .as-repeated .ensures) (sixels .2)
+    (visible-room (a .frame) (a .ground) _ (length (now (a .canvas))) (s .pre .0) (omega arith) (omega (arith, s .pre .4, sixels .1)) (s .pre .5))
+
+extent-after-requires : tie.Need-extent-after-requires
+extent-after-requires c κs = whole-run c
+
+passed-requires : tie.Need-passed-requires
+passed-requires c κs = whole-run (c .before) .1
 
 add-advance-to : tie.Need-add-advance-to
 add-advance-to c =
@@ -51,7 +59,8 @@ same-length c = search needs
 returns : tie.Need-returns
 returns c =
     let after = c .before .before in
-    let whole = after .before .before in
+    let found = after .before in
+    let whole = found .before in
     let done = painted whole in
     let s = start done in
     let a = s .args in
@@ -63,9 +72,9 @@ returns c =
     (s .pre .5)
     (sixels .3)
     (sixels .4)
+    (found .extent-after .ensures)
     (whole .as-repeated .ensures)
-    (after .before .mark .ensures)
-    (after .after-sixel .ensures)
+    (after .passed .ensures)
     (c .advance-to .ensures)
     p
     left
@@ -77,8 +86,8 @@ read-visible-spec =
     (tie.spec
     blend-sixels-requires
     as-repeated-requires
-    mark-requires
-    after-sixel-requires
+    extent-after-requires
+    passed-requires
     add-advance-to
     advance-to-requires
     same-length
