@@ -42,6 +42,7 @@ progress feed_in_pieces(kind which, owlgantry_session *session, owlgantry_canvas
 void test_examples(void);
 void test_refusals(void);
 void test_calls(void);
+void test_marks(void);
 void test_damage(void);
 
 #endif

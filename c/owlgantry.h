@@ -13,7 +13,14 @@
  *
  * A canvas (rule 1.3) has four bytes a pixel: red, green, blue, alpha. Its stride is in pixels; its rows are its
  * length divided by 4 x stride, rounded down. A picture stands in its upper left corner, and the bytes outside the
- * picture stay as they were. A register of a palette is a number: red x 65,536 + green x 256 + blue. */
+ * picture stay as they were.
+ *
+ * A register of a palette is a number: its colour, red x 65,536 + green x 256 + blue, and OWLGANTRY_MARK, 2^24, more
+ * where it is marked. A mark says that a colour command defined the register, in this picture or an earlier one (rule
+ * 9.8). Whoever stores a number stores colour and mark together; owlgantry_set_color keeps the mark. An opening and a
+ * reading all at once take each number modulo 2^25, so that whatever a caller had above the mark is dropped, and a
+ * picture leaves colours and marks alone. A refusal, a session that is still open and one that is dropped leave the
+ * palette's numbers as they are, whatever they are. */
 #ifndef OWLGANTRY_H
 #define OWLGANTRY_H
 
@@ -21,7 +28,7 @@
 #include <stdint.h>
 
 /* The version that the file VERSION names; CHANGELOG.md says what it brings. */
-#define OWLGANTRY_VERSION "0.6.0"
+#define OWLGANTRY_VERSION "0.7.0"
 
 #if SIZE_MAX != UINT64_MAX
 #error "the reader is made for machines whose size_t has 64 bits"
@@ -32,6 +39,7 @@ extern "C" {
 #endif
 
 #define OWLGANTRY_REGISTERS 256
+#define OWLGANTRY_MARK 0x1000000u
 #define OWLGANTRY_SESSION_NUMBERS 48
 
 /* What every function answers but the palette's (rule 5.1; in which order, rules 5.2 and 5.3). A feed that is refused by
@@ -80,7 +88,8 @@ enum owlgantry_ratio_kind {
 #define OWLGANTRY_NO_PARAMETER UINT32_MAX
 
 /* A session lies in the caller's memory, in 1,408 bytes. All zeros are a failed session, and any content has a stated
- * answer. Dropping it is an abort. */
+ * answer. Dropping it is an abort. Its registers are its own until the finish: a number there has 2^25 more where this
+ * picture has defined the register (rule 9.9). */
 typedef struct {
     uint64_t numbers[OWLGANTRY_SESSION_NUMBERS];
     uint32_t registers[OWLGANTRY_REGISTERS];
@@ -88,24 +97,25 @@ typedef struct {
 
 /* Width and height are 1 to 1,000,000 each, repeats and pixels 1 to 10^12. The stride is 1 to 1,000,000 (rule 1.1). */
 
-/* The standard palette's 256 registers (rule 9.6). */
+/* The standard palette's 256 registers, none of them marked (rule 9.6). */
 void owlgantry_raw_standard_palette(uint32_t out[OWLGANTRY_REGISTERS]);
 
 /* Reads all at once (docs/RULES.md, section 8): the part after the first introducer and its header, or the whole where
  * there is no introducer. The palette becomes the picture's where there is one. Reports width, height, right, bottom,
- * the ratio's kind and number, 1 for a transparent background, and the place and the length of the payload among the
- * bytes. On a refusal the first seven are 0; on 2, 3, 8 and 11 the payload is empty, at the end of the bytes. */
+ * the ratio's kind and number, 1 for a transparent background, how many registers the picture defined, and the place
+ * and the length of the payload among the bytes. On a refusal the first eight are 0; on 2, 3, 8 and 11 the payload is
+ * empty, at the end of the bytes. */
 uint64_t owlgantry_raw_read(size_t width, size_t height, size_t repeats, size_t pixels, size_t stride, uint8_t *canvas,
                             size_t canvas_length, const uint8_t *bytes, size_t bytes_length,
-                            uint32_t palette[OWLGANTRY_REGISTERS], uint64_t report[9]);
+                            uint32_t palette[OWLGANTRY_REGISTERS], uint64_t report[10]);
 
 /* Copies a picture's rows, tightly packed, to the front of `out`, whose later bytes stay. Answers 0, 12 or 14
  * (docs/RULES.md, section 10). */
 uint64_t owlgantry_raw_copy(const uint8_t *canvas, size_t canvas_length, size_t stride, size_t width, size_t height,
                             uint8_t *out, size_t out_length);
 
-/* Opens a session for a payload, and gives pixel (0, 0) the background. The palette is copied into the session. Answers
- * 0 or 11; on 11 the session is a failed one and nothing of the canvas is written. */
+/* Opens a session for a payload, and gives pixel (0, 0) the background. The palette's colours and marks are copied into
+ * the session. Answers 0 or 11; on 11 the session is a failed one and nothing of the canvas is written. */
 uint64_t owlgantry_raw_payload_open(size_t width, size_t height, size_t repeats, size_t pixels, size_t stride,
                                     uint32_t p1, uint32_t p2, uint8_t *canvas, size_t canvas_length,
                                     const uint32_t palette[OWLGANTRY_REGISTERS],
@@ -119,12 +129,12 @@ uint64_t owlgantry_raw_payload_feed(uint64_t session[OWLGANTRY_SESSION_NUMBERS],
                                     uint32_t registers[OWLGANTRY_REGISTERS], uint8_t *canvas, size_t canvas_length,
                                     const uint8_t *bytes, size_t bytes_length, size_t allowance, uint64_t report[4]);
 
-/* Carries a pending command out and reports the seven numbers that owlgantry_raw_read reports first. The palette
- * becomes the session's; on a refusal it stays as it was, the canvas too, and the report is seven zeros. The session's
- * numbers are zeros afterwards. */
+/* Carries a pending command out and reports the eight numbers that owlgantry_raw_read reports first. The palette gets
+ * the session's colours and marks; on a refusal it stays as it was, the canvas too, and the report is eight zeros. The
+ * session's numbers are zeros afterwards. */
 uint64_t owlgantry_raw_payload_finish(uint64_t session[OWLGANTRY_SESSION_NUMBERS],
                                       const uint32_t registers[OWLGANTRY_REGISTERS], uint8_t *canvas,
-                                      size_t canvas_length, uint32_t palette[OWLGANTRY_REGISTERS], uint64_t report[7]);
+                                      size_t canvas_length, uint32_t palette[OWLGANTRY_REGISTERS], uint64_t report[8]);
 
 /* The same for a whole DCS sequence: introducer, header, payload and its end. Opening takes the length of the canvas
  * and writes nothing to it; pixel (0, 0) gets the background at `q`. Before an end, a finish answers 8. */
@@ -140,7 +150,7 @@ uint64_t owlgantry_raw_dcs_feed(uint64_t session[OWLGANTRY_SESSION_NUMBERS], uin
 
 uint64_t owlgantry_raw_dcs_finish(uint64_t session[OWLGANTRY_SESSION_NUMBERS],
                                   const uint32_t registers[OWLGANTRY_REGISTERS], uint8_t *canvas, size_t canvas_length,
-                                  uint32_t palette[OWLGANTRY_REGISTERS], uint64_t report[7]);
+                                  uint32_t palette[OWLGANTRY_REGISTERS], uint64_t report[8]);
 
 #ifdef __cplusplus
 }
@@ -163,9 +173,10 @@ typedef struct {
 } owlgantry_fed;
 
 /* Right and bottom are the extent (rule 4.4): one past the last column and one past the last row that hold a painted
- * pixel, or 0 and 0 where nothing was painted. A crop to them loses no ink. */
+ * pixel, or 0 and 0 where nothing was painted. A crop to them loses no ink. Defined is how many registers the picture's
+ * colour commands defined, each counted once, 0 to 256, whichever were marked before (rule 9.9). */
 typedef struct {
-    uint64_t width, height, right, bottom, ratio_kind, ratio, transparent;
+    uint64_t width, height, right, bottom, ratio_kind, ratio, transparent, defined;
 } owlgantry_picture;
 
 /* The payload among the bytes. */
@@ -209,7 +220,7 @@ static inline owlgantry_fed owlgantry_fed_of(const uint64_t report[4]) {
     return fed;
 }
 
-static inline owlgantry_picture owlgantry_picture_of(const uint64_t report[7]) {
+static inline owlgantry_picture owlgantry_picture_of(const uint64_t report[8]) {
     owlgantry_picture picture;
     picture.width = report[0];
     picture.height = report[1];
@@ -218,6 +229,7 @@ static inline owlgantry_picture owlgantry_picture_of(const uint64_t report[7]) {
     picture.ratio_kind = report[4];
     picture.ratio = report[5];
     picture.transparent = report[6];
+    picture.defined = report[7];
     return picture;
 }
 
@@ -225,15 +237,38 @@ static inline void owlgantry_standard_palette(uint32_t out[OWLGANTRY_REGISTERS])
     owlgantry_raw_standard_palette(out);
 }
 
+/* A register's number; 255's above 255. */
+static inline uint32_t owlgantry_register(const uint32_t palette[OWLGANTRY_REGISTERS], size_t index) {
+    return palette[index < OWLGANTRY_REGISTERS ? index : OWLGANTRY_REGISTERS - 1];
+}
+
+/* A register's colour, red x 65,536 + green x 256 + blue. */
+static inline uint32_t owlgantry_color(const uint32_t palette[OWLGANTRY_REGISTERS], size_t index) {
+    return owlgantry_register(palette, index) % OWLGANTRY_MARK;
+}
+
+/* 1 where a register is marked, else 0. */
+static inline int owlgantry_is_marked(const uint32_t palette[OWLGANTRY_REGISTERS], size_t index) {
+    return owlgantry_register(palette, index) / OWLGANTRY_MARK % 2 == 1;
+}
+
+/* Gives a register another colour. Its mark stays, and nothing is left above it. There is no register above 255, and
+ * nothing changes then. */
+static inline void owlgantry_set_color(uint32_t palette[OWLGANTRY_REGISTERS], size_t index, uint32_t color) {
+    if (index < OWLGANTRY_REGISTERS) {
+        palette[index] = palette[index] / OWLGANTRY_MARK % 2 * OWLGANTRY_MARK + color % OWLGANTRY_MARK;
+    }
+}
+
 static inline uint64_t owlgantry_read(owlgantry_limits limits, owlgantry_canvas canvas, const void *bytes, size_t count,
                                       uint32_t palette[OWLGANTRY_REGISTERS], owlgantry_picture *picture,
                                       owlgantry_part *part) {
-    uint64_t report[9];
+    uint64_t report[10];
     uint64_t refusal = owlgantry_raw_read(limits.width, limits.height, limits.repeats, limits.pixels, canvas.stride,
                                           canvas.bytes, canvas.length, (const uint8_t *)bytes, count, palette, report);
     *picture = owlgantry_picture_of(report);
-    part->place = report[7];
-    part->length = report[8];
+    part->place = report[8];
+    part->length = report[9];
     return refusal;
 }
 
@@ -260,7 +295,7 @@ static inline uint64_t owlgantry_payload_feed(owlgantry_session *session, owlgan
 
 static inline uint64_t owlgantry_payload_finish(owlgantry_session *session, owlgantry_canvas canvas,
                                                 uint32_t palette[OWLGANTRY_REGISTERS], owlgantry_picture *picture) {
-    uint64_t report[7];
+    uint64_t report[8];
     uint64_t refusal = owlgantry_raw_payload_finish(session->numbers, session->registers, canvas.bytes, canvas.length,
                                                     palette, report);
     *picture = owlgantry_picture_of(report);
@@ -284,7 +319,7 @@ static inline uint64_t owlgantry_dcs_feed(owlgantry_session *session, owlgantry_
 
 static inline uint64_t owlgantry_dcs_finish(owlgantry_session *session, owlgantry_canvas canvas,
                                             uint32_t palette[OWLGANTRY_REGISTERS], owlgantry_picture *picture) {
-    uint64_t report[7];
+    uint64_t report[8];
     uint64_t refusal =
         owlgantry_raw_dcs_finish(session->numbers, session->registers, canvas.bytes, canvas.length, palette, report);
     *picture = owlgantry_picture_of(report);

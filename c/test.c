@@ -5,6 +5,7 @@ int main(void) {
     test_examples();
     test_refusals();
     test_calls();
+    test_marks();
     test_damage();
     summary();
     return found_differences();

@@ -55,6 +55,16 @@ static uint64_t finish_one(kind which) {
                             : owlgantry_raw_dcs_finish(numbers, registers, canvas, LENGTH, palette, report);
 }
 
+/* Every number of a palette that a picture hands on is a colour and a mark. */
+static int has_colours_and_marks_alone(void) {
+    for (size_t at = 0; at < OWLGANTRY_REGISTERS; at++) {
+        if (palette[at] >= 2 * OWLGANTRY_MARK) {
+            return 0;
+        }
+    }
+    return 1;
+}
+
 /* Feeds whatever lies in the session's memory. */
 static void check_feeds(const char *name, kind which) {
     for (size_t at = 0; at < sizeof streams / sizeof *streams; at++) {
@@ -70,10 +80,15 @@ static void check_feeds(const char *name, kind which) {
 }
 
 static void check_finish(const char *name, kind which) {
+    uint32_t owner[OWLGANTRY_REGISTERS];
+    memcpy(owner, palette, sizeof owner);
     uint64_t answer = finish_one(which);
     holds(name, "a finish answers 0, 4 to 9 or 12", answer == 0 || (answer >= 4 && answer <= 9) || answer == 12);
     holds(name, "a refused finish reports zeros",
-          answer == 0 || (report[0] | report[1] | report[2] | report[3] | report[6]) == 0);
+          answer == 0 || (report[0] | report[1] | report[2] | report[3] | report[6] | report[7]) == 0);
+    holds(name, "no more than all registers are defined", report[7] <= OWLGANTRY_REGISTERS);
+    holds(name, "a refused finish leaves the palette", answer == 0 || memcmp(palette, owner, sizeof owner) == 0);
+    holds(name, "a picture hands on colours and marks", answer != 0 || has_colours_and_marks_alone());
     for (size_t at = 0; at < OWLGANTRY_SESSION_NUMBERS; at++) {
         same(name, "a number after a finish", numbers[at], 0);
     }
@@ -157,7 +172,8 @@ static void lower_the_limit(kind which, const char *text) {
     same(name, "the finish", finish_session(which, session, eight, palette, &picture), 0);
     same(name, "width", picture.width, 8);
     same(name, "height", picture.height, 6);
-    same(name, "register 1", palette[1], 0xff0000);
+    same(name, "register 1", palette[1], 0xff0000 + OWLGANTRY_MARK);
+    same(name, "defined", picture.defined, 1);
     for (size_t pixel = 0; pixel < 8 * 6; pixel++) {
         holds(name, "the picture is red", memcmp(eight.bytes + 4 * pixel, "\xff\0\0\xff", 4) == 0);
     }
@@ -168,7 +184,7 @@ void test_damage(void) {
     numbers = lend(8 * OWLGANTRY_SESSION_NUMBERS);
     registers = lend(4 * OWLGANTRY_REGISTERS);
     palette = lend(4 * OWLGANTRY_REGISTERS);
-    report = lend(8 * 7);
+    report = lend(8 * 8);
     canvas = lend(LENGTH);
     stream = lend(64);
     owlgantry_standard_palette(palette);

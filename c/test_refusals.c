@@ -138,7 +138,7 @@ static void check_committed(kind which) {
     same(name, "the feed", fed.refusal, 0);
     holds(name, "is the owner's before the finish", memcmp(palette, owner, sizeof owner) == 0);
     same(name, "the finish", finish_session(which, &session, canvas, palette, &picture), 0);
-    owner[1] = 0xff0000;
+    owner[1] = 0xff0000 + OWLGANTRY_MARK;
     holds(name, "is the session's after the finish", memcmp(palette, owner, sizeof owner) == 0);
     for (size_t at = 0; at < OWLGANTRY_SESSION_NUMBERS; at++) {
         same(name, "a number of a finished session", session.numbers[at], 0);

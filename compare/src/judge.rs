@@ -1,7 +1,7 @@
 //! One trial put to a reader, and every answer compared with the oracle's and with the count.
 use crate::expected::{settings, Expected};
-use crate::model::{Bounds, Model, ALL_READ, STOPPED};
-use crate::reader::{Reader, GUARD, SESSION, UNWRITTEN};
+use crate::model::{Bounds, Marks, Model, ALL_READ, STOPPED};
+use crate::reader::{Reader, Registers, FRAME, GUARD, MARK, SESSION, UNWRITTEN};
 use crate::same::{differs, pixels, same, same_call, Difference, Same};
 use crate::tally::{Calls, Tally};
 use crate::trial::{Trial, LEAST};
@@ -18,12 +18,12 @@ pub fn judge(trial: &Trial, expected: &Expected, reader: &mut dyn Reader) -> Res
         rows: ((expected.opening.buffer.len() - 2 * GUARD) / (4 * expected.opening.stride)) as u64,
     };
     let mut calls = Calls::default();
-    if trial.entry == Entry::OneShot {
-        whole(trial, expected, reader, bounds)?;
+    let defined = if trial.entry == Entry::OneShot {
+        whole(trial, expected, reader, bounds)?
     } else {
-        session(trial, expected, reader, bounds, &mut calls)?;
-    }
-    memory(trial, expected, reader)?;
+        session(trial, expected, reader, bounds, &mut calls)?
+    };
+    memory(trial, expected, &defined, reader)?;
     if expected.answer.refusal == 0 && !trial.abort {
         copied(trial, expected, reader)?;
     }
@@ -33,8 +33,8 @@ pub fn judge(trial: &Trial, expected: &Expected, reader: &mut dyn Reader) -> Res
     Ok(Tally::new(trial, &expected.answer, &calls))
 }
 
-/// Reading all at once.
-fn whole(trial: &Trial, expected: &Expected, reader: &mut dyn Reader, bounds: Bounds) -> Same {
+/// Reading all at once. Answers the registers that were defined, by the count.
+fn whole(trial: &Trial, expected: &Expected, reader: &mut dyn Reader, bounds: Bounds) -> Result<Marks, Difference> {
     let bytes = trial.stream();
     let (number, report) = reader.read(&expected.opening, &bytes);
     same("refusal", number, u64::from(expected.answer.refusal))?;
@@ -42,16 +42,30 @@ fn whole(trial: &Trial, expected: &Expected, reader: &mut dyn Reader, bounds: Bo
     same("payload's length", size, expected.answer.part as u64)?;
     same("payload's place", place, (bytes.len() - expected.answer.part) as u64)?;
     let nothing = &mut |_| ();
+    let mut defined = [false; 256];
     let counted = values::part(&bytes).and_then(|(settings, place)| {
         let mut model = Model::payload(bounds, settings, nothing);
         model.feed(&bytes[place..], u64::MAX, nothing)?;
-        model.finish(nothing)
+        let report = model.finish(nothing);
+        defined = model.defined;
+        report
     });
-    finished(expected, (number, finish), counted)
+    finished(expected, (number, finish), counted)?;
+    Ok(defined)
 }
 
-fn session(trial: &Trial, expected: &Expected, reader: &mut dyn Reader, bounds: Bounds, calls: &mut Calls) -> Same {
+/// A session to its end. Answers as `whole` does.
+fn session(
+    trial: &Trial,
+    expected: &Expected,
+    reader: &mut dyn Reader,
+    bounds: Bounds,
+    calls: &mut Calls,
+) -> Result<Marks, Difference> {
     same("opening", reader.open(&expected.opening), 0)?;
+    if trial.poked {
+        same("registers of the session", reader.memory().registers, lasting(expected.opening.palette))?;
+    }
     let nothing = &mut |_| ();
     let mut model = match trial.entry {
         Entry::Dcs => Model::dcs(bounds),
@@ -69,15 +83,17 @@ fn session(trial: &Trial, expected: &Expected, reader: &mut dyn Reader, bounds: 
     if calls.refused != 0 {
         same("refusal", (calls.refused, false), (u64::from(answer.refusal), answer.at_finish))?;
         same("feed after a refusal", reader.feed(b"~", LEAST, 0), (9, [0; 4]))?;
-        return same("finish after a refusal", reader.finish(), (9, [0; 7]));
+        same("finish after a refusal", reader.finish(), (9, [0; 8]))?;
+        return Ok(model.defined);
     }
     same("refusal in a feed", false, answer.refusal != 0 && !answer.at_finish)?;
     if trial.abort {
-        return Ok(());
+        return Ok(model.defined);
     }
     let (number, report) = reader.finish();
     same("refusal", number, u64::from(answer.refusal))?;
-    finished(expected, (number, report), model.finish(nothing))
+    finished(expected, (number, report), model.finish(nothing))?;
+    Ok(model.defined)
 }
 
 /// A piece, and again what a stop left unread of it.
@@ -176,10 +192,10 @@ fn status(entry: Entry, [how, _, _, byte]: [u64; 4]) -> Status {
 ///
 /// The Rust has no extent to compare with: its reach counts blank columns and whole bands. But where the background is
 /// clear, the opaque pixels of its picture are just the painted ones.
-fn finished(expected: &Expected, ours: (u64, [u64; 7]), counted: Result<[u64; 7], u64>) -> Same {
+fn finished(expected: &Expected, ours: (u64, [u64; 8]), counted: Result<[u64; 8], u64>) -> Same {
     let (number, report) = ours;
     if number == 0 {
-        let [width, height, right, bottom, kind, ratio, transparent] = report;
+        let [width, height, right, bottom, kind, ratio, transparent, _] = report;
         let answer = &expected.answer;
         same("size", [width, height], answer.size.map(|side| side as u64))?;
         if !answer.opaque {
@@ -193,8 +209,9 @@ fn finished(expected: &Expected, ours: (u64, [u64; 7]), counted: Result<[u64; 7]
         same("ratio", vertical, u16::from(answer.ratio))?;
         same("background", transparent, u64::from(!answer.opaque))?;
     }
-    let counted = counted.map_or_else(|number| (number, [0; 7]), |report| (0, report));
+    let counted = counted.map_or_else(|number| (number, [0; 8]), |report| (0, report));
     same("extent", &report[2..4], &counted.1[2..4])?;
+    same("registers defined", report[7], counted.1[7])?;
     same("finish's numbers", (number, report), counted)
 }
 
@@ -209,21 +226,35 @@ fn opaque_box([width, _]: [usize; 2], pixels: &[u8]) -> [u64; 2] {
     sides.map(|side| side as u64)
 }
 
-/// Every byte that was lent.
-fn memory(trial: &Trial, expected: &Expected, reader: &mut dyn Reader) -> Same {
-    let (answer, opening) = (&expected.answer, &expected.opening);
-    let memory = reader.memory();
-    let theirs = if answer.refusal == 0 && !trial.abort { &expected.after } else { &expected.before };
-    same("oracle's registers", expected.after == *theirs, true)?;
-    for (register, (ours, theirs)) in memory.palette.iter().zip(theirs).enumerate() {
-        if ours != theirs {
-            return Err(differs(
-                &format!("palette, register {register}"),
-                format!("{ours:06X}"),
-                format!("{theirs:06X}"),
-            ));
+fn lasting(registers: Registers) -> Registers {
+    registers.map(|number| number % FRAME)
+}
+
+/// The palette's numbers: where a picture is committed, the oracle's colours, and the marks of before with those of the
+/// registers that were defined; else what they were, whatever that was.
+fn palette(trial: &Trial, expected: &Expected, defined: &Marks, ours: &Registers) -> Same {
+    let before = expected.opening.palette;
+    let committed = expected.answer.refusal == 0 && !trial.abort;
+    if !committed {
+        same("oracle's registers", expected.after, expected.before)?;
+    }
+    for (register, &number) in ours.iter().enumerate() {
+        let mark = before[register] & MARK | if defined[register] { MARK } else { 0 };
+        let theirs = if committed { expected.after[register] | mark } else { before[register] };
+        let colour = number % MARK == theirs % MARK;
+        if number != theirs {
+            let what = if colour { "mark of register" } else { "palette, register" };
+            return Err(differs(&format!("{what} {register}"), format!("{number:08X}"), format!("{theirs:08X}")));
         }
     }
+    Ok(())
+}
+
+/// Every byte that was lent.
+fn memory(trial: &Trial, expected: &Expected, defined: &Marks, reader: &mut dyn Reader) -> Same {
+    let (answer, opening) = (&expected.answer, &expected.opening);
+    let memory = reader.memory();
+    palette(trial, expected, defined, &memory.palette)?;
     let (session, behind) = memory.session.split_at(SESSION);
     same("what lies behind the session", behind.iter().all(|&number| number == UNWRITTEN), true)?;
     if trial.entry != Entry::OneShot && !trial.abort {

@@ -1,7 +1,7 @@
 //! The rules of reading (docs/RULES.md), without pixels and colours: what each call has to answer, and the ink of every draw.
 //!
-//! Written from the document and not from either reader, so that calls, stops, ink and extent are counted by a third
-//! party.
+//! Written from the document and not from either reader, so that calls, stops, ink, extent and the registers that are
+//! defined are counted by a third party.
 use crate::values::{ends, header_byte, skipped, Settings, Values};
 
 /// What a session is opened with: W, H, R, M, and the canvas's stride and rows.
@@ -24,6 +24,9 @@ pub type Effects<'a> = &'a mut dyn FnMut(Effect);
 
 /// A call's report: how, bytes consumed, ink, the byte of an end.
 pub type Fed = [u64; 4];
+
+/// One for each register.
+pub type Marks = [bool; 256];
 
 pub const ALL_READ: u64 = 0;
 pub const STOPPED: u64 = 1;
@@ -80,6 +83,8 @@ pub struct Model {
     extent: [u64; 2],
     ratio: Option<u64>,
     kept: [u64; 2],
+    /// The registers that a colour command has defined, in this frame.
+    pub defined: Marks,
     /// The ink of all draws, those of a refused call too.
     pub ink: u128,
 }
@@ -106,6 +111,7 @@ impl Model {
             extent: [0, 0],
             ratio: None,
             kept: [0, 0],
+            defined: [false; 256],
             ink: 0,
         }
     }
@@ -261,7 +267,13 @@ impl Model {
             Command::Nothing => {}
             Command::Repeat(number) if number > u128::from(self.bounds.limits[2]) => return Err(4),
             Command::Repeat(number) => self.repeat = (number as u64).max(1),
-            Command::Colour(values) => effects(Effect::Colour { values: values.all() }),
+            Command::Colour(values) => {
+                let values = values.all();
+                if let [register, 1 | 2, _, _, _] = values[..] {
+                    self.defined[register.min(255) as usize] = true;
+                }
+                effects(Effect::Colour { values });
+            }
             Command::Raster(values) => self.raster(&values.all(), effects)?,
         }
         Ok(())
@@ -286,8 +298,8 @@ impl Model {
         Ok(())
     }
 
-    /// The seven numbers of a finish.
-    pub fn finish(&mut self, effects: Effects) -> Result<[u64; 7], u64> {
+    /// The eight numbers of a finish.
+    pub fn finish(&mut self, effects: Effects) -> Result<[u64; 8], u64> {
         match self.phase {
             Phase::Failed => return Err(9),
             Phase::End(..) => {}
@@ -301,7 +313,8 @@ impl Model {
             (None, None) => [0, 0],
         };
         let transparent = u64::from(self.settings[1] == Some(1));
-        Ok([self.area[0], self.area[1], self.extent[0], self.extent[1], kind, number, transparent])
+        let defined = self.defined.iter().filter(|&&defined| defined).count() as u64;
+        Ok([self.area[0], self.area[1], self.extent[0], self.extent[1], kind, number, transparent, defined])
     }
 }
 

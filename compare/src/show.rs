@@ -22,7 +22,9 @@ pub fn trial(trial: &Trial) -> String {
     }
     let [columns, rows, bytes] = trial.room;
     out += &format!("  allowances {:?}; {columns} columns, {rows} rows, {bytes} bytes of room", trial.allowances);
-    out + if trial.poked { "; poked" } else { "" } + if trial.watched { "; watched\n" } else { "\n" }
+    let said = [(trial.poked, "; poked"), (trial.watched, "; watched"), (trial.noisy(), "; noise in the palette")];
+    said.iter().filter(|(so, _)| *so).for_each(|(_, words)| out += words);
+    out + "\n"
 }
 
 pub fn difference(difference: &Difference) -> String {

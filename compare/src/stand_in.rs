@@ -1,6 +1,6 @@
 //! A test double of the proved reader: the model with a canvas and colours.
 use crate::model::{Bounds, Effect, Model};
-use crate::reader::{Memory, Opening, Reader, Registers, SESSION};
+use crate::reader::{Memory, Opening, Reader, Registers, FRAME, MARK, SESSION};
 use crate::values::{self, Settings};
 use oracle::decoder::{peek_hls, peek_percent};
 use oracle::SixelDecoder;
@@ -27,7 +27,7 @@ impl StandIn {
 
     fn start(&mut self, opening: &Opening) -> Bounds {
         self.memory = Memory::of(opening);
-        self.memory.registers = opening.palette;
+        self.memory.registers = lasting(opening.palette);
         self.memory.session[..SESSION].fill(1);
         self.canvas = Canvas { stride: opening.stride, ..Canvas::default() };
         let rows = self.memory.canvas().len() / (4 * opening.stride);
@@ -56,7 +56,7 @@ impl Canvas {
                 if let [_, space @ (1 | 2), a, b, c] = values[..] {
                     let [a, b, c] = [a, b, c].map(|value| value as i32);
                     let [r, g, b] = if space == 1 { peek_hls(a, b, c) } else { [a, b, c].map(peek_percent) };
-                    registers[register] = u32::from_be_bytes([0, r, g, b]);
+                    registers[register] = FRAME + MARK + u32::from_be_bytes([0, r, g, b]);
                 }
                 self.colour = rgba(registers[register]);
             }
@@ -77,6 +77,11 @@ impl Canvas {
     fn pixel(&self, bytes: &mut [u8], x: usize, y: usize, colour: [u8; 4]) {
         bytes[4 * (y * self.stride + x)..][..4].copy_from_slice(&colour);
     }
+}
+
+/// Colours and marks alone.
+fn lasting(registers: Registers) -> Registers {
+    registers.map(|number| number % FRAME)
 }
 
 fn rgba(packed: u32) -> [u8; 4] {
@@ -117,7 +122,7 @@ impl Reader for StandIn {
         numbered(fed)
     }
 
-    fn finish(&mut self) -> (u64, [u64; 7]) {
+    fn finish(&mut self) -> (u64, [u64; 8]) {
         let Self { memory, canvas, model } = self;
         let mut registers = memory.registers;
         let lent = memory.canvas();
@@ -125,17 +130,17 @@ impl Reader for StandIn {
         let finished = model.as_mut().expect("a session is open").finish(effects);
         memory.session[..SESSION].fill(0);
         if finished.is_ok() {
-            memory.palette = registers;
+            memory.palette = lasting(registers);
         }
         numbered(finished)
     }
 
-    fn read(&mut self, opening: &Opening, bytes: &[u8]) -> (u64, [u64; 9]) {
+    fn read(&mut self, opening: &Opening, bytes: &[u8]) -> (u64, [u64; 10]) {
         let bounds = self.start(opening);
         let end = bytes.len() as u64;
         let (settings, place) = match values::part(bytes) {
             Ok(found) => found,
-            Err(number) => return (number, [0, 0, 0, 0, 0, 0, 0, end, 0]),
+            Err(number) => return (number, [0, 0, 0, 0, 0, 0, 0, 0, end, 0]),
         };
         let Self { memory, canvas, .. } = self;
         let mut registers = memory.registers;
@@ -145,10 +150,10 @@ impl Reader for StandIn {
         let fed = model.feed(&bytes[place..], u64::MAX, effects);
         let finished = fed.and_then(|_| model.finish(effects));
         if finished.is_ok() {
-            memory.palette = registers;
+            memory.palette = lasting(registers);
         }
-        let (number, [w, h, right, bottom, kind, ratio, transparent]) = numbered(finished);
-        (number, [w, h, right, bottom, kind, ratio, transparent, place as u64, end - place as u64])
+        let (number, [w, h, right, bottom, kind, ratio, transparent, defined]) = numbered(finished);
+        (number, [w, h, right, bottom, kind, ratio, transparent, defined, place as u64, end - place as u64])
     }
 
     fn copy(&mut self, [width, height]: [usize; 2], mut out: Vec<u8>) -> (u64, Vec<u8>) {

@@ -2,7 +2,7 @@
 use crate::expected::Expected;
 use crate::judge::judge;
 use crate::model::{Bounds, Model};
-use crate::reader::{Memory, Opening, Reader, Registers, GUARD, SESSION};
+use crate::reader::{Memory, Opening, Reader, Registers, FRAME, GUARD, MARK, SESSION};
 use crate::run::{difference, smallest};
 use crate::shrink::shrink;
 use crate::stand_in::StandIn;
@@ -29,7 +29,21 @@ enum Damage {
     ExtentInBands,
     /// One that counts what has only grown.
     ExtentOfSize,
+    /// A count of the registers that are marked in the end.
+    DefinedOfMarked,
     Palette,
+    /// A picture that marks one register too many.
+    MarkTooMany,
+    /// One that leaves only the marks of its own.
+    MarksOfBefore,
+    /// One that marks nothing.
+    MarksOfPicture,
+    /// One that says in its owner's palette what it has defined.
+    Frame,
+    /// A refusal that tidies its owner's numbers up.
+    Tidied,
+    /// An opening that leaves what is above the marks.
+    Noise,
     Copy,
     CopyNumber,
     ShortCopy,
@@ -52,21 +66,29 @@ struct Damaged {
     inner: StandIn,
     damage: Damage,
     memory: Memory,
+    /// The palette at the opening.
+    owner: Registers,
     ended: bool,
+    committed: bool,
 }
 
 impl Damaged {
     fn new(damage: Damage) -> Self {
-        Self { inner: StandIn::new(), damage, memory: Memory::empty(), ended: false }
+        let (inner, memory) = (StandIn::new(), Memory::empty());
+        Self { inner, damage, memory, owner: [0; 256], ended: false, committed: false }
     }
 
     fn is(&self, damage: Damage) -> bool {
         self.damage == damage
     }
 
-    /// Puts a wrong extent into the report of a picture.
-    fn stretch(&self, number: u64, report: &mut [u64]) {
+    /// Puts a wrong extent or count into the report of a picture.
+    fn stretch(&mut self, number: u64, report: &mut [u64]) {
         match self.damage {
+            Damage::DefinedOfMarked if number == 0 => {
+                let marked = self.inner.memory().palette.iter().filter(|&&number| number & MARK != 0);
+                report[7] = marked.count() as u64;
+            }
             Damage::ExtentNotEmpty if number == 0 => report[2..4].iter_mut().for_each(|side| *side = (*side).max(1)),
             Damage::ExtentInBands => report[3] = report[3].next_multiple_of(6),
             Damage::ExtentOfSize => report.copy_within(..2, 2),
@@ -77,7 +99,8 @@ impl Damaged {
 
 impl Reader for Damaged {
     fn open(&mut self, opening: &Opening) -> u64 {
-        self.ended = false;
+        (self.ended, self.committed) = (false, false);
+        self.owner = opening.palette;
         self.inner.open(opening) + if self.is(Damage::Opening) { 11 } else { 0 }
     }
 
@@ -98,9 +121,10 @@ impl Reader for Damaged {
         (if self.is(Damage::FeedNumber) && number != 0 { number + 1 } else { number }, report)
     }
 
-    fn finish(&mut self) -> (u64, [u64; 7]) {
+    fn finish(&mut self) -> (u64, [u64; 8]) {
         self.ended = true;
         let (number, mut report) = self.inner.finish();
+        self.committed = number == 0;
         self.stretch(number, &mut report);
         if let Damage::Finish(place) = self.damage {
             report[place] += 1;
@@ -108,8 +132,10 @@ impl Reader for Damaged {
         (if self.is(Damage::FinishNumber) && number != 0 { number + 1 } else { number }, report)
     }
 
-    fn read(&mut self, opening: &Opening, bytes: &[u8]) -> (u64, [u64; 9]) {
+    fn read(&mut self, opening: &Opening, bytes: &[u8]) -> (u64, [u64; 10]) {
+        self.owner = opening.palette;
         let (number, mut report) = self.inner.read(opening, bytes);
+        self.committed = number == 0;
         self.stretch(number, &mut report);
         if let Damage::Read(place) = self.damage {
             report[place] += 1;
@@ -137,7 +163,21 @@ impl Reader for Damaged {
     fn memory(&mut self) -> &Memory {
         self.memory = self.inner.memory().clone();
         let end = self.memory.buffer.len();
+        let owner = self.owner;
+        let numbers = self.memory.palette.iter_mut().zip(owner);
         match self.damage {
+            Damage::MarkTooMany if self.committed => self.memory.palette[77] |= MARK,
+            Damage::MarksOfBefore if self.committed => {
+                numbers.for_each(|(number, before)| *number -= *number & before & MARK);
+            }
+            Damage::MarksOfPicture if self.committed => {
+                numbers.for_each(|(number, before)| *number = *number % MARK | before & MARK);
+            }
+            Damage::Frame if self.committed => {
+                numbers.for_each(|(number, before)| *number |= FRAME * u32::from(*number & !before & MARK != 0));
+            }
+            Damage::Tidied if !self.committed => numbers.for_each(|(number, _)| *number %= FRAME),
+            Damage::Noise => self.memory.registers[5] = owner[5],
             Damage::Palette => self.memory.palette[255] ^= 1,
             Damage::Session => self.memory.session[SESSION - 1] ^= 1,
             Damage::Behind => self.memory.session[SESSION] ^= 1,
@@ -180,6 +220,7 @@ fn every_damage_is_noticed() {
         Finish(4),
         Finish(5),
         Finish(6),
+        Finish(7),
         FinishNumber,
         Read(0),
         Read(1),
@@ -190,11 +231,19 @@ fn every_damage_is_noticed() {
         Read(6),
         Read(7),
         Read(8),
+        Read(9),
         ReadNumber,
         ExtentNotEmpty,
         ExtentInBands,
         ExtentOfSize,
+        DefinedOfMarked,
         Palette,
+        MarkTooMany,
+        MarksOfBefore,
+        MarksOfPicture,
+        Frame,
+        Tidied,
+        Noise,
         Copy,
         CopyNumber,
         ShortCopy,
@@ -269,6 +318,8 @@ fn each_field_is_named() {
     }
     assert!(found(Damage::ExtentOfSize).is_some_and(|what| what.starts_with("extent")));
     assert!(found(Damage::Palette).is_some_and(|what| what.starts_with("palette")));
+    assert!(found(Damage::DefinedOfMarked).is_some_and(|what| what == "registers defined"));
+    assert!(found(Damage::MarkTooMany).is_some_and(|what| what == "mark of register 77"));
     assert!(found(Damage::Before).is_some_and(|what| what.contains("outside the picture")));
 }
 
@@ -302,6 +353,40 @@ fn the_extent_is_that_of_the_painted_pixels() {
     ];
     for (payload, extent) in others {
         assert_eq!(counted(payload), extent, "{payload}");
+    }
+}
+
+/// The count by itself, of registers that colour commands define.
+#[test]
+fn a_register_is_defined_by_five_values_in_a_known_space() {
+    let bounds = Bounds { limits: [64, 64, 64, 4_096], stride: 64, rows: 64 };
+    let nothing = &mut |_| ();
+    let mut counted = |payload: &str| {
+        let mut model = Model::payload(bounds, [None; 2], nothing);
+        let fed = model.feed(payload.as_bytes(), u64::MAX, nothing);
+        let report = fed.and_then(|_| model.finish(nothing)).expect("a picture");
+        let registers: Vec<usize> = (0..256).filter(|&register| model.defined[register]).collect();
+        assert_eq!(report[7], registers.len() as u64, "{payload}");
+        registers
+    };
+    for none in
+        ["", "#", "#1~", "#1;2;3;4~", "#1;0;3;4;5~", "#1;3;3;4;5~", "#1;;3;4;5~", "\"1;2;3;4;5~", "~\x1b#1;2;3;4;5"]
+    {
+        assert_eq!(counted(none), [], "{none}");
+    }
+    let others: [(&str, &[usize]); 9] = [
+        ("#1;2;3;4;5~", &[1]),
+        ("#1;1;3;4;5~", &[1]),
+        ("#1;2;3;4;~", &[1]),
+        ("#1;2;3;4;5;6;7~", &[1]),
+        ("#;2;3;4;5", &[0]),
+        ("#256;2;3;4;5#300;2;3;4;5#255;2;3;4;5~", &[255]),
+        ("#7;2;3;4;5#7;1;3;4;5~#7;2;3;4;5", &[7]),
+        ("#1;2;20;20;80", &[1]),
+        ("#1;2;3;4;5#2;2;3;4;5\x1b#3;2;3;4;5", &[1, 2]),
+    ];
+    for (payload, registers) in others {
+        assert_eq!(counted(payload), registers, "{payload}");
     }
 }
 

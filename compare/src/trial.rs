@@ -52,6 +52,11 @@ impl Trial {
         }
     }
 
+    /// Whether the palette's numbers have noise above their colours: marks, and what an opening drops.
+    pub fn noisy(&self) -> bool {
+        self.fill % 2 == 1
+    }
+
     pub fn stream(&self) -> Vec<u8> {
         self.pieces.concat()
     }

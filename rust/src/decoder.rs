@@ -58,7 +58,7 @@ impl SixelDecoder {
         &mut self.palette
     }
 
-    /// Makes all registers the standard ones again.
+    /// Makes all registers the standard ones again, none of them marked.
     pub fn reset_palette(&mut self) {
         self.palette = Palette::standard();
     }

@@ -7,7 +7,7 @@ pub const REGISTERS: usize = 256;
 
 /// A session's numbers; all zeros are a failed one.
 pub type Numbers = [u64; SESSION_NUMBERS];
-/// Packed colours.
+/// Registers' numbers: a packed colour, and 2^24 more where the register is marked.
 pub type Registers = [u32; REGISTERS];
 
 extern "C" {
@@ -23,7 +23,7 @@ extern "C" {
         bytes: *const u8,
         bytes_length: usize,
         palette: *mut Registers,
-        report: *mut [u64; 9],
+        report: *mut [u64; 10],
     ) -> u64;
     pub fn owlgantry_raw_copy(
         canvas: *const u8,
@@ -64,7 +64,7 @@ extern "C" {
         canvas: *mut u8,
         canvas_length: usize,
         palette: *mut Registers,
-        report: *mut [u64; 7],
+        report: *mut [u64; 8],
     ) -> u64;
     pub fn owlgantry_raw_dcs_open(
         width: usize,
@@ -93,6 +93,6 @@ extern "C" {
         canvas: *mut u8,
         canvas_length: usize,
         palette: *mut Registers,
-        report: *mut [u64; 7],
+        report: *mut [u64; 8],
     ) -> u64;
 }

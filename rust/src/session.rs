@@ -65,19 +65,22 @@ pub struct Picture {
     pub ratio: Ratio,
     /// What P2 said.
     pub background_mode: BackgroundMode,
+    /// How many registers the picture's colour commands defined, each counted once, whichever were marked before (rule 9.9).
+    pub defined: usize,
 }
 
 impl Picture {
-    fn of_report(report: [u64; 7]) -> Self {
-        let [width, height, right, bottom, kind, number, transparent] = report;
+    fn of_report(report: [u64; 8]) -> Self {
+        let [width, height, right, bottom, kind, number, transparent, defined] = report;
         let ratio = match kind {
             0 => Ratio::LeftToP1(None),
             1 => Ratio::LeftToP1(Some(number as u16)),
             _ => Ratio::Raster(number as u8),
         };
         let background_mode = if transparent == 1 { BackgroundMode::Transparent } else { BackgroundMode::Opaque };
-        let [width, height, right, bottom] = [width, height, right, bottom].map(|number| number as usize);
-        Self { width, height, right, bottom, ratio, background_mode }
+        let [width, height, right, bottom, defined] =
+            [width, height, right, bottom, defined].map(|number| number as usize);
+        Self { width, height, right, bottom, ratio, background_mode, defined }
     }
 
     /// The ratio: the raster's, else what P1 means, else square.
@@ -124,7 +127,7 @@ impl PayloadSession {
         Refusal::judge(answer).map(|()| Fed { status, consumed: consumed as usize, ink })
     }
 
-    /// Carries a pending command out. The palette becomes the picture's; after a refusal it is as it was.
+    /// Carries a pending command out. The palette becomes the picture's, colours and marks; after a refusal it is as it was.
     pub fn finish(mut self, canvas: &mut [u8], palette: &mut Palette) -> Result<Picture, Refusal> {
         let (answer, report) = calls::payload_finish(&mut self.0, canvas, &mut palette.0);
         Refusal::judge(answer).map(|()| Picture::of_report(report))

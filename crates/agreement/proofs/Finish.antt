@@ -8,6 +8,7 @@ use mathlib.Core.List.{List}
 use borrow.Author.Tests.{leb-true, ne-eqb}
 use lib.Dec.{leb}
 use Rattle.colours.specs.declared.Palette.{Palette}
+use Rattle.colours.specs.Marks.{lasting, definedCount}
 use Rattle.canvas.specs.Picture.{span, rowsOf}
 use Rattle.canvas.specs.Paint.{painted}
 use Rattle.canvas.proofs.Pictures.{picture-opened}
@@ -49,23 +50,23 @@ opens-bounded l stride length e =
       stride = ranges-most _ _ (both (ranges 1000000 stride) _ (p .1) .0);
     }
 
--- an opened session: the blank frame, and pixel (0, 0) has the background
-pub opened-same : (l : Limits) (stride length : ℕ) → opens l stride length ≡ true → (o : Parameters)
-    {p : Palette} {opening : List ℕ} {g : Ground} {f : Frame} {canvas : List ℕ}
-    → g ≡ groundOf (settingFor l stride length) (backgroundOf p (o .p2)) → f ≡ blankFrame p (f .command) → f .command .kind ≡ kinds.Data
-    → canvas ≡ painted (span 0 1) (backgroundOf p (o .p2)) opening
-    → Same (settingFor l stride length) opening (opened o p) g f p canvas
+-- an opened session: the blank frame over the owner's colours and marks, and pixel (0, 0) has the background
+pub opened-same : (l : Limits) (stride length : ℕ) → opens l stride length ≡ true → (o : Parameters) (owner : Palette)
+    {opening : List ℕ} {g : Ground} {f : Frame} {canvas : List ℕ} → let own : Palette = lasting owner in
+    g ≡ groundOf (settingFor l stride length) (backgroundOf own (o .p2)) → f ≡ blankFrame own (f .command) → f .command .kind ≡ kinds.Data
+    → canvas ≡ painted (span 0 1) (backgroundOf own (o .p2)) opening
+    → Same (settingFor l stride length) opening (opened o owner) g f own canvas
 unfolding opened blank blankFrame frameOf canvasOf extentOf
-opened-same l stride length e o {p} {opening} ground frame kind canvas =
+opened-same l stride length e o owner {opening} ground frame kind canvas =
     record {
       drawing = record {
         bounded = opens-bounded l stride length e;
-        sound = blank-opens l stride length e p (o .p2);
+        sound = blank-opens l stride length e owner (o .p2);
         rated = tt;
         ground = ground;
         frame = frame;
         palette = refl;
-        canvas = canvas ∙ picture-opened _ (backgroundOf p (o .p2)) opening;
+        canvas = canvas ∙ picture-opened _ (backgroundOf (lasting owner) (o .p2)) opening;
       };
       begun = kind;
     }
@@ -86,7 +87,15 @@ report-same {d = d} {f = f} o same =
     same-fact (λ g f p l. reportOf o d ≡ reportFrom o f p) same (ap rated (ratio-same (o .p1) (d .raster .ratio) (same .rated)))
   where
     rated : Ratio → Report
-    rated x = record { size = d .area; ratio = x; clear = reportOf o d .clear; extent = extentOf (d .strokes); palette = d .palette }
+    rated x =
+        record {
+          size = d .area;
+          ratio = x;
+          clear = reportOf o d .clear;
+          extent = extentOf (d .strokes);
+          defined = definedCount (d .palette);
+          palette = lasting (d .palette);
+        }
 
 -- what a finish comes to: a report of the frame and the palette with the command carried out, the canvas grown; or one refusal, and all is as it
 -- was

@@ -8,6 +8,7 @@ use lib.Dec.{eqb}
 use Rattle.numbers.specs.Read.{Read, Counted}
 use Rattle.colours.specs.declared.Palette.{Palette}
 use Rattle.colours.specs.Palette.{registerOf}
+use Rattle.colours.specs.Marks.{lasting, definedCount}
 use Rattle.canvas.specs.Picture.{areaOf, picture}
 use Rattle.frame.specs.declared.Command.{Command}
 use Rattle.frame.specs.declared.Extent.{Extent}
@@ -147,5 +148,6 @@ reportFrom o f p =
       ratio = ratioFrom (o .p1) (f .raster .ratio);
       clear = transparent (o .p2);
       extent = areaOf (f .extent .right) (f .extent .bottom);
-      palette = p;
+      defined = definedCount p;
+      palette = lasting p;
     }

@@ -14,7 +14,8 @@ use Rattle.hls.specs.Percent.{percentByte}
 use Rattle.hls.specs.Hls.{hlsBytes}
 use Rattle.colours.specs.declared.Palette.{Palette}
 use Rattle.colours.specs.Packing.{packed, pixelOf}
-use Rattle.colours.specs.Palette.{stored, setRgb, packedBytes, setHls}
+use Rattle.colours.specs.Palette.{stored, rgbColour, setRgb, packedBytes, hlsColour, setHls}
+use Rattle.colours.specs.Marks.{defined, definedRgb, definedHls}
 
 -- three bytes, packed and read back as a pixel, are the same three bytes
 pub pixel-packed : (r g b : ℕ) → r < 256 → g < 256 → b < 256 → pixelOf (packed r g b) ≡ r ∷ g ∷ b ∷ 255 ∷ []
@@ -50,35 +51,55 @@ pub packs : {color red green blue : ℕ} (r g b : ℤ) → SFits w32 r → SFits
     → color ≡ packed (percentByte r) (percentByte g) (percentByte b)
 packs r g b fr fg fb er eg eb ec = ec ∙ rw (er, eg, eb, toZ-ofZ w32 r fr, toZ-ofZ w32 g fg, toZ-ofZ w32 b fb)
 
--- storing what three percents pack to is setting by them
-pub sets-rgb : {q : Palette} (p : Palette) (n color red green blue : ℕ) (r g b : ℤ) → SFits w32 r → SFits w32 g → SFits w32 b
+-- what the bytes of three percents pack to is their colour
+pub rgb-packs : {color red green blue : ℕ} (r g b : ℤ) → SFits w32 r → SFits w32 g → SFits w32 b
     → red ≡ percentByte (passed r) → green ≡ percentByte (passed g) → blue ≡ percentByte (passed b) → color ≡ packed red green blue
-    → q ≡ stored p n color → q ≡ setRgb p n r g b
-unfolding setRgb
-sets-rgb p n color red green blue r g b fr fg fb er eg eb ec e = e ∙ ap (stored p n) (packs r g b fr fg fb er eg eb ec)
+    → color ≡ rgbColour r g b
+unfolding rgbColour
+rgb-packs r g b fr fg fb er eg eb ec = packs r g b fr fg fb er eg eb ec
 
--- storing what the three bytes of HLS pack to is setting by it
-pub sets-hls : {q : Palette} (p : Palette) (n color : ℕ) (rgb : List ℕ) (h l s : ℤ) → SFits w32 h → SFits w32 l → SFits w32 s
+-- what the three bytes of HLS pack to is its colour
+pub hls-packs : {color : ℕ} (rgb : List ℕ) (h l s : ℤ) → SFits w32 h → SFits w32 l → SFits w32 s
     → rgb ≡ hlsBytes (passed h) (passed l) (passed s) → color ≡ packed (getD rgb 0 0) (getD rgb 1 0) (getD rgb 2 0)
-    → q ≡ stored p n color → q ≡ setHls p n h l s
-unfolding setHls packedBytes
-sets-hls p n color rgb h l s fh fl fs er ec e =
-    e ∙ rw (ec, er, toZ-ofZ w32 h fh, toZ-ofZ w32 l fl, toZ-ofZ w32 s fs)
+    → color ≡ hlsColour h l s
+unfolding hlsColour packedBytes
+hls-packs rgb h l s fh fl fs er ec = ec ∙ rw (er, toZ-ofZ w32 h fh, toZ-ofZ w32 l fl, toZ-ofZ w32 s fs)
 
--- a palette's table taken out, set and put back is the palette set
-put-back : (f : Palette → ℤ → ℤ → ℤ → Palette) {p taken after q : Palette} {x y z : ℤ} → SFits w32 x → SFits w32 y → SFits w32 z
-    → taken ≡ p → after ≡ f taken (passed x) (passed y) (passed z) → q ≡ after
-    → q ≡ f p x y z
-put-back f {x = x} {y = y} {z = z} fx fy fz et ea eq =
-    eq ∙ ea ∙ rw (et, toZ-ofZ w32 x fx, toZ-ofZ w32 y fy, toZ-ofZ w32 z fz)
+-- a palette's table taken out, stored to and put back is the palette set, by whichever three values the colour comes from
+module _ (from : ℤ → ℤ → ℤ → ℕ) where
+  put-back : {p taken after q : Palette} {color : ℕ} (n : ℕ) {x y z : ℤ} → SFits w32 x → SFits w32 y → SFits w32 z
+      → taken ≡ p → color ≡ from (passed x) (passed y) (passed z) → after ≡ stored taken n color → q ≡ after
+      → q ≡ stored p n (from x y z)
+  put-back n {x} {y} {z} fx fy fz et ec ea eq =
+      eq ∙ ea ∙ rw (et, ec, toZ-ofZ w32 x fx, toZ-ofZ w32 y fy, toZ-ofZ w32 z fz)
 
--- so for a register set by three percents, and for one set by HLS
-pub put-back-rgb : {p taken after q : Palette} (n : ℕ) {r g b : ℤ} → SFits w32 r → SFits w32 g → SFits w32 b
-    → taken ≡ p → after ≡ setRgb taken n (passed r) (passed g) (passed b) → q ≡ after
+pub put-back-rgb : {p taken after q : Palette} {color : ℕ} (n : ℕ) {r g b : ℤ} → SFits w32 r → SFits w32 g → SFits w32 b
+    → taken ≡ p → color ≡ rgbColour (passed r) (passed g) (passed b) → after ≡ stored taken n color → q ≡ after
     → q ≡ setRgb p n r g b
-put-back-rgb n = put-back (λ p. setRgb p n)
+unfolding setRgb
+put-back-rgb = put-back rgbColour
 
-pub put-back-hls : {p taken after q : Palette} (n : ℕ) {h l s : ℤ} → SFits w32 h → SFits w32 l → SFits w32 s
-    → taken ≡ p → after ≡ setHls taken n (passed h) (passed l) (passed s) → q ≡ after
+pub put-back-hls : {p taken after q : Palette} {color : ℕ} (n : ℕ) {h l s : ℤ} → SFits w32 h → SFits w32 l → SFits w32 s
+    → taken ≡ p → color ≡ hlsColour (passed h) (passed l) (passed s) → after ≡ stored taken n color → q ≡ after
     → q ≡ setHls p n h l s
-put-back-hls n = put-back (λ p. setHls p n)
+unfolding setHls
+put-back-hls = put-back hlsColour
+
+-- a register that is defined by the colour of three values is defined by them
+module _ (from : ℤ → ℤ → ℤ → ℕ) where
+  by-values : {q : Palette} {color : ℕ} (p : Palette) (n : ℕ) {x y z : ℤ} → SFits w32 x → SFits w32 y → SFits w32 z
+      → color ≡ from (passed x) (passed y) (passed z) → q ≡ defined p n color
+      → q ≡ defined p n (from x y z)
+  by-values p n {x} {y} {z} fx fy fz ec e = e ∙ rw (ec, toZ-ofZ w32 x fx, toZ-ofZ w32 y fy, toZ-ofZ w32 z fz)
+
+pub by-rgb : {q : Palette} {color : ℕ} (p : Palette) (n : ℕ) {r g b : ℤ} → SFits w32 r → SFits w32 g → SFits w32 b
+    → color ≡ rgbColour (passed r) (passed g) (passed b) → q ≡ defined p n color
+    → q ≡ definedRgb p n r g b
+unfolding definedRgb
+by-rgb = by-values rgbColour
+
+pub by-hls : {q : Palette} {color : ℕ} (p : Palette) (n : ℕ) {h l s : ℤ} → SFits w32 h → SFits w32 l → SFits w32 s
+    → color ≡ hlsColour (passed h) (passed l) (passed s) → q ≡ defined p n color
+    → q ≡ definedHls p n h l s
+unfolding definedHls
+by-hls = by-values hlsColour

@@ -14,7 +14,7 @@ use Rattle.colours.specs.Palette.{ofTable, standard, registerOf}
 use Rattle.colours.specs.Legend.{greyPixel, EvenStep}
 use Rattle.colours.proofs.Laws.{pixel-packed}
 
-getD-listed : (f : ℕ → ℕ) (i n k : ℕ) → k < n → getD (listed f i n) k 0 ≡ f (i + k)
+pub getD-listed : (f : ℕ → ℕ) (i n k : ℕ) → k < n → getD (listed f i n) k 0 ≡ f (i + k)
 unfolding listed
 getD-listed f i zero k h = absurd (not-suc-le-zero h)
 getD-listed f i (suc n) zero h = rw add-zero

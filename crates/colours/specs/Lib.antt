@@ -1,4 +1,5 @@
 pub mod Packing
 pub mod Standard
 pub mod Palette
+pub mod Marks
 pub mod Legend

@@ -1,6 +1,6 @@
--- A palette, read and set by register (docs/RULES.md, section 9). Only `ofTable`, `registerOf` and `stored` look inside one.
+-- A palette, read and set by register (docs/RULES.md, section 9). Only `ofTable`, `registerOf` and `stored` look inside one, and marks.
 -- Assumes nothing.
-use Prim.Native.Nat.{ℕ, min}
+use Prim.Native.Nat.{ℕ, _+_, _*_, _/_, _%_, min}
 use mathlib.Core.List.{List}
 use lib.Dec.{ltb}
 use lib.IntN.{ℤ}
@@ -27,18 +27,34 @@ standard = ofTable (listed standardAt 0 registerCount)
 unfoldable pub registerOf : Palette → ℕ → List ℕ
 registerOf p n = pixelOf (getD (p .colors) (min n 255) 0)
 
+-- rule 9.1: a register's number has its colour below this
+abbrev pub colourUnit : ℕ
+colourUnit = 16777216
+
+-- rule 9.8: a register's number with another colour: its mark, the next bit above the colour, stays
+unfoldable pub recoloured : ℕ → ℕ → ℕ
+recoloured number color = number / colourUnit % 2 * colourUnit + color % colourUnit
+
 -- rule 9.1: register n holds the colour; above 255 nothing changes
 unfoldable pub stored : Palette → ℕ → ℕ → Palette
-stored p n color = pick (ltb n registerCount) (ofTable (set (p .colors) n color)) p
+stored p n color = pick (ltb n registerCount) (ofTable (set (p .colors) n (recoloured (getD (p .colors) n 0) color))) p
 
--- rule 9.3: register n set by percents of red, green and blue
+-- rule 9.3: the colour of percents of red, green and blue
+unfoldable pub rgbColour : ℤ → ℤ → ℤ → ℕ
+rgbColour r g b = packed (percentByte r) (percentByte g) (percentByte b)
+
+-- rule 9.3: register n set by them
 unfoldable pub setRgb : Palette → ℕ → ℤ → ℤ → ℤ → Palette
-setRgb p n r g b = stored p n (packed (percentByte r) (percentByte g) (percentByte b))
+setRgb p n r g b = stored p n (rgbColour r g b)
 
 -- the number of three channel bytes
 unfoldable pub packedBytes : List ℕ → ℕ
 packedBytes rgb = packed (getD rgb 0 0) (getD rgb 1 0) (getD rgb 2 0)
 
--- rule 9.4: register n set by hue, lightness and saturation
+-- rule 9.4: the colour of a hue, a lightness and a saturation
+unfoldable pub hlsColour : ℤ → ℤ → ℤ → ℕ
+hlsColour h l s = packedBytes (hlsBytes h l s)
+
+-- rule 9.4: register n set by them
 unfoldable pub setHls : Palette → ℕ → ℤ → ℤ → ℤ → Palette
-setHls p n h l s = stored p n (packedBytes (hlsBytes h l s))
+setHls p n h l s = stored p n (hlsColour h l s)

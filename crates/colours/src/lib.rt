@@ -1,14 +1,19 @@
-// The palette (docs/RULES.md, section 9): 256 registers, each a colour packed into one number, read as pixels and set by percents
-// or by HLS. A caller lends a palette's table in a loop, and takes it out and puts it back around that.
+// The palette (docs/RULES.md, section 9): 256 registers, each a colour and a mark packed into one number, read as pixels and set by
+// percents or by HLS. A caller lends a palette's table in a loop, and takes it out and puts it back around that.
+pub mod marks;
 mod standard;
 
 ghost use mathlib.Core.Path.{_≡_};
 ghost use Rattle.colours.specs.Packing.{packed, pixelOf};
-ghost use Rattle.colours.specs.Palette.{ofTable, standard, registerOf, stored, setRgb, setHls};
+ghost use Rattle.colours.specs.Palette.{ofTable, standard, registerOf, stored, rgbColour, setRgb, hlsColour, setHls};
+ghost use Rattle.colours.specs.Marks.{isMarked, definedRgb, definedHls, lasting};
 
 pub struct Palette {
     colors: [u32; 256],
 }
+
+// A register's number has its colour below this.
+pub(crate) const COLOR: u32 = 16_777_216;
 
 pub fn pack_rgb(r: u8, g: u8, b: u8) -> u32
     ensures { λ n. ⌜ n ≡ packed r g b ⌝ }
@@ -37,32 +42,46 @@ pub fn rgb_bytes(colors: &[u32; 256], index: usize) -> [u8; 4]
     pixel(colors[255])
 }
 
-// Register `index` gets a colour. There is none above 255, and nothing changes.
+// The colour of percents of red, green and blue.
+fn rgb_color(r: i32, g: i32, b: i32) -> u32
+    ensures { λ color. ⌜ color ≡ rgbColour r g b ⌝ }
+{
+    let red = hls::percent_to_byte(r);
+    let green = hls::percent_to_byte(g);
+    let blue = hls::percent_to_byte(b);
+    pack_rgb(red, green, blue)
+}
+
+// The colour of a hue, a lightness and a saturation.
+fn hls_color(h: i32, l: i32, s: i32) -> u32
+    ensures { λ color. ⌜ color ≡ hlsColour h l s ⌝ }
+{
+    let rgb = hls::hls_to_rgb(h, l, s);
+    pack_rgb(rgb[0], rgb[1], rgb[2])
+}
+
+// Register `index` gets a colour and keeps its mark. There is none above 255, and nothing changes.
 fn store(colors: &mut [u32; 256], index: usize, color: u32)
     ensures { λ _. ⌜ ofTable (now (colors .exit)) ≡ stored (ofTable (now (colors .entry))) index color ⌝ }
 {
     if index >= 256 {
         return;
     }
-    colors[index] = color;
+    colors[index] = colors[index] / COLOR % 2 * COLOR + color % COLOR;
 }
 
-// Register `index` set by percents of red, green and blue.
+// A colour command defines register `index` by percents of red, green and blue.
 pub fn define_rgb(colors: &mut [u32; 256], index: usize, r: i32, g: i32, b: i32)
-    ensures { λ _. ⌜ ofTable (now (colors .exit)) ≡ setRgb (ofTable (now (colors .entry))) index r g b ⌝ }
+    ensures { λ _. ⌜ ofTable (now (colors .exit)) ≡ definedRgb (ofTable (now (colors .entry))) index r g b ⌝ }
 {
-    let red = hls::percent_to_byte(r);
-    let green = hls::percent_to_byte(g);
-    let blue = hls::percent_to_byte(b);
-    store(colors, index, pack_rgb(red, green, blue));
+    marks::define(colors, index, rgb_color(r, g, b));
 }
 
-// Register `index` set by hue, lightness and saturation.
+// A colour command defines register `index` by hue, lightness and saturation.
 pub fn define_hls(colors: &mut [u32; 256], index: usize, h: i32, l: i32, s: i32)
-    ensures { λ _. ⌜ ofTable (now (colors .exit)) ≡ setHls (ofTable (now (colors .entry))) index h l s ⌝ }
+    ensures { λ _. ⌜ ofTable (now (colors .exit)) ≡ definedHls (ofTable (now (colors .entry))) index h l s ⌝ }
 {
-    let rgb = hls::hls_to_rgb(h, l, s);
-    store(colors, index, pack_rgb(rgb[0], rgb[1], rgb[2]));
+    marks::define(colors, index, hls_color(h, l, s));
 }
 
 impl Palette {
@@ -89,7 +108,7 @@ impl Palette {
         ensures { λ p. ⌜ p ≡ setRgb self index r g b ⌝ }
     {
         let mut colors = self.table();
-        define_rgb(&mut colors, index, r, g, b);
+        store(&mut colors, index, rgb_color(r, g, b));
         Palette::of_table(colors)
     }
 
@@ -97,7 +116,24 @@ impl Palette {
         ensures { λ p. ⌜ p ≡ setHls self index h l s ⌝ }
     {
         let mut colors = self.table();
-        define_hls(&mut colors, index, h, l, s);
+        store(&mut colors, index, hls_color(h, l, s));
+        Palette::of_table(colors)
+    }
+
+    // Whether a colour command has defined register `index`, in a frame that was finished.
+    pub fn is_marked(self, index: usize) -> bool
+        ensures { λ r. ⌜ r ≡ isMarked self index ⌝ }
+    {
+        let colors = self.table();
+        marks::is_marked(&colors, index)
+    }
+
+    // What a frame starts from, and what one leaves: colours and marks.
+    pub fn lasting(self) -> Palette
+        ensures { λ p. ⌜ p ≡ lasting self ⌝ }
+    {
+        let mut colors = self.table();
+        marks::begin(&mut colors);
         Palette::of_table(colors)
     }
 

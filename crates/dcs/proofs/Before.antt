@@ -11,6 +11,7 @@ use lib.Seq.{drop-drop}
 use Rattle.numbers.specs.declared.Parameters.{Parameters}
 use Rattle.numbers.proofs.Laws.{cond-yes}
 use Rattle.colours.specs.declared.Palette.{Palette}
+use Rattle.colours.specs.Marks.{lasting}
 use Rattle.canvas.specs.Picture.{span}
 use Rattle.canvas.specs.Paint.{painted}
 use Rattle.canvas.proofs.Bytes.{length-painted}
@@ -60,14 +61,14 @@ module _ (l : Limits) (stride : ℕ) (p : Palette) (opening : List ℕ) where
 
   -- the payload session before `q`
   abbrev pub waiting : payloadSession.Session
-  waiting = coded.sessionFor l stride (length opening) noSettings p lives.Live
+  waiting = coded.sessionFor l stride (length opening) noSettings (lasting p) lives.Live
 
   -- what it is at `q`, with the canvas
   abbrev begun : Settings → payloadSession.Session
-  begun o = coded.sessionFor l stride (length opening) o p lives.Live
+  begun o = coded.sessionFor l stride (length opening) o (lasting p) lives.Live
 
   abbrev begunCanvas : Settings → List ℕ
-  begunCanvas o = painted (span 0 1) (coded.backgroundFor p (o .p2)) opening
+  begunCanvas o = painted (span 0 1) (coded.backgroundFor (lasting p) (o .p2)) opening
 
   begun-ready : (o : Settings) → openable l stride (length opening) ≡ true → begunBy waiting o opening ≡ (begun o, begunCanvas o)
   unfolding begunBy begunSession withBackground coded.sessionFor coded.groundFor
@@ -81,7 +82,7 @@ module _ (l : Limits) (stride : ℕ) (p : Palette) (opening : List ℕ) where
   unfolding feedJudged misfitting fitting coded.sessionFor coded.groundFor coded.blankFrame
   fine-begun o a e =
       subst (λ (n : ℕ). feedJudged (begun o) n a ≡ judged.Fine)
-      (sym (length-painted (span 0 1) (coded.backgroundFor p (o .p2)) opening)) e
+      (sym (length-painted (span 0 1) (coded.backgroundFor (lasting p) (o .p2)) opening)) e
 
   -- before the payload there is no end and no visible area, and finishing is 8
   pub place-open : {t : Place} {h : Parameters} {x : sessions.Phase} → SamePlace t h x → calls.dcsEnd x ≡ none

@@ -4,6 +4,7 @@ use mathlib.Core.List.{List}
 use mathlib.Core.Path.{_≡_, refl, sym, ap, _∙_}
 use Rattle.numbers.specs.declared.Parameters.{Parameters}
 use Rattle.colours.specs.declared.Palette.{Palette}
+use Rattle.colours.specs.Marks.{lasting}
 use Rattle.colours.specs.Palette.{ofTable}
 use Rattle.frame.specs.declared.Frame.{Frame}
 use Rattle.frame.specs.declared.Limits.{Limits}
@@ -21,7 +22,7 @@ use Rattle.dcs.specs.declared.core.Core.{Core}
 use Rattle.dcs.specs.declared.core.feeding.Fed.{Fed}
 use Rattle.dcs.specs.declared.core.opening.Opened.{Opened}
 use Rattle.dcs.specs.Core.{coreOf, over, openedOver, fedOver}
-use Rattle.dcs.specs.Session.{sessionOf, openedBy, fedBy, finishedBy}
+use Rattle.dcs.specs.Session.{sessionOf, openedOn, openedBy, fedBy, finishedBy}
 use Rattle.dcs.proofs.SessionLaws.{owned-by}
 
 pub over-same : {c : Core} {p : Palette} (s : Session) → c ≡ coreOf s → p ≡ s .payload .palette → over c p ≡ s
@@ -31,10 +32,12 @@ pub core-as : {u : Setup} {life : Life} {f : Frame} (s : Session) → u ≡ payl
     → _≡_ {A = Core} (record { setup = u; life = life; frame = f; header = s .header; phase = s .phase }) (coreOf s)
 core-as s eu el ef = rw (eu, el, ef) refl
 
-pub opened-whole : {x : Opened} {q : Session} {lent : Palette} (l : Limits) (stride : ℕ) (p : Palette) (size : ℕ)
-    → lent ≡ p → openedOver x lent ≡ openedBy l stride lent size → q ≡ over (x .core) p
-    → _≡_ {A = whole.Opened} (record { answer = x .answer; session = q }) (openedBy l stride p size)
-opened-whole l stride p size el e eq = rw (eq, sym el) e
+-- an opening over the parts, with a copy of the owner's palette: colours and marks
+pub opened-whole : {x : Opened} {q : Session} {own lent : Palette} (l : Limits) (stride : ℕ) (owner : Palette) (size : ℕ)
+    → own ≡ lasting owner → lent ≡ own → openedOver x lent ≡ openedOn l stride lent size → q ≡ over (x .core) own
+    → _≡_ {A = whole.Opened} (record { answer = x .answer; session = q }) (openedBy l stride owner size)
+unfolding openedBy
+opened-whole l stride owner size eo el e eq = rw (eq, ← eo, ← el) e
 
 pub fed-whole : {c : Core} {p : Palette} {x : Fed} {later : List ℕ} {q : Session} {after lent : Palette} (s : Session)
     (canvas bytes : List ℕ) (allowance : ℕ) → c ≡ coreOf s → p ≡ s .payload .palette

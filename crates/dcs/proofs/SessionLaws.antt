@@ -56,7 +56,7 @@ use Rattle.header.specs.declared.Place.the-variants as places
 use Rattle.header.specs.Lead.{leadFrom}
 use Rattle.header.specs.Settings.{settingsFrom}
 use Rattle.header.proofs.Bounds.{lead-bound}
-use Rattle.dcs.specs.Session.{sessionOf, openedBy, movedTo, overAs, escapedBy, closedBy, overTold, escapedTold, closedTold, countOf, passedTold, toldOf, passedOn, fedPayload, ledTo, fedLead, fedIn, fedAs, fedBy, endJudged, finishedIn, finishedAs, finishedBy}
+use Rattle.dcs.specs.Session.{sessionOf, openedOn, movedTo, overAs, escapedBy, closedBy, overTold, escapedTold, closedTold, countOf, passedTold, toldOf, passedOn, fedPayload, ledTo, fedLead, fedIn, fedAs, fedBy, endJudged, finishedIn, finishedAs, finishedBy}
 use Rattle.dcs.proofs.Bounds.{AtMost, fed-bound}
 use Rattle.dcs.proofs.Phase as PhaseType
 
@@ -64,8 +64,8 @@ use Rattle.dcs.proofs.Phase as PhaseType
 
 pub opened-as : {o : payloadOpened.Opened} {h : Parameters} (l : Limits) (stride : ℕ) (p : Palette) (size : ℕ)
     → o ≡ reservedBy l stride p size → h ≡ numbers.opened 3
-    → _≡_ {A = Opened} (record { answer = o .answer; session = sessionOf (o .session) h (phases.Before places.Start) }) (openedBy l stride p size)
-unfolding openedBy
+    → _≡_ {A = Opened} (record { answer = o .answer; session = sessionOf (o .session) h (phases.Before places.Start) }) (openedOn l stride p size)
+unfolding openedOn
 opened-as l stride p size e k = rw (e, k) refl
 
 -- ---- the end

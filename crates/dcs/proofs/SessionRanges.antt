@@ -13,6 +13,7 @@ use Rattle.numbers.specs.Step as numbers
 use Rattle.numbers.specs.Values.{held16}
 use Rattle.numbers.proofs.MemoryLaws.{opened-ranged, digit-ranged, semicolon-ranged}
 use Rattle.colours.specs.declared.Palette.{Palette}
+use Rattle.colours.specs.Marks.{lasting}
 use Rattle.meaning.proofs.AreaLaws.{cond-case}
 use Rattle.frame.specs.declared.Limits.{Limits}
 use Rattle.payload.specs.declared.Answer as payloadAnswer
@@ -191,4 +192,4 @@ module _ (s : Session) (h : Ranged s) (canvas bs : List ℕ) (allowance : ℕ) (
 
 pub opened-ranged-by : (l : Limits) (stride : ℕ) (p : Palette) (size : ℕ) → Ranged (said.openedBy l stride p size .session)
 unfolding said.openedBy
-opened-ranged-by l stride p size = record { payload = reserved-ranged l stride p size; header = opened-ranged 3; phase = tt }
+opened-ranged-by l stride p size = record { payload = reserved-ranged l stride (lasting p) size; header = opened-ranged 3; phase = tt }

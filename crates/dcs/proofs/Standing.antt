@@ -13,6 +13,7 @@ use Rattle.numbers.specs.declared.Parameters.{Parameters}
 use Rattle.numbers.specs.Step as numbers
 use Rattle.numbers.proofs.Reading.{read-none}
 use Rattle.colours.specs.declared.Palette.{Palette}
+use Rattle.colours.specs.Marks.{lasting}
 use Rattle.canvas.specs.Picture.{rowsOf, fits, span}
 use Rattle.canvas.specs.Paint.{painted}
 use Rattle.frame.specs.declared.Limits.{Limits}
@@ -116,7 +117,7 @@ module _ (l : Limits) (stride : ℕ) (p : Palette) (opening : List ℕ) where
     there = here l stride p opening x
 
     -- the waiting session, as one that has begun
-    waits : payload.Stands opening early (painted (span 0 1) (coded.backgroundFor p (noSettings .p2)) opening)
+    waits : payload.Stands opening early (painted (span 0 1) (coded.backgroundFor (lasting p) (noSettings .p2)) opening)
         (heldAt l stride (length opening) (sessions.opened (payloadMeant.parametersMeant noSettings) p) false)
     waits = openings.ready-stands l stride noSettings p opening opens
 

@@ -8,6 +8,7 @@ use lib.ListN.{length}
 use Rattle.numbers.specs.declared.Parameters.{Parameters}
 use Rattle.numbers.specs.Read.{Read}
 use Rattle.colours.specs.declared.Palette.{Palette}
+use Rattle.colours.specs.Marks.{lasting}
 use Rattle.frame.specs.declared.Limits.{Limits}
 use Rattle.frame.specs.declared.Refusal.{Refusal}
 use Rattle.frame.specs.Numbers.{numberOf}
@@ -51,10 +52,10 @@ heldAt l stride size x failed = record { setting = payloadMeant.settingMeant l s
 -- its payload session and the canvas stand for the definition's payload
 pub data Stands (l : Limits) (stride : ℕ) (p : Palette) (opening : List ℕ) : Session → List ℕ → calls.Session sessions.Phase → Type 0 where
   before : {t : Place} {h : Parameters} {x : sessions.Phase} → openable l stride (length opening) ≡ true → SamePlace t h x
-      → Stands l stride p opening (sessionOf (sessionFor l stride (length opening) noSettings p lives.Live) h (phases.Before t)) opening
+      → Stands l stride p opening (sessionOf (sessionFor l stride (length opening) noSettings (lasting p) lives.Live) h (phases.Before t)) opening
       (heldAt l stride (length opening) x false)
   refused : {t : Place} {h : Parameters} {x : sessions.Phase} → SamePlace t h x
-      → Stands l stride p opening (sessionOf (sessionFor l stride (length opening) noSettings p lives.Failed) h (phases.Before t)) opening
+      → Stands l stride p opening (sessionOf (sessionFor l stride (length opening) noSettings (lasting p) lives.Failed) h (phases.Before t)) opening
       (heldAt l stride (length opening) x true)
   inside : {s : payloadSession.Session} {h : Parameters} {c : List ℕ} {r : sessions.Reading} {failed : Bool}
       → payload.Stands opening s c (heldAt l stride (length opening) r failed) → (failed ≡ false → r .over ≡ none)

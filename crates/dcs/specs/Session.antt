@@ -7,6 +7,7 @@ use lib.ListN.{length, drop}
 use Rattle.numbers.specs.declared.Parameters.{Parameters}
 use Rattle.numbers.specs.Step as numbers
 use Rattle.colours.specs.declared.Palette.{Palette}
+use Rattle.colours.specs.Marks.{lasting}
 use Rattle.frame.specs.declared.Limits.{Limits}
 use Rattle.frame.specs.declared.Refusal.the-variants as refusals
 use Rattle.payload.specs.declared.Answer as payloadAnswer
@@ -49,11 +50,16 @@ within s h = sessionOf s h phases.Within
 abbrev pub before : payloadSession.Session → Parameters → Place → Session
 before s h t = sessionOf s h (phases.Before t)
 
--- a payload session that has not begun; nothing is written
-unfoldable pub openedBy : Limits → ℕ → Palette → ℕ → Opened
-openedBy l stride p size =
+-- a payload session that has not begun, with the registers that it is to start from; nothing is written
+unfoldable pub openedOn : Limits → ℕ → Palette → ℕ → Opened
+openedOn l stride p size =
     let o : payloadOpened.Opened = reservedBy l stride p size in
     record { answer = o .answer; session = sessionOf (o .session) (numbers.opened 3) (phases.Before places.Start) }
+
+-- with its owner's palette, of which it has a copy: colours and marks
+unfoldable pub openedBy : Limits → ℕ → Palette → ℕ → Opened
+unfolding openedOn
+openedBy l stride owner size = openedOn l stride (lasting owner) size
 
 -- ---- the end
 

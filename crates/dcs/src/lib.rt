@@ -75,12 +75,13 @@ pub struct Fed {
 pub fn open(limits: Limits, stride: usize, palette: Palette, length: usize) -> Opened
     ensures { λ r. ⌜ r ≡ openedBy limits stride palette length ⌝ }
 {
-    let colors = palette.table();
+    let own = palette.lasting();
+    let colors = own.table();
     let opened = core::opening::open(limits, stride, &colors, length);
     let answer = opened.answer;
     Opened {
         answer,
-        session: with_palette(opened.core, palette),
+        session: with_palette(opened.core, own),
     }
 }
 

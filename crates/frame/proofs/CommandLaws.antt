@@ -16,7 +16,8 @@ use Rattle.numbers.specs.Step as numbers
 use Rattle.numbers.proofs.Laws.{cond-yes, cond-no}
 use Rattle.numbers.proofs.Reading.{value-small}
 use Rattle.colours.specs.declared.Palette.{Palette}
-use Rattle.colours.specs.Palette.{registerOf, setRgb, setHls}
+use Rattle.colours.specs.Palette.{registerOf}
+use Rattle.colours.specs.Marks.{definedRgb, definedHls}
 use Rattle.colours.proofs.Laws.{passed, passed-pos}
 use Rattle.canvas.proofs.Covers.{by-test}
 use Rattle.frame.specs.declared.Command.{Command}
@@ -121,12 +122,12 @@ module _ (p : Palette) (k s x y z : ℕ) where
   defined-none h l = sym (cond-no _ _ (ne-eqb _ _ h) ∙ cond-no _ _ (ne-eqb _ _ l))
 
   module _ {q : Palette} (few : (x ≤ 2147483647) × (y ≤ 2147483647) × (z ≤ 2147483647)) where
-    pub defined-hls : s ≡ 1 → q ≡ setHls p k (passed (pos x)) (passed (pos y)) (passed (pos z)) → q ≡ definedBy p k s x y z
+    pub defined-hls : s ≡ 1 → q ≡ definedHls p k (passed (pos x)) (passed (pos y)) (passed (pos z)) → q ≡ definedBy p k s x y z
     unfolding definedBy
     defined-hls h e =
         e ∙ rw (small-passed x (few .0), small-passed y (few .1), small-passed z (few .2)) (sym (cond-yes _ _ (eq-eqb _ _ h)))
 
-    pub defined-rgb : (s ≡ 1 → ⊥) → s ≡ 2 → q ≡ setRgb p k (passed (pos x)) (passed (pos y)) (passed (pos z)) → q ≡ definedBy p k s x y z
+    pub defined-rgb : (s ≡ 1 → ⊥) → s ≡ 2 → q ≡ definedRgb p k (passed (pos x)) (passed (pos y)) (passed (pos z)) → q ≡ definedBy p k s x y z
     unfolding definedBy
     defined-rgb h l e =
         e

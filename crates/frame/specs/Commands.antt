@@ -7,7 +7,8 @@ use lib.IntN.{pos}
 use Rattle.numbers.specs.declared.Parameters.{Parameters}
 use Rattle.numbers.specs.Step as numbers
 use Rattle.colours.specs.declared.Palette.{Palette}
-use Rattle.colours.specs.Palette.{registerOf, setRgb, setHls}
+use Rattle.colours.specs.Palette.{registerOf}
+use Rattle.colours.specs.Marks.{definedRgb, definedHls}
 use Rattle.frame.specs.declared.Command.{Command}
 use Rattle.frame.specs.declared.Extent.{Extent}
 use Rattle.frame.specs.declared.Frame.{Frame}
@@ -97,7 +98,7 @@ repeatEnded f g =
 -- colour: space 1 or 2 redefines the register
 unfoldable pub definedBy : Palette → ℕ → ℕ → ℕ → ℕ → ℕ → Palette
 definedBy p n space x y z =
-    cond (eqb space 1) (setHls p n (pos x) (pos y) (pos z)) (cond (eqb space 2) (setRgb p n (pos x) (pos y) (pos z)) p)
+    cond (eqb space 1) (definedHls p n (pos x) (pos y) (pos z)) (cond (eqb space 2) (definedRgb p n (pos x) (pos y) (pos z)) p)
 
 -- with five values
 unfoldable pub redefinedBy : Palette → ℕ → Parameters → Palette

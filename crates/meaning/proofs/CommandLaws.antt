@@ -229,6 +229,14 @@ given P h q = subst (Gives P) q h
 pub given-refusal : (P : Drawing → Type 0) {x : Drawn} {n : ℕ} → Gives P x → x ≡ refused n → (4 ≤ n) × (n ≤ 7)
 given-refusal P h q = subst (Gives P) q h
 
+-- whether or not a raster command grows the area
+pub rastered-gives : (P : Drawing → Type 0) (s : Setting) (r : Raster) (d : Drawing) → ((a : Area) → P (withRaster d r a))
+    → Gives P (rastered s r d)
+unfolding rastered stretched
+rastered-gives P s r d h =
+    cond-case (Gives P) (eqb (r .width + r .height) 0) (λ _. h (d .area))
+    (λ _. unless-case (Gives P) s (d .area) (max 1 (r .width)) (max 1 (r .height)) _ (λ n low high. (low, high)) (λ _. h _))
+
 -- growing to an allowed raster size
 stretched-follows : (s : Setting) (r : Raster) (d : Drawing) → Gives (Follows s d) (stretched s r d)
 unfolding stretched withRaster grownTo
@@ -378,19 +386,13 @@ AllQuiet = AllOf Quiet
 abbrev pub StrokesOf : Drawing → Drawing → Type 0
 StrokesOf d e = e .strokes ≡ d .strokes
 
-rastered-quiet : (s : Setting) (r : Raster) (d : Drawing) → Gives (StrokesOf d) (rastered s r d)
-unfolding rastered stretched withRaster
-rastered-quiet s r d =
-    cond-case (Gives (StrokesOf d)) (eqb (r .width + r .height) 0) (λ _. refl)
-    (λ _. unless-case (Gives (StrokesOf d)) s (d .area) (max 1 (r .width)) (max 1 (r .height)) _ (λ n low high. (low, high)) (λ _. refl))
-
 -- such a command adds no stroke
 pub quiet-command : (s : Setting) (c : Command) (d : Drawing) → Quiet c → Gives (StrokesOf d) (drawCommand s c d)
-unfolding drawCommand repeated
+unfolding drawCommand repeated withRaster
 quiet-command s (argued repeat bs) d q =
     cond-case (Gives (StrokesOf d)) (ltb (s .limits .repeats) (decimal bs)) (λ _. (lit≤ tt, lit≤ tt)) (λ _. refl)
 quiet-command s (argued colour bs) d q = refl
-quiet-command s (argued raster bs) d q = rastered-quiet s (rasterAfter (d .raster) (values 4 bs)) d
+quiet-command s (argued raster bs) d q = rastered-gives (StrokesOf d) s (rasterAfter (d .raster) (values 4 bs)) d (λ a. refl)
 quiet-command s return d q = refl
 quiet-command s line d q = refl
 quiet-command s (draw bits) d q = absurd q

@@ -7,6 +7,8 @@ use mathlib.Core.Option.{Option, none, some}
 use mathlib.Core.List.{List, []}
 use lib.ListN.{take}
 use Rattle.colours.specs.declared.Palette.{Palette}
+use Rattle.colours.specs.Marks.{lasting}
+use Rattle.colours.proofs.MarkLaws.{lasting-register}
 use Rattle.canvas.specs.Picture.{picture}
 use Rattle.meaning.specs.Drawing.{Setting, Drawing, Outcome, blank, backgroundOf, inkOfAll}
 use Rattle.meaning.specs.Payload.{Parameters, payload, payloadInk}
@@ -22,17 +24,26 @@ use Rattle.meaning.proofs.Demand3.{payload-rests, payload-halts, payloa
 
 -- ---- at the start
 
+-- the background is the owner's register 0, or transparent
+background-lasts : (p : Palette) (p2 : Option ℕ) → backgroundOf (lasting p) p2 ≡ backgroundOf p p2
+unfolding backgroundOf
+background-lasts p p2 = rw (lasting-register p 0)
+
 -- a payload session opens with pixel (0,0) in the background, and nothing else of the canvas changed
 pub opening-shown : (s : Session Reading) (o : Parameters) (p : Palette) (opening : List ℕ) → s .state ≡ opened o p
     → payloadShown s opening ≡ picture (s .setting .stride) (record { width = 1; height = 1 }) (backgroundOf p (o .p2)) [] opening
 unfolding payloadShown opened blank
-opening-shown s o p opening e = ap (λ (r : Reading). shown (s .setting .stride) (some (r .drawing)) opening) e
+opening-shown s o p opening e =
+    ap (λ (r : Reading). shown (s .setting .stride) (some (r .drawing)) opening) e
+    ∙ ap (λ (b : List ℕ). picture (s .setting .stride) (record { width = 1; height = 1 }) b [] opening) (background-lasts p (o .p2))
 
 -- a DCS session does so as its payload begins
 pub begun-shown : (s : Session Phase) (o : Parameters) (p : Palette) (opening : List ℕ) → s .state ≡ within (opened o p)
     → dcsShown s opening ≡ picture (s .setting .stride) (record { width = 1; height = 1 }) (backgroundOf p (o .p2)) [] opening
 unfolding dcsShown opened blank
-begun-shown s o p opening e = ap (λ (t : Phase). shown (s .setting .stride) (drawingOf t) opening) e
+begun-shown s o p opening e =
+    ap (λ (t : Phase). shown (s .setting .stride) (drawingOf t) opening) e
+    ∙ ap (λ (b : List ℕ). picture (s .setting .stride) (record { width = 1; height = 1 }) b [] opening) (background-lasts p (o .p2))
 
 -- before the payload nothing is written
 pub before-shown : (s : Session Phase) (opening : List ℕ) → Before (s .state) → dcsShown s opening ≡ opening

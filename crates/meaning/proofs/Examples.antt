@@ -7,7 +7,7 @@ use mathlib.Core.List.{List, [], _∷_, _++_, map}
 use Rattle.meaning.specs.Payload.{byRaster, leftToP1}
 use Rattle.meaning.specs.Sessions.{complete, cancelled, interrupted}
 use Rattle.meaning.specs.Calls.{needsMore, stoppedForInk, ended, told, refused}
-use Rattle.meaning.proofs.Trials.{Row, limited, onCanvas, row, under, partly, dcs, once, size, extent, upTo, ink, shows, ratio, transparent, opaque, refusal, ends, goesOn, leaves, rowsHold, Calls, houseCalls, calls, feeding, finishing, fed, sized, declined, heard, computed}
+use Rattle.meaning.proofs.Trials.{Row, limited, onCanvas, row, under, partly, dcs, once, size, extent, upTo, ink, shows, ratio, transparent, opaque, defines, marked, unmarked, refusal, ends, goesOn, leaves, rowsHold, Calls, houseCalls, calls, feeding, finishing, fed, sized, declined, heard, computed}
 
 -- the bench examples, and the program's
 bench : List Row
@@ -113,6 +113,26 @@ colours =
     ∷ row "#1;1;9999999999;50;100~" (shows 0 0 0xFF1E00FF ∷ [])
     ∷ []
 
+-- which registers a frame defines: five values do, in space 1 or 2, and also in the colour that the register has; each register counts once
+definitions : List Row
+definitions =
+    row "#1;2;100;0;0" (marked 1 ∷ unmarked 0 ∷ unmarked 2 ∷ unmarked 255 ∷ [])
+    ∷ row "#1~" (unmarked 0 ∷ unmarked 1 ∷ [])
+    ∷ row "#1;2;100;0" (unmarked 1 ∷ [])
+    ∷ row "#1;3;1;1;1" (unmarked 1 ∷ [])
+    ∷ row "#1;1;120;50;100" (marked 1 ∷ [])
+    ∷ row "#300;2;1;1;1" (marked 255 ∷ marked 300 ∷ unmarked 44 ∷ [])
+    ∷ row "#;2;1;1;1" (marked 0 ∷ unmarked 2 ∷ [])
+    ∷ row "#1;2;20;20;80" (marked 1 ∷ [])
+    ∷ row "#1;2;0;0;0;7" (marked 1 ∷ unmarked 7 ∷ [])
+    ∷ row "#1;2;1;1;1!1025" (refusal 4 ∷ [])
+    ∷ partly "#2;2;1;1;1#1;2;1;1;1" (marked 2 ∷ unmarked 1 ∷ [])
+    ∷ dcs "\u{90}q#3;2;1;1;1\u{9c}#4;2;1;1;1" (marked 3 ∷ unmarked 4 ∷ [])
+    ∷ once "#1~" (defines 0 ∷ [])
+    ∷ once "#1;2;1;1;1#1;1;1;1;1" (defines 1 ∷ [])
+    ∷ once "#7;2;1;1;1#2;2;1;1;1#7" (defines 2 ∷ [])
+    ∷ []
+
 -- ratios and raster sizes
 rasters : List Row
 rasters =
@@ -204,8 +224,8 @@ shots =
 
 -- rules 12.1, 12.2: all of them
 pub table : List Row
-unfolding bench slips commands extents colours rasters pending sequences shots
-table = bench ++ (slips ++ (commands ++ (extents ++ (colours ++ (rasters ++ (pending ++ (sequences ++ shots)))))))
+unfolding bench slips commands extents colours definitions rasters pending sequences shots
+table = bench ++ (slips ++ (commands ++ (extents ++ (colours ++ (definitions ++ (rasters ++ (pending ++ (sequences ++ shots))))))))
 
 -- the bench examples and all the others are read as their rows say
 pub table-holds : rowsHold table ≡ true

@@ -17,6 +17,7 @@ pub mod SizeHistories
 pub mod AreaLaws
 pub mod SixelLaws
 pub mod ExtentLaws
+pub mod MarkLaws
 pub mod InkLaws
 pub mod PayloadLaws
 pub mod WholeLaws

@@ -18,6 +18,8 @@ use Rattle.colours.specs.Packing as Packing
 use Rattle.colours.specs.Standard as Standard
 use Rattle.colours.specs.Palette as Registers
 use Rattle.colours.specs.Palette.{standard}
+use Rattle.colours.specs.Marks as Marks
+use Rattle.colours.specs.Marks.{isMarked}
 use Rattle.canvas.specs.Picture as Picture
 use Rattle.canvas.specs.Picture.{Area, shownColour}
 use Rattle.meaning.specs.Commands as Commands
@@ -42,14 +44,15 @@ pub data Way : Type 0 where
   asPayload soFar asDcs atOnce : Way
 
 -- what a row says: the size's or the extent's width and height, or those of the extent of what was drawn up to a refusal; ink; the pixel at
--- a column and a row, as RRGGBBAA; the ratio; the background; a refusal's number; that a DCS sequence has come to an end, or has not; and
--- what stays unread, or is the part handed back
+-- a column and a row, as RRGGBBAA; the ratio; the background; how many registers were defined; a register that is marked, or is not; a
+-- refusal's number; that a DCS sequence has come to an end, or has not; and what stays unread, or is the part handed back
 pub data Says : Type 0 where
   size extent upTo : ℕ → ℕ → Says
   ink : ℕ → Says
   shows : ℕ → ℕ → ℕ → Says
   ratio : Ratio → Says
   transparent opaque : Says
+  defines marked unmarked : ℕ → Says
   refusal : ℕ → Says
   ends : End → Says
   goesOn : Says
@@ -268,6 +271,9 @@ isSo r (shows x y n) = eqb (asNumber (shownColour (r .drawing .background) (r .d
 isSo r (ratio q) = reports (r .answer) (λ a. sameRatio (a .ratio) q)
 isSo r transparent = reports (r .answer) (λ a. a .clear)
 isSo r opaque = reports (r .answer) (λ a. not (a .clear))
+isSo r (defines n) = reports (r .answer) (λ a. eqb (a .defined) n)
+isSo r (marked n) = reports (r .answer) (λ a. isMarked (a .palette) n)
+isSo r (unmarked n) = reports (r .answer) (λ a. not (isMarked (a .palette) n))
 isSo r (refusal n) = refuses (r .answer) n
 isSo r (ends e) = endsBy (r .end) e
 isSo r goesOn = unended (r .end)
@@ -365,7 +371,9 @@ unfolding payload finish finishDcs oneShot findPayload partOf readFrom call payl
     Bytes.ends Bytes.skipped Bytes.sixel Bytes.digit Values.decimal Values.values Values.held16
     Picture.reach Picture.grownTo Picture.rowsOf Picture.fits Picture.colourAt Picture.lastStroke Picture.orHere Picture.covers Picture.inSixel
     Picture.span Picture.bit Picture.depth
-    Registers.ofTable Registers.registerOf Registers.stored Registers.setRgb Registers.setHls Registers.packedBytes
+    Registers.ofTable Registers.registerOf Registers.rgbColour Registers.hlsColour Registers.packedBytes
+    Registers.recoloured Registers.stored Registers.setRgb Registers.setHls
+    Marks.isMarked Marks.isDefined Marks.defined Marks.definedRgb Marks.definedHls Marks.lasting Marks.counted Marks.definedCount
     Standard.listed Standard.standardAt Standard.base Standard.cube Standard.grey Standard.percents
     Packing.packed Packing.pixelOf Percent.percentByte Percent.held Turn.turned Turn.modulo360
     Hls.hlsBytes Hls.grey Hls.coloured Hls.between Hls.channelByte Hls.hueToRgb Hls.placed Hls.channel Hls.lowered Hls.raised Hls.over Hls.upper

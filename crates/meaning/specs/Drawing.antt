@@ -10,7 +10,8 @@ use lib.IntN.{pos}
 use lib.ListN.{length, getD, drop}
 use Rattle.numbers.specs.Values.{decimal, values}
 use Rattle.colours.specs.declared.Palette.{Palette}
-use Rattle.colours.specs.Palette.{registerOf, setRgb, setHls}
+use Rattle.colours.specs.Palette.{registerOf}
+use Rattle.colours.specs.Marks.{definedRgb, definedHls, lasting}
 use Rattle.canvas.specs.Picture.{Stroke, Area, depth, grownTo, reach}
 use Rattle.meaning.specs.Commands.{repeat, colour, raster, Command, argued, return, line, draw, Placed}
 
@@ -67,17 +68,17 @@ unfoldable pub backgroundOf : Palette → Option ℕ → List ℕ
 unfolding transparent
 backgroundOf p p2 = cond (transparent p2) (0 ∷ 0 ∷ 0 ∷ 0 ∷ []) (registerOf p 0)
 
--- rules 1.7, 3.1: the drawing before the first byte
+-- rules 1.7, 1.8, 3.1: the drawing before the first byte, with a copy of the owner's palette in which this frame has defined nothing
 unfoldable pub blank : Palette → Option ℕ → Drawing
 unfolding backgroundOf
-blank p p2 =
+blank owner p2 =
     record {
       pen = record { column = 0; row = 0; repeats = 1; register = 0 };
       strokes = [];
       area = record { width = 1; height = 1 };
       raster = record { ratio = none; width = 0; height = 0 };
-      palette = p;
-      background = backgroundOf p p2;
+      palette = lasting owner;
+      background = backgroundOf (lasting owner) p2;
     }
 
 -- a command's outcome: the drawing after it, or a refusal's number
@@ -118,8 +119,8 @@ selected vs = min (getD vs 0 0) 255
 unfoldable pub redefined : Palette → ℕ → List ℕ → Palette
 redefined p n vs =
     cond (eqb (length vs) 5)
-    (cond (eqb (getD vs 1 0) 1) (setHls p n (pos (getD vs 2 0)) (pos (getD vs 3 0)) (pos (getD vs 4 0)))
-    (cond (eqb (getD vs 1 0) 2) (setRgb p n (pos (getD vs 2 0)) (pos (getD vs 3 0)) (pos (getD vs 4 0)))
+    (cond (eqb (getD vs 1 0) 1) (definedHls p n (pos (getD vs 2 0)) (pos (getD vs 3 0)) (pos (getD vs 4 0)))
+    (cond (eqb (getD vs 1 0) 2) (definedRgb p n (pos (getD vs 2 0)) (pos (getD vs 3 0)) (pos (getD vs 4 0)))
     p))
     p
 

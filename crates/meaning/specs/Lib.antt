@@ -10,3 +10,4 @@ pub mod Calls
 pub mod Callers
 pub mod Demands
 pub mod Sizes
+pub mod Definitions

@@ -4,6 +4,7 @@ use mathlib.Core.Bool.{Bool}
 use mathlib.Core.Option.{Option, none, some}
 use mathlib.Core.List.{List}
 use Rattle.colours.specs.declared.Palette.{Palette}
+use Rattle.colours.specs.Marks.{lasting, definedCount}
 use Rattle.canvas.specs.Picture.{Area}
 use Rattle.meaning.specs.Commands.{commands, endedCommands}
 use Rattle.meaning.specs.Drawing.{Setting, Drawing, Outcome, transparent, blank, drawAll, inkOfAll, extentOf}
@@ -47,6 +48,7 @@ pub record Report : Type 0 where
   pub ratio : Ratio
   pub clear : Bool
   pub extent : Area
+  pub defined : ℕ
   pub palette : Palette
 
 -- rule 4.6: what is reported of a drawing
@@ -58,7 +60,8 @@ reportOf o d =
       ratio = ratioOf (o .p1) (d .raster .ratio);
       clear = transparent (o .p2);
       extent = extentOf (d .strokes);
-      palette = d .palette;
+      defined = definedCount (d .palette);
+      palette = lasting (d .palette);
     }
 
 -- the answer of a finish: a report, or a refusal's number

@@ -8,6 +8,7 @@ use native.Mathlib.Omega.{arith}
 use lib.ListN.{length, take, drop}
 use Rattle.numbers.proofs.Laws.{cond-yes}
 use Rattle.colours.specs.declared.Palette.{Palette}
+use Rattle.colours.specs.Marks.{lasting}
 use Rattle.frame.specs.declared.Frame.{Frame}
 use Rattle.frame.specs.declared.Limits.{Limits}
 use Rattle.frame.specs.declared.Refusal.{Refusal}
@@ -35,7 +36,7 @@ use Rattle.payload.specs.Core.{over, Passed}
 use Rattle.payload.specs.History.{Stands, Finishes, pictures, declines}
 use Rattle.payload.specs.Meant.{parametersMeant, limitsMeant, settingMeant, answerMeant, reportMeant, finishMeant}
 use Rattle.payload.specs.Refusals.{openable}
-use Rattle.payload.specs.Session.{backgroundFor, sessionFor, openedBy, fedBy, finishedBy}
+use Rattle.payload.specs.Session.{backgroundFor, sessionFor, openedOn, openedBy, fedBy, finishedBy}
 use Rattle.payload.proofs.Finishings.{finish-stands}
 use Rattle.payload.proofs.Judgements.{stands-shows}
 use Rattle.payload.proofs.Openings.{ready-stands}
@@ -137,6 +138,12 @@ module _ (s : Setting) (o : meant.Parameters) (p : Palette) (opening part : List
 
 -- ---- a part
 
+-- an opening with the registers that a frame starts from is one with their owner's
+pub opens-owned : (l : Limits) (stride : ℕ) (o : Settings) (p : Palette) (opening : List ℕ) {own : Palette} {z : Opened × List ℕ}
+    → own ≡ lasting p → z ≡ openedOn l stride o own opening → z ≡ openedBy l stride o p opening
+unfolding openedBy
+opens-owned l stride o p opening e k = k ∙ ap (λ (q : Palette). openedOn l stride o q opening) e
+
 module _ (l : Limits) (stride : ℕ) (o : Settings) (p : Palette) (opening : List ℕ)
     (pre : openable l stride (length opening) ≡ true) {y : Opened} {l₀ : List ℕ} (e : (y, l₀) ≡ openedBy l stride o p opening) where
   -- the reading that the definition opens
@@ -144,8 +151,8 @@ module _ (l : Limits) (stride : ℕ) (o : Settings) (p : Palette) (opening : Lis
   first = opened (parametersMeant o) p
 
   ready : _≡_ {A = Opened × List ℕ} (y, l₀) (
-    record { answer = openings.Ready; session = sessionFor l stride (length opening) o p life.Live },
-    painted (span 0 1) (backgroundFor p (o .p2)) opening,
+    record { answer = openings.Ready; session = sessionFor l stride (length opening) o (lasting p) life.Live },
+    painted (span 0 1) (backgroundFor (lasting p) (o .p2)) opening,
   )
   unfolding openedBy
   ready = e ∙ cond-yes _ _ pre

@@ -14,6 +14,7 @@ ghost use Rattle.payload.specs.Refusals.{openable};
 ghost use Rattle.payload.specs.Session.{finishedBy};
 ghost use Rattle.oneshot.specs.OneShot.{pieceEnd, readWhole, readPart, readMeant};
 use colours::Palette;
+use colours::marks::begin;
 use frame::Frame;
 use frame::Limits;
 use frame::Refusal;
@@ -101,6 +102,7 @@ pub fn read_in_pieces(
         (now (canvas .entry)) (now (part .entry)) ⌝ }
 {
     let owner = *colors;
+    begin(colors);
     let opened = open(limits, stride, settings, colors, canvas);
     let setup = opened.setup;
     let mut life = opened.life;

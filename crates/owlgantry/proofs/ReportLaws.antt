@@ -46,10 +46,10 @@ as-number : (t : Bool) → boolByte t ≡ cond t 1 0
 as-number true = refl
 as-number false = refl
 
--- a picture's nine numbers, by the ratio's two and the background's
+-- a picture's numbers, by the ratio's two and the background's
 abbrev picture-numbers : Report → ℕ → ℕ → ℕ → ℕ → ℕ → List ℕ
 picture-numbers x kind number clear place part =
-    x .width ∷ x .height ∷ x .right ∷ x .bottom ∷ kind ∷ number ∷ clear ∷ place ∷ part ∷ []
+    x .width ∷ x .height ∷ x .right ∷ x .bottom ∷ kind ∷ number ∷ clear ∷ x .defined ∷ place ∷ part ∷ []
 
 pub report-picture : {a : Finishing} {x : Report} {k n : ℕ} (p : Palette) (place part : ℕ)
     → a ≡ Picture x → k ≡ ratioKind (ratioMeant (x .ratio)) → n ≡ ratioNumber (ratioMeant (x .ratio))
@@ -110,8 +110,8 @@ unfolding sixelRead readMeant limitsMeant
 read-out w h m n stride canvas bytes table {part} a l₁ after {r} {report} read handed reports answers =
     ap (λ (i : ℕ). (i, l₁, ofTable after, report)) (answers (ofTable after))
     ∙ ap (λ (us : List ℕ). (number, l₁, ofTable after, us)) (reports (ofTable after))
-    ∙ ap (λ (k : ℕ). (number, l₁, ofTable after, nine answer k)) handed
-    ∙ ap (λ (y : Read). (refusalNumber (y .answer), y .canvas, y .palette, nine (y .answer) (length given))) read
+    ∙ ap (λ (k : ℕ). (number, l₁, ofTable after, withPart answer k)) handed
+    ∙ ap (λ (y : Read). (refusalNumber (y .answer), y .canvas, y .palette, withPart (y .answer) (length given))) read
   where
     given : List ℕ
     given = partHandedBack (record { width = w; height = h; repeats = m; pixels = n }) stride (length canvas) bytes
@@ -123,5 +123,5 @@ read-out w h m n stride canvas bytes table {part} a l₁ after {r} {report} read
     number = refusalNumber answer
 
     -- the report with a part, which reaches to the end of the bytes
-    nine : meant.Finished → ℕ → List ℕ
-    nine y k = reportNumbers y (length bytes - k) k
+    withPart : meant.Finished → ℕ → List ℕ
+    withPart y k = reportNumbers y (length bytes - k) k

@@ -4,6 +4,7 @@ use mathlib.Core.List.{List, [], _∷_}
 use mathlib.Core.Path.{_≡_, refl, sym, ap, ap₂, _∙_}
 use lib.ListN.{getD, replicate}
 use Rattle.colours.specs.declared.Palette.{Palette}
+use Rattle.colours.specs.Marks.{lasting}
 use Rattle.colours.specs.Palette.{ofTable}
 use Rattle.frame.specs.declared.Limits.{Limits}
 use Rattle.meaning.specs.Payload as meant
@@ -58,17 +59,17 @@ pub told-end : {k b n i : ℕ} {x : dcsAnswer.Answer} (e : Ending)
 unfolding dcsReport
 told-end {n = n} {i = i} e h p q = ap₂ (λ (x y : ℕ). x ∷ n ∷ i ∷ y ∷ []) p q ∙ ap dcsReport (sym h)
 
--- the first seven of some numbers
-abbrev seven : List ℕ → List ℕ
-seven l = getD l 0 0 ∷ getD l 1 0 ∷ getD l 2 0 ∷ getD l 3 0 ∷ getD l 4 0 ∷ getD l 5 0 ∷ getD l 6 0 ∷ []
+-- a report's numbers without the part's two
+abbrev partless : List ℕ → List ℕ
+partless l = getD l 0 0 ∷ getD l 1 0 ∷ getD l 2 0 ∷ getD l 3 0 ∷ getD l 4 0 ∷ getD l 5 0 ∷ getD l 6 0 ∷ getD l 7 0 ∷ []
 
-seven-first : (x : meant.Finished) → seven (reportNumbers x 0 0) ≡ finishReport x
+partless-first : (x : meant.Finished) → partless (reportNumbers x 0 0) ≡ finishReport x
 unfolding finishReport reportNumbers
-seven-first (meant.finished r) = refl
-seven-first (meant.turnedDown n) = refl
+partless-first (meant.finished r) = refl
+partless-first (meant.turnedDown n) = refl
 
-pub seven-told : (x : meant.Finished) {l : List ℕ} → l ≡ reportNumbers x 0 0 → seven l ≡ finishReport x
-seven-told x e = rw e (seven-first x)
+pub partless-told : (x : meant.Finished) {l : List ℕ} → l ≡ reportNumbers x 0 0 → partless l ≡ finishReport x
+partless-told x e = rw e (partless-first x)
 
 -- ---- a session in memory, from its parts
 
@@ -90,23 +91,28 @@ core-held ns ts e = rw e refl
 
 -- ---- an opening
 
-pub payload-opened : (w h m n stride p1 p2 : ℕ) (table canvas : List ℕ) {g1 g2 : Given} (x : payloadOpening.Opened) (l₁ : List ℕ) {ns : List ℕ} {r : ℕ}
-    → g1 ≡ givenFrom p1 → g2 ≡ givenFrom p2
-    → (payloadParts.openedOver x (ofTable table), l₁)
-    ≡ payload.openedBy (four w h m n) stride (record { p1 = g1; p2 = g2 }) (ofTable table) canvas
+-- the session's registers, `own`, are their owner's colours and marks
+pub payload-opened : (w h m n stride p1 p2 : ℕ) (owner own canvas : List ℕ) {g1 g2 : Given} (x : payloadOpening.Opened) (l₁ : List ℕ)
+    {ns : List ℕ} {r : ℕ} → g1 ≡ givenFrom p1 → g2 ≡ givenFrom p2 → ofTable own ≡ lasting (ofTable owner)
+    → (payloadParts.openedOver x (ofTable own), l₁)
+    ≡ payload.openedOn (four w h m n) stride (record { p1 = g1; p2 = g2 }) (ofTable own) canvas
     → ((p : Palette) → ns ≡ payloadMemory.numbersOf (payloadParts.over (x .setup) (x .life) (x .frame) p)) → r ≡ openingNumber (x .answer)
-    → (r, ns, table, l₁) ≡ payloadOpened (four w h m n) stride p1 p2 table canvas
-unfolding payloadOpened payloadOpenedAs ofTable
-payload-opened w h m n stride p1 p2 table canvas x l₁ a b e en er =
-    called payloadOpenedAs (λ (o : Settings). payload.openedBy (four w h m n) stride o (ofTable table) canvas) (rw (er, en (ofTable table)) refl) e
-    (rw (a, b) refl)
+    → (r, ns, own, l₁) ≡ payloadOpened (four w h m n) stride p1 p2 owner canvas
+unfolding payloadOpened payloadOpenedAs payload.openedBy ofTable
+payload-opened w h m n stride p1 p2 owner own canvas {g1} {g2} x l₁ a b eo e en er =
+    let given : Settings = record { p1 = g1; p2 = g2 } in
+    called {s = given} payloadOpenedAs (λ (o : Settings). payload.openedOn (four w h m n) stride o (lasting (ofTable owner)) canvas)
+    (rw (er, en (ofTable own)) refl)
+    (e ∙ ap (λ (q : Palette). payload.openedOn (four w h m n) stride given q canvas) eo)
+    (ap₂ (λ (i j : Given). record { p1 = i; p2 = j }) a b)
 
-pub dcs-opened : (w h m n stride size : ℕ) (table : List ℕ) (x : dcsOpening.Opened) {ns : List ℕ} {r : ℕ}
-    → dcsParts.openedOver x (ofTable table) ≡ dcs.openedBy (four w h m n) stride (ofTable table) size
+pub dcs-opened : (w h m n stride size : ℕ) (owner own : List ℕ) (x : dcsOpening.Opened) {ns : List ℕ} {r : ℕ}
+    → ofTable own ≡ lasting (ofTable owner) → dcsParts.openedOver x (ofTable own) ≡ dcs.openedOn (four w h m n) stride (ofTable own) size
     → ((p : Palette) → ns ≡ dcsMemory.numbersOf (dcsParts.over (x .core) p)) → r ≡ openingNumber (x .answer)
-    → (r, ns, table) ≡ dcsOpened (four w h m n) stride size table
-unfolding dcsOpened dcsOpenedAs ofTable
-dcs-opened w h m n stride size table x e en er = rw (er, en (ofTable table)) (ap dcsOpenedAs e)
+    → (r, ns, own) ≡ dcsOpened (four w h m n) stride size owner
+unfolding dcsOpened dcsOpenedAs dcs.openedBy ofTable
+dcs-opened w h m n stride size owner own x eo e en er =
+    rw (er, en (ofTable own)) (ap dcsOpenedAs (e ∙ ap (λ (q : Palette). dcs.openedOn (four w h m n) stride q size) eo))
 
 -- ---- a feed
 

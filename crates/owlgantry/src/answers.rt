@@ -121,18 +121,20 @@ pub fn dcs_report(answer: dcs::Answer) -> [u64; 4]
     }
 }
 
-// Width, height, right, bottom, the ratio's kind and number, and 1 for a transparent background; on a refusal all are 0.
-pub fn finish_report(answer: Finishing) -> [u64; 7]
+// Width, height, right, bottom, the ratio's kind and number, 1 for a transparent background, and how many registers were defined; on a
+// refusal all are 0.
+pub fn finish_report(answer: Finishing) -> [u64; 8]
     ensures { λ r. ⌜ ((p : Palette) → r ≡ finishReport (finishMeant answer p)) ⌝ }
 {
-    let nine = report_numbers(answer, 0, 0);
+    let all = report_numbers(answer, 0, 0);
     [
-        nine[0],
-        nine[1],
-        nine[2],
-        nine[3],
-        nine[4],
-        nine[5],
-        nine[6],
+        all[0],
+        all[1],
+        all[2],
+        all[3],
+        all[4],
+        all[5],
+        all[6],
+        all[7],
     ]
 }

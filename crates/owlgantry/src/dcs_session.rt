@@ -7,6 +7,7 @@ use crate::answers::finish_report;
 use crate::answers::opening_number;
 use crate::report::hand_over;
 use crate::report::refusal_number;
+use colours::marks::begin;
 use dcs::core::feeding::feed;
 use dcs::core::finishing::finish;
 use dcs::core::opening::open;
@@ -19,7 +20,8 @@ use payload::memory::frame_from;
 use payload::memory::setup_from;
 use payload::places;
 
-// Opens a session for a canvas of `length` bytes, with a copy of the owner's registers. Answers 0, or 11.
+// Opens a session for a canvas of `length` bytes, with a copy of the owner's registers, their colours and marks.
+// Answers 0, or 11.
 #[no_mangle]
 pub extern "C" fn owlgantry_raw_dcs_open(
     width: usize,
@@ -41,10 +43,11 @@ pub extern "C" fn owlgantry_raw_dcs_open(
         repeats,
         pixels,
     };
-    let opened = open(limits, stride, palette, length);
+    *registers = *palette;
+    begin(registers);
+    let opened = open(limits, stride, registers, length);
     let answer = opened.answer;
     *session = numbers_of(opened.core);
-    *registers = *palette;
     opening_number(answer)
 }
 
@@ -78,7 +81,7 @@ pub extern "C" fn owlgantry_raw_dcs_finish(
     registers: &[u32; 256],
     canvas: &mut [u8],
     palette: &mut [u32; 256],
-    report: &mut [u64; 7],
+    report: &mut [u64; 8],
 ) -> u64
     ensures { λ r. ⌜ (r, now (session .exit), now (palette .exit), now (canvas .exit), now (report .exit))
         ≡ dcsFinished (now (session .entry)) (now (registers .entry)) (now (palette .entry)) (now (canvas .entry)) ⌝ }

@@ -8,6 +8,7 @@ use crate::answers::payload_number;
 use crate::answers::payload_report;
 use crate::report::hand_over;
 use crate::report::refusal_number;
+use colours::marks::begin;
 use frame::Limits;
 use payload::Settings;
 use payload::codes::given_from;
@@ -20,7 +21,7 @@ use payload::memory::numbers_of;
 use payload::memory::setup_from;
 use payload::places;
 
-// Opens a session with a copy of the owner's registers. A P1 or P2 above 65,535 is a missing one. Answers 0, or 11.
+// Opens a session with a copy of the owner's registers, their colours and marks. A P1 or P2 above 65,535 is a missing one. Answers 0, or 11.
 #[no_mangle]
 pub extern "C" fn owlgantry_raw_payload_open(
     width: usize,
@@ -49,11 +50,12 @@ pub extern "C" fn owlgantry_raw_payload_open(
         p1: given_from(p1 as u64),
         p2: given_from(p2 as u64),
     };
-    let opened = open(limits, stride, settings, palette, canvas);
+    *registers = *palette;
+    begin(registers);
+    let opened = open(limits, stride, settings, registers, canvas);
     let answer = opened.answer;
     let life = opened.life;
     *session = numbers_of(opened.setup, life, opened.frame);
-    *registers = *palette;
     opening_number(answer)
 }
 
@@ -89,17 +91,17 @@ pub extern "C" fn owlgantry_raw_payload_feed(
     payload_number(answer)
 }
 
-// Carries the pending command out. Answers 0 or the refusal's number. The palette becomes the session's where there is a picture, and
-// the session's numbers are 0 afterwards: a finish hands back no session. Reports seven numbers, 0 on a refusal: width, height, right,
-// bottom; the ratio's kind and number (0: left to P1, which is missing; 1: left to P1's number; 2: the raster's, number : 1); 1 for a
-// transparent background.
+// Carries the pending command out. Answers 0 or the refusal's number. The palette gets the session's colours and marks where there is a
+// picture, and the session's numbers are 0 afterwards: a finish hands back no session. Reports eight numbers, 0 on a refusal: width,
+// height, right, bottom; the ratio's kind and number (0: left to P1, which is missing; 1: left to P1's number; 2: the raster's, number : 1);
+// 1 for a transparent background; and how many registers the picture defined.
 #[no_mangle]
 pub extern "C" fn owlgantry_raw_payload_finish(
     session: &mut [u64; 48],
     registers: &[u32; 256],
     canvas: &mut [u8],
     palette: &mut [u32; 256],
-    report: &mut [u64; 7],
+    report: &mut [u64; 8],
 ) -> u64
     ensures { λ r. ⌜ (r, now (session .exit), now (palette .exit), now (canvas .exit), now (report .exit))
         ≡ payloadFinished (now (session .entry)) (now (registers .entry)) (now (palette .entry)) (now (canvas .entry)) ⌝ }

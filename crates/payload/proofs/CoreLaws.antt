@@ -6,6 +6,7 @@ use mathlib.Core.Path.{_≡_, refl, sym, ap, _∙_}
 use denote.Enum.Declared.{tagOf}
 use types.Run.{OneOf, miss}
 use Rattle.colours.specs.declared.Palette.{Palette}
+use Rattle.colours.specs.Marks.{lasting}
 use Rattle.colours.specs.Palette.{ofTable}
 use Rattle.frame.specs.declared.Frame.{Frame}
 use Rattle.frame.specs.declared.Limits.{Limits}
@@ -28,7 +29,7 @@ use Rattle.payload.specs.declared.refusals.Verdict.{Verdict}
 use Rattle.payload.specs.declared.refusals.Verdict.the-variants as verdicts
 use Rattle.payload.specs.Core.{setupOf, over, openedOver, fedOver, finishedOver, handedBack}
 use Rattle.payload.specs.Refusals.{finishJudged}
-use Rattle.payload.specs.Session.{openedBy, fedBy, turnedAway, pictured, finishedIn, finishedLive, finishedAs, finishedBy}
+use Rattle.payload.specs.Session.{openedOn, openedBy, fedBy, turnedAway, pictured, finishedIn, finishedLive, finishedAs, finishedBy}
 use Rattle.payload.proofs.Finishing as FinishingType
 
 -- the parts of a session make it again
@@ -36,10 +37,14 @@ pub over-same : {u : Setup} {life : Life} {f : Frame} {p : Palette} (s : Session
     → over u life f p ≡ s
 over-same s eu el ef ep = rw (eu, el, ef, ep) refl
 
-pub opened-whole : {x : Opened} {after : List ℕ} {q : Session} {lent : Palette} (l : Limits) (stride : ℕ) (o : Settings) (p : Palette) (canvas : List ℕ)
-    → lent ≡ p → (openedOver x lent, after) ≡ openedBy l stride o lent canvas → q ≡ over (x .setup) (x .life) (x .frame) p
-    → _≡_ {A = whole.Opened × List ℕ} (record { answer = x .answer; session = q }, after) (openedBy l stride o p canvas)
-opened-whole l stride o p canvas el e eq = rw (eq, sym el) e
+-- an opening over the parts, with a copy of the owner's palette: colours and marks
+pub opened-whole : {x : Opened} {after : List ℕ} {q : Session} {own lent : Palette}
+    (l : Limits) (stride : ℕ) (o : Settings) (owner : Palette) (canvas : List ℕ)
+    → own ≡ lasting owner → lent ≡ own
+    → (openedOver x lent, after) ≡ openedOn l stride o lent canvas → q ≡ over (x .setup) (x .life) (x .frame) own
+    → _≡_ {A = whole.Opened × List ℕ} (record { answer = x .answer; session = q }, after) (openedBy l stride o owner canvas)
+unfolding openedBy
+opened-whole l stride o owner canvas eo el e eq = rw (eq, ← eo, ← el) e
 
 module _ (s : Session) {u : Setup} {life : Life} {f : Frame} {p : Palette} (eu : u ≡ setupOf s) (el : life ≡ s .life) (ef : f ≡ s .frame)
     (ep : p ≡ s .palette) where

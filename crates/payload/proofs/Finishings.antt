@@ -6,6 +6,7 @@ use mathlib.Core.Path.{_≡_, refl, sym, ap, ap₂, _∙_, subst}
 use lib.Dec.{eqb}
 use lib.ListN.{length}
 use Rattle.colours.specs.declared.Palette.{Palette}
+use Rattle.colours.specs.Marks.{lasting, definedCount}
 use Rattle.canvas.specs.Picture.{areaOf}
 use Rattle.canvas.proofs.Covers.{by-test}
 use Rattle.frame.specs.declared.Frame.{Frame}
@@ -27,6 +28,7 @@ use Rattle.payload.specs.declared.Finishing.the-variants as finishes
 use Rattle.payload.specs.declared.Given.{Given}
 use Rattle.payload.specs.declared.Session.{Session}
 use Rattle.payload.specs.declared.Settings.{Settings}
+use Rattle.payload.specs.declared.Report.{Report}
 use Rattle.payload.specs.declared.refusals.Verdict.{Verdict}
 use Rattle.payload.specs.declared.refusals.Verdict.the-variants as verdicts
 use Rattle.payload.specs.Refusals.{isFailed, finishJudged}
@@ -42,7 +44,7 @@ unfolding ratioMeant ratioFor same.ratioFrom
 ratio-meant r g = by-test (eqb (r .ratio) 0) (λ e. rw e refl) (λ e. rw e refl)
 
 -- the report of the code means the definition's
-report-meant : (f : Frame) (o : Settings) (p : Palette) → reportMeant (reportedAs f o) p ≡ same.reportFrom (parametersMeant o) f p
+report-meant : (f : Frame) (o : Settings) (p : Palette) → reportMeant (reportedAs f o (definedCount p)) (lasting p) ≡ same.reportFrom (parametersMeant o) f p
 unfolding reportMeant reportedAs same.reportFrom parametersMeant
 report-meant f o p =
     ap₂
@@ -52,7 +54,8 @@ report-meant f o p =
       ratio = x;
       clear = t;
       extent = areaOf (f .extent .right) (f .extent .bottom);
-      palette = p;
+      defined = definedCount p;
+      palette = lasting p;
     })
     (ratio-meant (f .raster) (o .p1))
     (clear-meant (o .p2))
@@ -62,28 +65,35 @@ module _ {opening : List ℕ} {s : Session} {l : List ℕ} {m : calls.Session Re
   last : Ended
   last = ended (s .frame) (s .ground) (s .palette)
 
+  -- what is told then: the report of the frame and the palette that it leads to
+  told : Finished
+  unfolding last
+  told =
+      let report : Report = reportedAs (last .progress .frame) (s .settings) (definedCount (last .palette)) in
+      record { answer = finishes.Picture report; palette = lasting (last .palette) }
+
   -- a report: the drawing with the pending command carried out is on the canvas
   live-pictures : last .progress .outcome ≡ outcomes.Read
       → same.SameDrawing (m .setting) opening (settled (m .setting) (m .state) .drawing) (s .ground) (last .progress .frame) (last .palette)
       (settledStep (s .frame) (s .ground) (s .palette) l .canvas)
       → finishedLive s owner l
-      ≡ (record { answer = finishes.Picture (reportedAs (last .progress .frame) (s .settings)); palette = last .palette }, calls.payloadShownAtFinish m opening)
-  unfolding last finishedLive finishedIn pictured settledStep calls.payloadShownAtFinish calls.shown same.canvasOf
+      ≡ (told, calls.payloadShownAtFinish m opening)
+  unfolding told last finishedLive finishedIn pictured settledStep calls.payloadShownAtFinish calls.shown same.canvasOf
   live-pictures e d =
       ap (λ (o : Outcome). finishedIn o s owner (last .progress .frame) (last .palette) l) e
       ∙ ap
-      (λ (c : List ℕ). (record { answer = finishes.Picture (reportedAs (last .progress .frame) (s .settings)); palette = last .palette }, c))
+      (λ (c : List ℕ). (told, c))
       (d .canvas)
 
   live-finishes : {x : meant.Finished} → Finishing (m .setting) opening (m .state) (s .ground) x (settledStep (s .frame) (s .ground) (s .palette) l)
       → Finishes (calls.payloadShownAtFinish m opening) owner l (finishedLive s owner l) x
-  unfolding last settledStep finishedLive finishedIn turnedAway
+  unfolding told last settledStep finishedLive finishedIn turnedAway
   live-finishes (reporting {answer} e rep d) =
       subst (λ (y : Finished × List ℕ). Finishes (calls.payloadShownAtFinish m opening) owner l y (meant.finished answer)) (sym (live-pictures e d))
       (subst
       (λ (r : meant.Report).
       Finishes (calls.payloadShownAtFinish m opening) owner l
-      (record { answer = finishes.Picture (reportedAs (last .progress .frame) (s .settings)); palette = last .palette }, calls.payloadShownAtFinish m opening)
+      (told, calls.payloadShownAtFinish m opening)
       (meant.finished r))
       (report-meant (last .progress .frame) (s .settings) (last .palette)
       ∙ ap (λ (o : meant.Parameters). same.reportFrom o (last .progress .frame) (last .palette)) (sym (k .parameters))

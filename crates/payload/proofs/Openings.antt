@@ -9,6 +9,7 @@ use mathlib.Core.Path.{_≡_, refl, sym, ap, _∙_, subst}
 use lib.ListN.{length}
 use Rattle.numbers.proofs.Laws.{cond-yes}
 use Rattle.colours.specs.declared.Palette.{Palette}
+use Rattle.colours.specs.Marks.{lasting}
 use Rattle.colours.specs.Palette.{registerOf}
 use Rattle.canvas.specs.Picture.{span}
 use Rattle.canvas.specs.Paint.{painted}
@@ -67,15 +68,15 @@ refused-exactly false e = (λ _. refl, λ _. e)
 module _ (l : Limits) (stride : ℕ) (o : Settings) (p : Palette) (opening : List ℕ) where
   -- a session that is ready
   pub ready-stands : openable l stride (length opening) ≡ true
-      → Stands opening (sessionFor l stride (length opening) o p lives.Live) (painted (span 0 1) (backgroundFor p (o .p2)) opening)
+      → Stands opening (sessionFor l stride (length opening) o (lasting p) lives.Live) (painted (span 0 1) (backgroundFor (lasting p) (o .p2)) opening)
       (record { setting = settingMeant l stride (length opening); length = length opening; state = opened (parametersMeant o) p; failed = false })
   unfolding sessionFor groundFor settingMeant limitsMeant calls.settingFor opened parametersMeant blankFrame same.blankFrame same.groundOf
   ready-stands e =
       let k : same.Same _ _ _ _ _ _ _ =
-      opened-same (limitsMeant l) stride (length opening) (sym (opens-meant l stride (length opening)) ∙ e) (parametersMeant o) {p = p} {opening = opening}
-      {g = groundFor l stride (length opening) (backgroundFor p (o .p2))} {f = blankFrame p}
-      (ap (groundFor l stride (length opening)) (background-meant p (o .p2))) refl refl
-      (ap (λ (px : List ℕ). painted (span 0 1) px opening) (background-meant p (o .p2))) in
+      opened-same (limitsMeant l) stride (length opening) (sym (opens-meant l stride (length opening)) ∙ e) (parametersMeant o) p {opening = opening}
+      {g = groundFor l stride (length opening) (backgroundFor (lasting p) (o .p2))} {f = blankFrame (lasting p)}
+      (ap (groundFor l stride (length opening)) (background-meant (lasting p) (o .p2))) refl refl
+      (ap (λ (px : List ℕ). painted (span 0 1) px opening) (background-meant (lasting p) (o .p2))) in
       record { setting = refl; long = refl; parameters = refl; life = (refl, refl); drawing = k .drawing; begun = λ _. k .begun }
 
   -- an opening of the code is the definition's

@@ -9,6 +9,7 @@ use lib.Dec.{ltb, eqb}
 use types.Run.{OneOf, miss}
 use Rattle.numbers.specs.Bytes.{skipped, digit, sixel, ends}
 use Rattle.colours.specs.declared.Palette.{Palette}
+use Rattle.colours.specs.Marks.{lasting, definedCount}
 use Rattle.canvas.specs.Picture.{areaOf}
 use Rattle.canvas.proofs.Pictures.{grown-none}
 use Rattle.frame.specs.declared.Extent.{Extent}
@@ -129,7 +130,9 @@ module _ (s : Session) (owner : Palette) where
   -- the report of the frame reached
   reported : Reached → Finished × List ℕ
   unfolding reportedAs
-  reported t = (record { answer = finishes.Picture (reportedAs (t .progress .frame) (s .settings)); palette = t .palette }, t .canvas)
+  reported t =
+      let report : Report = reportedAs (t .progress .frame) (s .settings) (definedCount (t .palette)) in
+      (record { answer = finishes.Picture report; palette = lasting (t .palette) }, t .canvas)
 
   -- or a refusal
   toldIn : Outcome → Reached → Finished × List ℕ
@@ -162,7 +165,7 @@ module _ (s : Session) (owner : Palette) where
         ≡ (let e : Ended = ended (s .frame) (s .ground) p in finish (e .progress) (e .palette))
     unfolding carriedOutIn settledStep ended endedIn settledAs unreadAs toldIn reported finishedIn pictured
     told-in kinds.Data e =
-        ap (λ (c : List ℕ). (record { answer = finishes.Picture (reportedAs (s .frame) (s .settings)); palette = p }, c)) (sym stays)
+        ap (λ (c : List ℕ). (record { answer = finishes.Picture (reportedAs (s .frame) (s .settings) (definedCount p)); palette = lasting p }, c)) (sym stays)
         ∙ ap (λ (k : Kind). finish (endedIn k (s .frame) (s .ground) p .progress) (endedIn k (s .frame) (s .ground) p .palette)) (sym e)
     told-in kinds.Repeat e = closed-told _ (command-ends (s .frame) (s .ground) p)
     told-in kinds.Color e = closed-told _ (command-ends (s .frame) (s .ground) p)
@@ -195,11 +198,11 @@ module _ (s : Session) (owner : Palette) where
         ∙ ap (λ (o : Outcome). toldIn o (reachedBy r after later)) (sym h)
         ∙ finish-in
 
-    pub finish-pictured : {told : Report} {q : Palette} → OneOf (0 ∷ 1 ∷ 2 ∷ []) (tagOf OutcomeType.the-type (r .outcome))
-        → told ≡ reportedAs (r .frame) (s .settings) → q ≡ after
+    pub finish-pictured : {told : Report} {q : Palette} {n : ℕ} → OneOf (0 ∷ 1 ∷ 2 ∷ []) (tagOf OutcomeType.the-type (r .outcome))
+        → told ≡ reportedAs (r .frame) (s .settings) n → n ≡ definedCount after → q ≡ lasting after
         → _≡_ {A = Finished × List ℕ} (record { answer = finishes.Picture told; palette = q }, later) (finishedLive s owner canvas)
     unfolding reported
-    finish-pictured h k q =
-        rw (k, q) refl ∙ not-refused (r .outcome) (reachedBy r after later) h ∙ finish-in
+    finish-pictured h k n q =
+        rw (k, n, q) refl ∙ not-refused (r .outcome) (reachedBy r after later) h ∙ finish-in
 
 pub ruleset carrying = (carried-fed, carried-none)

@@ -48,7 +48,7 @@ use Rattle.payload.specs.declared.refusals.Verdict.{Verdict}
 use Rattle.payload.specs.declared.refusals.Verdict.the-variants as verdicts
 use Rattle.payload.specs.Core.{over, setupFor}
 use Rattle.payload.specs.Refusals.{limitsFit, inRange, openable, feedJudged, finishJudged}
-use Rattle.payload.specs.Session.{clearFor, backgroundFor, blankFrame, groundFor, sessionFor, openingFor, firstLife, openedIf, firstPainted, openedBy, sessionWith, answerOf, lifeAfter, answeredIn, answeredBy, fedLive, fedIn, fedAs, fedBy, ratioFor, reportedAs, turnedAway, finishedLive, finishedAs, finishedBy}
+use Rattle.payload.specs.Session.{clearFor, backgroundFor, blankFrame, groundFor, sessionFor, openingFor, firstLife, openedIf, firstPainted, openedOn, sessionWith, answerOf, lifeAfter, answeredIn, answeredBy, fedLive, fedIn, fedAs, fedBy, ratioFor, reportedAs, turnedAway, finishedLive, finishedAs, finishedBy}
 use Rattle.payload.proofs.Life as LifeType
 use Rattle.payload.proofs.PendingLaws.{finish-last, finish-pictured}
 
@@ -141,8 +141,8 @@ module _ (l : Limits) (stride : ℕ) (o : Settings) (p : Palette) (canvas : List
 
   pub opened-as : {t : Bool} {px after : List ℕ} {x : Opened} → t ≡ openable l stride (length canvas) → px ≡ backgroundFor p (o .p2)
       → after ≡ firstPainted t px canvas
-      → x ≡ openedIf t l stride (length canvas) o p → (x, after) ≡ openedBy l stride o p canvas
-  unfolding openedBy
+      → x ≡ openedIf t l stride (length canvas) o p → (x, after) ≡ openedOn l stride o p canvas
+  unfolding openedOn
   opened-as {t} e b a k = rw (k, a, b, e) (either (openable l stride (length canvas)))
 
 pub ruleset openings-made = (
@@ -239,7 +239,7 @@ pub ratio-raster : (r : Raster) (p1 : Given) → (r .ratio ≡ 0 → ⊥) → ra
 unfolding ratioFor
 ratio-raster r p1 e = sym (cond-no _ _ (ne-eqb _ _ e))
 
-pub reported-as : {r : Ratio} {t : Bool} (f : Frame) (o : Settings) → r ≡ ratioFor (f .raster) (o .p1) → t ≡ clearFor (o .p2)
+pub reported-as : {r : Ratio} {t : Bool} (f : Frame) (o : Settings) (n : ℕ) → r ≡ ratioFor (f .raster) (o .p1) → t ≡ clearFor (o .p2)
     → _≡_ {A = Report}
     (record {
       width = f .area .width;
@@ -248,10 +248,11 @@ pub reported-as : {r : Ratio} {t : Bool} (f : Frame) (o : Settings) → r ≡ ra
       bottom = f .extent .bottom;
       ratio = r;
       transparent = t;
+      defined = n;
     })
-    (reportedAs f o)
+    (reportedAs f o n)
 unfolding reportedAs
-reported-as f o e k = rw (e, k) refl
+reported-as f o n e k = rw (e, k) refl
 
 module _ (s : Session) (owner : Palette) (canvas : List ℕ) {j : Verdict} (e : j ≡ finishJudged s (length canvas)) where
   pub finish-refused : {n : Refusal} → j ≡ verdicts.Refused n

@@ -7,6 +7,7 @@ use mathlib.Core.List.{List, [], _∷_}
 use mathlib.Core.Path.{refl}
 use Rattle.numbers.proofs.MemoryLaws.{opened-ranged}
 use Rattle.colours.specs.declared.Palette.{Palette}
+use Rattle.colours.specs.Marks.{lasting}
 use Rattle.meaning.proofs.AreaLaws.{cond-case}
 use Rattle.frame.specs.declared.Frame.{Frame}
 use Rattle.frame.specs.declared.Limits.{Limits}
@@ -51,8 +52,8 @@ pub opened-ranged-by : (l : Limits) (stride : ℕ) (o : Settings) (p : Palette) 
     → Ranged (openedBy l stride o p canvas .0 .session)
 unfolding openedBy
 opened-ranged-by l stride o p canvas h =
-    cond-case (λ (x : Opened × List ℕ). Ranged (x .0 .session)) (openable l stride _) (λ _. new-ranged l stride _ o p lives.Live h tt)
-    (λ _. new-ranged l stride _ o p lives.Failed h tt)
+    cond-case (λ (x : Opened × List ℕ). Ranged (x .0 .session)) (openable l stride _) (λ _. new-ranged l stride _ o (lasting p) lives.Live h tt)
+    (λ _. new-ranged l stride _ o (lasting p) lives.Failed h tt)
 
 -- a parameter that is told by a number
 pub given-ranged : (n : ℕ) → GivenRanged (givenFrom n)

@@ -62,6 +62,7 @@ reportMeant r p =
       ratio = ratioMeant (r .ratio);
       clear = r .transparent;
       extent = areaOf (r .right) (r .bottom);
+      defined = r .defined;
       palette = p;
     }
 

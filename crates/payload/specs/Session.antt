@@ -7,6 +7,7 @@ use lib.ListN.{length}
 use Rattle.numbers.specs.Step as numbers
 use Rattle.colours.specs.declared.Palette.{Palette}
 use Rattle.colours.specs.Palette.{ofTable, registerOf}
+use Rattle.colours.specs.Marks.{lasting, definedCount}
 use Rattle.canvas.specs.Picture.{rowsOf, span}
 use Rattle.canvas.specs.Paint.{painted}
 use Rattle.frame.specs.declared.Frame.{Frame}
@@ -95,13 +96,18 @@ openedIf may l stride size o p = record { answer = openingFor may; session = ses
 unfoldable pub firstPainted : Bool → List ℕ → List ℕ → List ℕ
 firstPainted due px canvas = cond due (painted (span 0 1) px canvas) canvas
 
--- pixel (0, 0) gets the background, or nothing is written
-unfoldable pub openedBy : Limits → ℕ → Settings → Palette → List ℕ → Opened × List ℕ
+-- with the registers that it is to start from: pixel (0, 0) gets the background, or nothing is written
+unfoldable pub openedOn : Limits → ℕ → Settings → Palette → List ℕ → Opened × List ℕ
 unfolding sessionFor
-openedBy l stride o p canvas =
+openedOn l stride o p canvas =
     cond (openable l stride (length canvas))
     (record { answer = openings.Ready; session = sessionFor l stride (length canvas) o p lives.Live }, painted (span 0 1) (backgroundFor p (o .p2)) canvas)
     (record { answer = openings.Refused refusals.Opening; session = sessionFor l stride (length canvas) o p lives.Failed }, canvas)
+
+-- with its owner's palette, of which it has a copy: colours and marks
+unfoldable pub openedBy : Limits → ℕ → Settings → Palette → List ℕ → Opened × List ℕ
+unfolding openedOn
+openedBy l stride o owner canvas = openedOn l stride o (lasting owner) canvas
 
 -- ---- feeding
 
@@ -162,9 +168,9 @@ fedBy s canvas bytes allowance = fedAs (feedJudged s (length canvas) allowance) 
 unfoldable pub ratioFor : Raster → Given → Ratio
 ratioFor r p1 = cond (eqb (r .ratio) 0) (ratios.LeftToP1 p1) (ratios.Raster (r .ratio))
 
-unfoldable pub reportedAs : Frame → Settings → Report
+unfoldable pub reportedAs : Frame → Settings → ℕ → Report
 unfolding ratioFor clearFor
-reportedAs f o =
+reportedAs f o defined =
     record {
       width = f .area .width;
       height = f .area .height;
@@ -172,6 +178,7 @@ reportedAs f o =
       bottom = f .extent .bottom;
       ratio = ratioFor (f .raster) (o .p1);
       transparent = clearFor (o .p2);
+      defined = defined;
     }
 
 -- where a call led: its answer, the palette and the canvas
@@ -208,11 +215,11 @@ carriedOut f g p canvas = carriedOutIn (f .command .kind) f g p canvas
 unfoldable pub turnedAway : Palette → Refusal → List ℕ → Finished × List ℕ
 turnedAway owner n canvas = (record { answer = finishes.Refused n; palette = owner }, canvas)
 
--- the picture: the area that the pending command grew gets the background, and the palette is the owner's from now on
+-- the picture: the area that the pending command grew gets the background, and the palette's colours and marks are the owner's from now on
 unfoldable pub pictured : Session → Frame → Palette → List ℕ → Finished × List ℕ
 unfolding reportedAs
 pictured s last p canvas = (
-  record { answer = finishes.Picture (reportedAs last (s .settings)); palette = p },
+  record { answer = finishes.Picture (reportedAs last (s .settings) (definedCount p)); palette = lasting p },
   areaGrown (s .frame) (s .ground) (last .area .width) (last .area .height) canvas,
 )
 

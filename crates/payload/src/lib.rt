@@ -99,6 +99,8 @@ pub struct Report {
     pub bottom: usize,
     pub ratio: Ratio,
     pub transparent: bool,
+    // How many registers the frame defined.
+    pub defined: usize,
 }
 
 pub enum Finishing {
@@ -156,13 +158,14 @@ pub fn open(
 ) -> Opened
     ensures { λ r. ⌜ (r, now (canvas .exit)) ≡ openedBy limits stride settings palette (now (canvas .entry)) ⌝ }
 {
-    let colors = palette.table();
+    let own = palette.lasting();
+    let colors = own.table();
     let opened = core::opening::open(limits, stride, settings, &colors, canvas);
     let answer = opened.answer;
     let life = opened.life;
     Opened {
         answer,
-        session: session_of(opened.setup, life, opened.frame, palette),
+        session: session_of(opened.setup, life, opened.frame, own),
     }
 }
 

@@ -7,6 +7,7 @@ use lib.ListN.{length}
 use Rattle.colours.specs.declared.Palette.{Palette}
 use Rattle.colours.specs.Packing.{pixelOf}
 use Rattle.colours.specs.Palette.{registerOf}
+use Rattle.colours.specs.Marks.{lasting}
 use Rattle.canvas.specs.Picture.{Stroke}
 use Rattle.meaning.specs.Commands.{Command, argued, return, line, draw, Placed, commands}
 use Rattle.meaning.specs.Drawing.{Setting, Drawing, Drawn, drawn, refused, transparent, backgroundOf, blank, strokeOf, stroked, sixelled, drawCommand, andThen, drawAll}
@@ -68,4 +69,4 @@ module _ (s : Setting) (o : Parameters) (p : Palette) (bs : List ℕ) where
   pub payload-background-four : length (payload s o p bs .drawing .background) ≡ 4
   unfolding payload blank
   payload-background-four =
-      ap length (drawAll-follows s (commands bs) (blank p (o .p2)) .background) ∙ background-four p (o .p2)
+      ap length (drawAll-follows s (commands bs) (blank p (o .p2)) .background) ∙ background-four (lasting p) (o .p2)

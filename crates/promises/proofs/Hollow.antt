@@ -7,6 +7,7 @@ use mathlib.Core.Path.{_≡_, refl, sym, ap, _∙_, subst}
 use native.Mathlib.Omega.{arith}
 use lib.ListN.{length, getD}
 use Rattle.colours.specs.Palette.{standard}
+use Rattle.colours.specs.Marks.{lasting}
 use Rattle.canvas.specs.Picture.{span}
 use Rattle.canvas.specs.Picture as pictures
 use Rattle.canvas.specs.Paint.{painted}
@@ -88,10 +89,10 @@ fresh = 1 ∷ 1 ∷ 1 ∷ 1 ∷ 1 ∷ 1 ∷ 1 ∷ 1 ∷ 1 ∷ 1 ∷ 1 ∷ 1 ∷ 
 
 -- the session, its canvas and the definition's session at the opening
 unfoldable pub s₀ : Session
-s₀ = sessionFor house 1 (length fresh) clear standard lives.Live
+s₀ = sessionFor house 1 (length fresh) clear (lasting standard) lives.Live
 
 unfoldable pub l₀ : List ℕ
-l₀ = painted (span 0 1) (backgroundFor standard (clear .p2)) fresh
+l₀ = painted (span 0 1) (backgroundFor (lasting standard) (clear .p2)) fresh
 
 m₀ : calls.Session Reading
 m₀ = record { setting = settingMeant house 1 (length fresh); length = length fresh; state = opened (parametersMeant clear) standard; failed = false }

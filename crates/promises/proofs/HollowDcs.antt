@@ -9,6 +9,7 @@ use Rattle.numbers.specs.Step as numbers
 use Rattle.numbers.proofs.Reading.{read-none}
 use Rattle.colours.specs.declared.Palette.{Palette}
 use Rattle.colours.specs.Palette.{standard}
+use Rattle.colours.specs.Marks.{lasting}
 use Rattle.canvas.specs.Picture as pictures
 use Rattle.frame.specs.declared.Limits.{Limits}
 use Rattle.frame.specs.declared.Refusal.{Refusal}
@@ -73,7 +74,7 @@ unfoldable pub sixel : List ℕ
 sixel = 0x90 ∷ 0x71 ∷ 0x7E ∷ []
 
 unfoldable pub s₀ : Session
-s₀ = sessionOf (sessionFor house 1 (length fresh) noSettings standard lives.Live) (numbers.opened 3) (phases.Before places.Start)
+s₀ = sessionOf (sessionFor house 1 (length fresh) noSettings (lasting standard) lives.Live) (numbers.opened 3) (phases.Before places.Start)
 
 m₀ : calls.Session Phase
 m₀ = heldAt house 1 (length fresh) start false

@@ -59,6 +59,7 @@ pub mod SixdumpText
 pub mod SixdumpExample
 pub mod SixdumpLength
 pub mod FinishedSizes
+pub mod FinishedMarks
 pub mod AnySession
 pub mod RefusedOnly
 pub mod Retired

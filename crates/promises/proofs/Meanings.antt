@@ -115,6 +115,7 @@ reportAt r =
       bottom = r .extent .height;
       ratio = ratioAt (r .ratio);
       transparent = r .clear;
+      defined = r .defined;
     }
 
 report-back : (p : Palette) (r : Report) → reportAt (reportMeant r p) ≡ r
@@ -122,7 +123,7 @@ unfolding reportMeant reportAt
 report-back p r =
     ap
     (λ (x : Ratio).
-    record { width = r .width; height = r .height; right = r .right; bottom = r .bottom; ratio = x; transparent = r .transparent })
+    record { width = r .width; height = r .height; right = r .right; bottom = r .bottom; ratio = x; transparent = r .transparent; defined = r .defined })
     (ratio-back (r .ratio))
 
 finishingAt : meant.Finished → Finishing

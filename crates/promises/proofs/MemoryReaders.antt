@@ -101,7 +101,8 @@ unfolding finishedFrom refusalNumber finishReport reportNumbers finishMeant payl
 finish-told (finishes.Picture r) p =
     ap₂
     (λ (ratio : meant.Ratio) (clear : Bool).
-    meant.finished (record { size = areaOf (r .width) (r .height); ratio = ratio; clear = clear; extent = areaOf (r .right) (r .bottom); palette = p }))
+    let extent = areaOf (r .right) (r .bottom) in
+    meant.finished (record { size = areaOf (r .width) (r .height); ratio = ratio; clear = clear; extent = extent; defined = r .defined; palette = p }))
     (ratio-told (r .ratio)) (clear-told (r .transparent))
 finish-told (finishes.Refused n) p = cond-no _ _ (refusal-some n)
 

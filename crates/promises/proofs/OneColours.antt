@@ -1,4 +1,7 @@
 -- Only one outcome, of every public function of `colours` (One.antt).
+use mathlib.Core.Path.{ap₂}
+use mathlib.Core.List.{List}
+use Prim.Native.Nat.{ℕ}
 use denote.Ref.{now}
 use Rattle.colours.proofs.pack_rgb.Reads as pack-rgb
 use Rattle.colours.proofs.pack_rgb.Kinds as pack-rgb'
@@ -24,8 +27,18 @@ use Rattle.colours.proofs.Palette.table.Reads as palette-table
 use Rattle.colours.proofs.Palette.table.Kinds as palette-table'
 use Rattle.colours.proofs.Palette.of_table.Reads as palette-of-table
 use Rattle.colours.proofs.Palette.of_table.Kinds as palette-of-table'
+use Rattle.colours.proofs.marks.is_marked.Reads as marks-is-marked
+use Rattle.colours.proofs.marks.is_marked.Kinds as marks-is-marked'
+use Rattle.colours.proofs.marks.begin.Reads as marks-begin
+use Rattle.colours.proofs.marks.begin.Kinds as marks-begin'
+use Rattle.colours.proofs.marks.hand_on.Reads as marks-hand-on
+use Rattle.colours.proofs.marks.hand_on.Kinds as marks-hand-on'
+use Rattle.colours.proofs.Palette.is_marked.Reads as palette-is-marked
+use Rattle.colours.proofs.Palette.is_marked.Kinds as palette-is-marked'
+use Rattle.colours.proofs.Palette.lasting.Reads as palette-lasting
+use Rattle.colours.proofs.Palette.lasting.Kinds as palette-lasting'
 use Rattle.promises.proofs.Meanings.{table-known}
-use Rattle.promises.proofs.One.{only, One, OneLent}
+use Rattle.promises.proofs.One.{only, One, OneLent, OneWith}
 
 pub pack-rgb-one : One pack-rgb'.ps pack-rgb'.r pack-rgb.Learnt
 pack-rgb-one κs a z z' e e' p q = only p q
@@ -62,3 +75,18 @@ palette-table-one κs a z z' e e' p q = table-known (only p q)
 
 pub palette-of-table-one : One palette-of-table'.ps palette-of-table'.r palette-of-table.Learnt
 palette-of-table-one κs a z z' e e' p q = only p q
+
+pub palette-is-marked-one : One palette-is-marked'.ps palette-is-marked'.r palette-is-marked.Learnt
+palette-is-marked-one κs a z z' e e' p q = only p q
+
+pub palette-lasting-one : One palette-lasting'.ps palette-lasting'.r palette-lasting.Learnt
+palette-lasting-one κs a z z' e e' p q = only p q
+
+pub marks-is-marked-one : One marks-is-marked'.ps marks-is-marked'.r marks-is-marked.Learnt
+marks-is-marked-one κs a z z' e e' p q = only p q
+
+pub marks-begin-one : OneLent marks-begin'.ps marks-begin'.r marks-begin.Learnt (λ κs e. now (e .0))
+marks-begin-one κs a z z' e e' p q = table-known (only p q)
+
+pub marks-hand-on-one : OneWith marks-hand-on'.ps marks-hand-on'.r marks-hand-on.Learnt (λ κs e. now (e .0))
+marks-hand-on-one κs a z z' e e' p q = ap₂ (λ (n : ℕ) (t : List ℕ). (n, t)) (only (p .0) (q .0)) (table-known (only (p .1) (q .1)))

@@ -83,7 +83,8 @@ answerFrom endFrom number report =
 unfoldable pub ratioFrom : ℕ → ℕ → meant.Ratio
 ratioFrom kind n = cond (eqb kind 2) (byRaster n) (cond (eqb kind 1) (leftToP1 (some n)) (leftToP1 none))
 
--- the number that a finish answers is 0, and then the report has size, extent, ratio and background; or it is a refusal's
+-- the number that a finish answers is 0, and then the report has size, extent, ratio, background and how many registers were defined; or it is a
+-- refusal's
 unfoldable pub finishedFrom : ℕ → List ℕ → Palette → meant.Finished
 unfolding ratioFrom
 finishedFrom number report p =
@@ -94,6 +95,7 @@ finishedFrom number report p =
       ratio = ratioFrom (getD report 4 0) (getD report 5 0);
       clear = eqb (getD report 6 0) 1;
       extent = areaOf (getD report 2 0) (getD report 3 0);
+      defined = getD report 7 0;
       palette = p;
     }))
     (meant.turnedDown number)

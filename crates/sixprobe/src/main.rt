@@ -4,6 +4,7 @@ mod lines;
 mod obey;
 mod order;
 mod questions;
+mod registers;
 mod rooms;
 mod say;
 mod sessions;

@@ -3,6 +3,7 @@ use crate::order::Ask;
 use crate::order::Bounds;
 use crate::order::Order;
 use crate::questions;
+use crate::registers;
 use crate::rooms;
 use crate::rooms::first;
 use crate::rooms::held;
@@ -75,11 +76,6 @@ fn copy(lent: &[u8], stride: usize, width: usize, height: usize, length: usize) 
     copy_to(lent, stride, width, height, &mut buffer[..end]);
 }
 
-fn say_palette(palette: Palette) {
-    say::words(b"palette");
-    say::checksum(answers::registers_sum(palette));
-}
-
 fn reset(mut state: State) -> State {
     if state.is_busy() {
         say::words(b"busy");
@@ -123,7 +119,15 @@ fn obey_lent(order: Order, state: State, lent: &mut [u8], bytes: &[u8]) -> State
             state
         }
         Order::Palette => {
-            say_palette(state.palette);
+            registers::palette(state.palette);
+            state
+        }
+        Order::Marks => {
+            registers::marks(state.palette);
+            state
+        }
+        Order::Register(index) => {
+            registers::register(state.palette, index);
             state
         }
         Order::Reset => reset(state),

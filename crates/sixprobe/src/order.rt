@@ -48,6 +48,8 @@ pub(crate) enum Order {
     },
     Bench(Question),
     Palette,
+    Marks,
+    Register(usize),
     Reset,
 }
 
@@ -58,7 +60,7 @@ pub(crate) fn read(line: &[u8], length: usize, bytes: &mut [u8]) -> Order {
     }
     match count(line) {
         1 => alone(line),
-        2 => with_length(line, length),
+        2 => with_number(line, length),
         3 => feed(line, bytes),
         5 => copy(line),
         6 => dcs(line),
@@ -83,14 +85,17 @@ fn alone(line: &[u8]) -> Order {
     if begins(line, b"palette") {
         return Order::Palette;
     }
+    if begins(line, b"marks") {
+        return Order::Marks;
+    }
     if begins(line, b"reset") {
         return Order::Reset;
     }
     Order::Bad
 }
 
-// A new canvas has to have room, and what is lent has to be there.
-fn with_length(line: &[u8], length: usize) -> Order {
+// A new canvas has to have room, and what is lent has to be there. A register above 255 is 255's.
+fn with_number(line: &[u8], length: usize) -> Order {
     let Value::Of(asked) = number_at(line, 1) else {
         return Order::Bad;
     };
@@ -99,6 +104,9 @@ fn with_length(line: &[u8], length: usize) -> Order {
     }
     if begins(line, b"lend") && asked <= length {
         return Order::Lend(asked);
+    }
+    if begins(line, b"register") {
+        return Order::Register(asked);
     }
     Order::Bad
 }

@@ -90,6 +90,7 @@ fn picture(report: Report) {
     number(b" ", report.bottom);
     ratio(shown);
     background(report.transparent);
+    number(b" defined ", report.defined);
 }
 
 pub(crate) fn finishing(answer: Finishing) {

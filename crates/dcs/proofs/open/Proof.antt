@@ -4,6 +4,9 @@ use borrow.Author.Needs.{needs}
 use Rattle.dcs.proofs.open.Statement.{statement}
 use Rattle.dcs.proofs.open.Tie as tie
 
+lasting-requires : tie.Need-lasting-requires
+lasting-requires c κs = search needs
+
 table-requires : tie.Need-table-requires
 table-requires c κs = search needs
 
@@ -14,7 +17,10 @@ with-palette-requires : tie.Need-with-palette-requires
 with-palette-requires c κs = search needs
 
 returns : tie.Need-returns
-returns c = opened-whole _ _ _ _ (c .before .before .before .table .ensures) (c .before .«open» .ensures) (c .with-palette .ensures)
+returns c =
+    let opened = c .before in
+    let lent = opened .before .before in
+    opened-whole _ _ _ _ (lent .before .lasting .ensures) (lent .table .ensures) (opened .«open» .ensures) (c .with-palette .ensures)
 
 pub open-spec : {M : Type 1} → statement M
-open-spec = tie.close (tie.spec table-requires open-requires with-palette-requires returns)
+open-spec = tie.close (tie.spec lasting-requires table-requires open-requires with-palette-requires returns)

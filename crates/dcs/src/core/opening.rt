@@ -2,7 +2,7 @@
 ghost use mathlib.Core.Path.{_≡_};
 ghost use Rattle.colours.specs.Palette.{ofTable};
 ghost use Rattle.dcs.specs.Core.{openedOver};
-ghost use Rattle.dcs.specs.Session.{openedBy};
+ghost use Rattle.dcs.specs.Session.{openedOn};
 use crate::Phase;
 use crate::core::Core;
 use frame::Limits;
@@ -19,7 +19,7 @@ pub struct Opened {
 // Opens a session for a canvas of `length` bytes and `stride` pixels a row, with the registers that it is to start from. Nothing is
 // written before `q`.
 pub fn open(limits: Limits, stride: usize, colors: &[u32; 256], length: usize) -> Opened
-    ensures { λ r. ⌜ openedOver r (ofTable (now (colors .entry))) ≡ openedBy limits stride (ofTable (now (colors .entry))) length ⌝ }
+    ensures { λ r. ⌜ openedOver r (ofTable (now (colors .entry))) ≡ openedOn limits stride (ofTable (now (colors .entry))) length ⌝ }
 {
     let opened = deferred::reserve(limits, stride, colors, length);
     let answer = opened.answer;

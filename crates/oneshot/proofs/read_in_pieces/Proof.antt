@@ -14,7 +14,7 @@ use Rattle.payload.specs.declared.Session.{Session}
 use Rattle.colours.specs.Palette.{ofTable}
 use Rattle.payload.specs.Core.{over, openedOver, fedOver}
 use Rattle.oneshot.proofs.FeedLaws.{Midway, Piece, piece-end}
-use Rattle.oneshot.proofs.ReadLaws.{Turn, stop-in, read-in, part-read, part-ended, part-refused, part-passes, parts-read}
+use Rattle.oneshot.proofs.ReadLaws.{opens-owned, Turn, stop-in, read-in, part-read, part-ended, part-refused, part-passes, parts-read}
 use Rattle.oneshot.proofs.read_in_pieces.Statement.{statement}
 use Rattle.oneshot.proofs.read_in_pieces.Tie as tie
 
@@ -32,9 +32,12 @@ opening-of loop =
     let lent = loop .before .before .before in
     lent .before .before
 
+abbrev begun-of : tie.At-loop Inv-loop μ-loop → tie.After-begin Inv-loop μ-loop
+begun-of loop = opening-of loop .before .before .before
+
 abbrev start-of : tie.At-loop Inv-loop μ-loop → tie.Start Inv-loop μ-loop
 start-of loop =
-    let kept = opening-of loop .before .before .before in
+    let kept = begun-of loop .before .before in
     kept .before .before .before
 
 -- the piece that a turn feeds
@@ -56,12 +59,15 @@ module _ (c : tie.After-frame2 Inv-loop μ-loop) where
   abbrev start : tie.Start Inv-loop μ-loop
   start = start-of here
 
+  abbrev begun : tie.After-begin Inv-loop μ-loop
+  begun = begun-of here
+
   abbrev opened : tie.After-open Inv-loop μ-loop
   opened = opening-of here
 
   -- what was opened, what the turn began with and what its feed came to, as sessions
   abbrev whole : Opened
-  whole = openedOver (opened .«open» .result) (ofTable (now (start .args .colors)))
+  whole = openedOver (opened .«open» .result) (ofTable (begun .begin .last .0))
 
   abbrev held : Session
   held = over (opened .«open» .result .setup) (here .loop .life) (here .loop .frame) (ofTable (here .loop .colors))
@@ -76,7 +82,7 @@ module _ (c : tie.After-frame2 Inv-loop μ-loop) where
   turn =
       record {
         opens = start .pre .0;
-        opened = opened .«open» .ensures;
+        opened = opens-owned _ _ _ _ _ (begun .begin .ensures) (opened .«open» .ensures);
         enough = start .pre .1;
         midway = here .loop .inv;
         chunk = start .args .chunk;
@@ -92,6 +98,9 @@ module _ (c : tie.After-frame2 Inv-loop μ-loop) where
   -- no place in the part is above what a `usize` holds
   place-fits : {n : ℕ} → n ≤ length (now (start .args .part)) → Fits w64 n
   place-fits h = omega (arith, h, start .good .1 .1 .1 .1 .1 .0 .0)
+
+begin-requires : tie.Need-begin-requires Inv-loop μ-loop
+begin-requires c κs = search needs
 
 open-requires : tie.Need-open-requires Inv-loop μ-loop
 open-requires c κs = search (needs, parts-read)
@@ -115,7 +124,8 @@ feed-passed-requires : tie.Need-feed-passed-requires Inv-loop μ-loop
 feed-passed-requires c κs =
     let loop = c .before .before .before .before in
     let start = start-of loop in
-    part-passes _ _ _ _ _ (start .pre .0) (opening-of loop .«open» .ensures) (start .pre .1) (loop .loop .inv)
+    let opened = opens-owned _ _ _ _ _ (begun-of loop .begin .ensures) (opening-of loop .«open» .ensures) in
+    part-passes _ _ _ _ _ (start .pre .0) opened (start .pre .1) (loop .loop .inv)
 
 -- a stop
 
@@ -207,6 +217,7 @@ read-in-pieces-spec =
     (tie.spec
     Inv-loop
     μ-loop
+    begin-requires
     open-requires
     loop-holds
     piece-end-requires

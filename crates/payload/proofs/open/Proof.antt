@@ -4,6 +4,9 @@ use borrow.Author.Needs.{needs}
 use Rattle.payload.proofs.open.Statement.{statement}
 use Rattle.payload.proofs.open.Tie as tie
 
+lasting-requires : tie.Need-lasting-requires
+lasting-requires c κs = search needs
+
 table-requires : tie.Need-table-requires
 table-requires c κs = search needs
 
@@ -21,4 +24,4 @@ returns c = search (needs, wholes)
 
 pub open-spec : {M : Type 1} → statement M
 open-spec =
-    tie.close (tie.spec table-requires open-requires session-of-requires same-length returns)
+    tie.close (tie.spec lasting-requires table-requires open-requires session-of-requires same-length returns)

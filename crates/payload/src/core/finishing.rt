@@ -15,6 +15,7 @@ use crate::core::Setup;
 use crate::core::opening::is_transparent;
 use crate::refusals::Verdict;
 use crate::refusals::finish_refusal;
+use colours::marks::hand_on;
 use frame::Frame;
 use frame::Ground;
 use frame::Kind;
@@ -32,8 +33,8 @@ fn ratio_for(raster: Raster, p1: Given) -> Ratio
     Ratio::Raster(raster.ratio)
 }
 
-fn report_for(frame: Frame, settings: Settings) -> Report
-    ensures { λ r. ⌜ r ≡ reportedAs frame settings ⌝ }
+fn report_for(frame: Frame, settings: Settings, defined: usize) -> Report
+    ensures { λ r. ⌜ r ≡ reportedAs frame settings defined ⌝ }
 {
     let area = frame.area;
     let extent = frame.extent;
@@ -46,6 +47,7 @@ fn report_for(frame: Frame, settings: Settings) -> Report
         bottom: extent.bottom,
         ratio: ratio_for(frame.raster, p1),
         transparent: is_transparent(p2),
+        defined,
     }
 }
 
@@ -88,11 +90,12 @@ fn finish_live(
     if let Outcome::Refused(refusal) = outcome {
         return Finishing::Refused(refusal);
     }
-    Finishing::Picture(report_for(last.frame, settings))
+    let defined = hand_on(colors);
+    Finishing::Picture(report_for(last.frame, settings, defined))
 }
 
-// Carries the pending command out and reports. The session is gone. The registers are the picture's where there is one, and else
-// stay as they are.
+// Carries the pending command out and reports. The session is gone. The registers are what the picture leaves its owner where there is
+// one, and else stay as they are.
 pub fn finish(
     setup: Setup,
     life: Life,

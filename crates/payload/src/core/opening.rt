@@ -5,7 +5,7 @@ ghost use Prim.Native.Nat.{_≤_};
 ghost use lib.ListN.{length};
 ghost use Rattle.colours.specs.Palette.{ofTable};
 ghost use Rattle.payload.specs.Core.{openedOver, setupFor};
-ghost use Rattle.payload.specs.Session.{clearFor, backgroundFor, blankFrame, openingFor, firstLife, openedIf, firstPainted, openedBy};
+ghost use Rattle.payload.specs.Session.{clearFor, backgroundFor, blankFrame, openingFor, firstLife, openedIf, firstPainted, openedOn};
 use crate::Given;
 use crate::Life;
 use crate::Opening;
@@ -169,7 +169,7 @@ pub fn open(
     canvas: &mut [u8],
 ) -> Opened
     ensures { λ r. ⌜ (openedOver r (ofTable (now (colors .entry))), now (canvas .exit))
-        ≡ openedBy limits stride settings (ofTable (now (colors .entry))) (now (canvas .entry)) ⌝ }
+        ≡ openedOn limits stride settings (ofTable (now (colors .entry))) (now (canvas .entry)) ⌝ }
 {
     let length = canvas.len();
     let may = may_open(limits, stride, length);

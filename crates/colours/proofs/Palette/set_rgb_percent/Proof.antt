@@ -1,4 +1,4 @@
--- `colours::Palette::set_rgb_percent` meets its contract: a table taken out, set and put back is the palette set (`put-back-rgb`).
+-- `colours::Palette::set_rgb_percent` meets its contract, as `set_hls` does.
 -- Assumes nothing.
 use Rattle.colours.proofs.Laws.{put-back-rgb}
 use borrow.Author.Needs.{needs}
@@ -8,8 +8,11 @@ use Rattle.colours.proofs.Palette.set_rgb_percent.Tie as tie
 table-requires : tie.Need-table-requires
 table-requires c κs = search needs
 
-define-rgb-requires : tie.Need-define-rgb-requires
-define-rgb-requires c κs = search needs
+rgb-color-requires : tie.Need-rgb-color-requires
+rgb-color-requires c κs = search needs
+
+store-requires : tie.Need-store-requires
+store-requires c κs = search needs
 
 of-table-requires : tie.Need-of-table-requires
 of-table-requires c κs = search needs
@@ -19,4 +22,4 @@ returns c = search (needs, put-back-rgb)
 
 pub set-rgb-percent-spec : {M : Type 1} → statement M
 set-rgb-percent-spec =
-    tie.close (tie.spec table-requires define-rgb-requires of-table-requires returns)
+    tie.close (tie.spec table-requires rgb-color-requires store-requires of-table-requires returns)

@@ -1,5 +1,5 @@
--- `finish_report` meets its contract: the first seven of a report's nine numbers are its own (`seven-told`).
-use Rattle.owlgantry.proofs.SessionCalls.{seven-told}
+-- `finish_report` meets its contract: a report's numbers but the part's two are its own (`partless-told`).
+use Rattle.owlgantry.proofs.SessionCalls.{partless-told}
 use borrow.Author.Needs.{needs}
 use Rattle.owlgantry.proofs.answers.finish_report.Statement.{statement}
 use Rattle.owlgantry.proofs.answers.finish_report.Tie as tie
@@ -28,8 +28,11 @@ array-read-t21 c = search needs
 array-read-t24 : tie.Need-array-read-t24
 array-read-t24 c = search needs
 
+array-read-t27 : tie.Need-array-read-t27
+array-read-t27 c = search needs
+
 returns : tie.Need-returns
-returns c p = seven-told _ (c .report-numbers .ensures p)
+returns c p = partless-told _ (c .report-numbers .ensures p)
 
 pub finish-report-spec : {M : Type 1} → statement M
 finish-report-spec =
@@ -43,4 +46,5 @@ finish-report-spec =
     array-read-t18
     array-read-t21
     array-read-t24
+    array-read-t27
     returns)

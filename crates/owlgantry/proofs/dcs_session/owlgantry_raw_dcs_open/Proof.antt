@@ -4,6 +4,9 @@ use borrow.Author.Needs.{needs}
 use Rattle.owlgantry.proofs.dcs_session.owlgantry_raw_dcs_open.Statement.{statement}
 use Rattle.owlgantry.proofs.dcs_session.owlgantry_raw_dcs_open.Tie as tie
 
+begin-requires : tie.Need-begin-requires
+begin-requires c κs = search needs
+
 open-requires : tie.Need-open-requires
 open-requires c κs = search needs
 
@@ -15,9 +18,11 @@ opening-number-requires c κs = search needs
 
 returns : tie.Need-returns
 returns c =
-    let stored = c .before .before in
-    dcs-opened _ _ _ _ _ _ _ _ (stored .before .«open» .ensures) (stored .numbers-of .ensures) (c .opening-number .ensures)
+    let stored = c .before in
+    let opened = stored .before in
+    let begun = opened .before .before in
+    dcs-opened _ _ _ _ _ _ _ _ _ (begun .begin .ensures) (opened .«open» .ensures) (stored .numbers-of .ensures) (c .opening-number .ensures)
 
 pub owlgantry-raw-dcs-open-spec : {M : Type 1} → statement M
 owlgantry-raw-dcs-open-spec =
-    tie.close (tie.spec open-requires numbers-of-requires opening-number-requires returns)
+    tie.close (tie.spec begin-requires open-requires numbers-of-requires opening-number-requires returns)

@@ -12,6 +12,9 @@ given-from-requires c κs = search needs
 given-from-requires-2 : tie.Need-given-from-requires-2
 given-from-requires-2 c κs = search needs
 
+begin-requires : tie.Need-begin-requires
+begin-requires c κs = search needs
+
 open-requires : tie.Need-open-requires
 open-requires c κs = search needs
 
@@ -26,10 +29,12 @@ same-length c = search needs
 
 returns : tie.Need-returns
 returns c =
-    let stored = c .before .before in
+    let stored = c .before in
     let opened = stored .before .before .before in
-    let given = opened .before .before in
-    payload-opened _ _ _ _ _ _ _ _ _ _ _ (given .before .given-from .ensures) (given .given-from2 .ensures) (opened .«open» .ensures)
+    let begun = opened .before .before .before in
+    let given = begun .before .before .before in
+    payload-opened _ _ _ _ _ _ _ _ _ _ _ _ (given .before .given-from .ensures) (given .given-from2 .ensures) (begun .begin .ensures)
+    (opened .«open» .ensures)
     (stored .numbers-of .ensures) (c .opening-number .ensures)
 
 pub owlgantry-raw-payload-open-spec : {M : Type 1} → statement M
@@ -38,6 +43,7 @@ owlgantry-raw-payload-open-spec =
     (tie.spec
     given-from-requires
     given-from-requires-2
+    begin-requires
     open-requires
     numbers-of-requires
     opening-number-requires

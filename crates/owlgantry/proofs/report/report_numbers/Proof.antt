@@ -1,4 +1,4 @@
--- `report_numbers` meets its contract: the nine numbers of a picture (`report-picture`) and of a refusal (`report-as`).
+-- `report_numbers` meets its contract: the numbers of a picture (`report-picture`) and of a refusal (`report-as`).
 use Rattle.owlgantry.proofs.ReportLaws.{reported}
 use Rattle.payload.specs.Meant.{finishMeant}
 use Rattle.owlgantry.specs.Reading.{reportNumbers}

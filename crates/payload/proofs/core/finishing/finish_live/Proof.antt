@@ -16,6 +16,9 @@ same-length c = search needs
 returns : tie.Need-returns
 returns c = search (needs, finishings)
 
+hand-on-requires : tie.Need-hand-on-requires
+hand-on-requires c κs = search needs
+
 report-for-requires : tie.Need-report-for-requires
 report-for-requires c κs = search needs
 
@@ -33,6 +36,7 @@ finish-live-spec =
     enum-known-outcome
     same-length
     returns
+    hand-on-requires
     report-for-requires
     same-length-2
     returns-2)
