@@ -28,7 +28,7 @@ fn run_of(words: &[String]) -> Option<Run> {
     let word = |index: usize, otherwise: usize| words.get(index).map_or(Some(otherwise), |word| word.parse().ok());
     let rounds = word(0, STANDARD_ROUNDS).filter(|&rounds| rounds > 0)?;
     let seed = u32::try_from(word(1, random::STANDARD_SEED as usize)?).ok()?;
-    (words.len() <= 2).then_some(Run { rounds, seed })
+    Some(Run { rounds, seed })
 }
 
 /// The lower bound of whatever fills pixels.
@@ -42,11 +42,14 @@ fn memset(rounds: usize) {
 fn main() {
     let words: Vec<String> = std::env::args().skip(1).collect();
     let Some(run) = run_of(&words) else {
-        eprintln!("bench/run [ROUNDS] [SEED]: rounds from 1 on, a seed below 2^32");
+        eprintln!("bench/run [ROUNDS] [SEED] [FILE..]: rounds from 1 on, a seed below 2^32, and recordings to time in place of the tables");
         std::process::exit(2);
     };
     let kind = std::env::var("OWLGANTRY_KIND").unwrap_or_default();
     println!("ours: {kind}; {} rounds, seed {}, best processor time in microseconds", run.rounds, run.seed);
+    if let Some(files) = words.get(2..).filter(|files| !files.is_empty()) {
+        return tables::recordings::run(run.rounds, files);
+    }
     tables::whole::run(run);
     tables::called::run(run);
     tables::small::run(run);

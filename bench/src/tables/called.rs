@@ -45,8 +45,18 @@ pub fn rows(rounds: usize, lent: &mut Lent, input: &Input, pieces: &[usize]) {
     for &piece in pieces {
         payload_row(rounds, lent, &format!("{name}, payload, {}", told(piece)), payload, piece);
     }
+    dcs_rows(rounds, lent, name, &sequence, pieces);
+}
+
+/// Every call that reads one sequence: the owned decode, and a DCS stream.
+pub fn sequence_rows(rounds: usize, lent: &mut Lent, name: &str, sequence: &[u8], pieces: &[usize]) {
+    decode(rounds, lent, &format!("{name}, owned decode"), sequence);
+    dcs_rows(rounds, lent, name, sequence, pieces);
+}
+
+fn dcs_rows(rounds: usize, lent: &mut Lent, name: &str, sequence: &[u8], pieces: &[usize]) {
     for &piece in pieces {
-        sequence_row(rounds, lent, &format!("{name}, DCS, {}", told(piece)), &sequence, piece);
+        sequence_row(rounds, lent, &format!("{name}, DCS, {}", told(piece)), sequence, piece);
     }
 }
 

@@ -27,13 +27,14 @@ use Rattle.frame.specs.declared.Progress.{Progress}
 use Rattle.fast.specs.declared.argument.Number.{Number}
 use Rattle.fast.specs.declared.argument.Definition.{Definition}
 use Rattle.fast.specs.declared.Advance.{Advance}
+use Rattle.fast.specs.declared.drawn.Drawn.{Drawn}
 use Rattle.frame.specs.declared.sizes.Needed.the-variants.{Area}
 use Rattle.frame.specs.Sizes.{sixelArea}
 use Rattle.frame.specs.Commands.{withCommand, begun, noCommand, settledAs, withRepeat, repeatEnded, definedBy, redefinedBy, registerIn, withColor, paletteAfter, colorEndedBy, finishedOf, Ended, endedIn, ended}
 use Rattle.reference.specs.Step.{Reached, Fits, Holds, readAs, areaGrown, penAfter, extentAfter, inked, canvasAfter, movedTo, rowCeiling, ownOf, takesSemicolon, settledStep, argumentStep, stepIn, stepOf}
 use Rattle.fast.specs.Run.{planned}
 use Rattle.fast.specs.Argument.{onwards, Passes, coloring, counting, holding, closing, Written, Last, defining, Defined}
-use Rattle.fast.specs.Advance.{advanceTo, afterAdvance, settledTo, selectedTo, Advances}
+use Rattle.fast.specs.Advance.{advanceTo, afterAdvance, settledTo, settledIf, selectedTo, Draws, drawingOf, Advances}
 use Rattle.reference.proofs.StepLaws.{put-as, painted-read, drawn-area, data-sixel, data-own, step-data}
 use Rattle.reference.proofs.FeedLaws.{going-settled}
 use Rattle.fast.proofs.RunLaws.{going-here, still-grown}
@@ -240,7 +241,7 @@ module _ (f : Frame) (g : Ground) (bytes : List ℕ) (i left : ℕ) (p : Palette
       let whole = color-advances (defining d) (d .end) e (defined .passes) (defined .more) (defined .closes) in
       rw (done, palette, first) (rw (v₀, v₁, v₂, v₃, v₄) at whole)
 
--- ---- a repeat and its sixel
+-- ---- a sixel by itself, and a repeat and its sixel
 
 settled-frame : (f next : Frame) (b : Advance) → f .raster ≡ next .raster → afterAdvance (withCommand next noCommand) b ≡ afterAdvance f (settledTo b)
 unfolding afterAdvance withCommand settledTo
@@ -285,3 +286,58 @@ pub settled-fits : {now : Frame} (next : Frame) (g : Ground) (room : ℕ) → no
 unfolding withCommand noCommand
 settled-fits next g room here fits =
     rw here (record { rows = fits .rows; width = fits .width; height = fits .height }, refl)
+
+-- none of them
+pub none-drawn {ℓ} : {P : Type ℓ} {r : Drawn} → r ≡ record { repeat = 0; at = 0; said = false } → 1 ≤ r .repeat → P
+none-drawn e some = let none = ap (λ (d : Drawn). d .repeat) e in absurd (let z : 1 ≤ 0 = rw none at some in omega (arith, z))
+
+module _ {now : Frame} {d : Drawn} (f : Frame) (g : Ground) (bytes : List ℕ) (i room : ℕ) (fits : Fits f g room) (none : f .command .kind ≡ kinds.Data)
+    (more : i < length bytes) (draws : Draws (f .pen) bytes i (g .limits .repeats) d) (here : now ≡ drawingOf f d) where
+  -- where it stands by itself, and where a command said it
+  alone-frame : d .said ≡ false → now ≡ f
+  unfolding drawingOf
+  alone-frame t = here ∙ cond-no _ _ t
+
+  said-frame : d .said ≡ true → now ≡ withCommand (planned f (d .repeat)) noCommand
+  unfolding drawingOf planned
+  said-frame t = here ∙ cond-yes _ _ t
+
+  -- what it asks of the frame
+  pub drawn-fits : Fits now g room × (now .command .kind ≡ kinds.Data) × (d .at < length bytes) × (sixel (getD bytes (d .at) 0) ≡ true)
+  unfolding planned
+  drawn-fits =
+      by-test (d .said)
+      (λ t.
+      let s = draws .told t in
+      let both =
+      settled-fits (planned f (d .repeat)) g room (said-frame t) (record { rows = fits .rows; width = fits .width; height = fits .height })
+      in
+      (both .0, both .1, rw (s .at) (s .before .last .more), ap (λ (n : ℕ). sixel (getD bytes n 0)) (s .at) ∙ s .before .six))
+      (λ t.
+      let a = draws .alone t in (
+        subst (λ (x : Frame). Fits x g room) (sym (alone-frame t)) fits,
+        ap (λ (x : Frame). x .command .kind) (alone-frame t) ∙ none,
+        rw (a .1) more,
+        ap (λ (n : ℕ). sixel (getD bytes n 0)) (a .1) ∙ a .2,
+      ))
+
+pub drawn-advances : {r b : Advance} {now : Frame} {d : Drawn} {m : List ℕ} (f : Frame) (g : Ground) (bytes : List ℕ) (i left : ℕ) (p : Palette)
+    (l : List ℕ)
+    → Fits f g (length l) → f .command .kind ≡ kinds.Data → i < length bytes → Draws (f .pen) bytes i (g .limits .repeats) d → now ≡ drawingOf f d
+    → Advances g bytes (d .at) left now p l b p m → r ≡ settledIf (d .said) b → Advances g bytes i left f p l r p m
+unfolding settledIf planned
+drawn-advances {b = b} {now = now} {d = d} {m = m} f g bytes i left p l fits none more draws here second e =
+    by-test (d .said)
+    (λ t.
+    let s = draws .told t in
+    settled-advances f (planned f (d .repeat)) g bytes i (s .number .end) left p l
+    (repeat-advances f g bytes i left p l fits none more (s .begins) (s .before .last) (s .few) (s .repeat) refl refl)
+    refl
+    (said-frame f g bytes i (length l) fits none more draws here t)
+    (subst (λ (n : ℕ). Advances g bytes n left now p l b p m) (s .at) second)
+    (e ∙ cond-yes _ _ t))
+    (λ t.
+    let a = draws .alone t in
+    rw (e ∙ cond-no _ _ t)
+    (subst (λ (x : Frame). Advances g bytes i left x p l b p m) (alone-frame f g bytes i (length l) fits none more draws here t)
+    (subst (λ (n : ℕ). Advances g bytes n left now p l b p m) (a .1) second)))

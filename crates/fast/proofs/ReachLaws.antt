@@ -34,44 +34,34 @@ last-bits bytes i n s = sixel-bits _ (s .each (i + n) (omega arith) (omega arith
 
 -- ---- the right
 
-module _ (right column : ℕ) (bytes : List ℕ) (i : ℕ) where
-  -- it lies between the old one and the run's end
-  right-between : (n : ℕ) → (right ≤ runRight right column bytes i n) × (runRight right column bytes i n ≤ max right (column + n))
-  unfolding runRight rightAfter
-  right-between zero = (omega arith, omega arith)
-  right-between (suc n) =
-      let before = right-between n in
-      let most = to-most (getD bytes (i + n) 0 - 63) (column + n + 1) in
-      (omega (arith, before .0), omega (arith, before .1))
+-- the last sixel with ink stands in the run
+pub inked-most : (bytes : List ℕ) (i n : ℕ) → inkedLength bytes i n ≤ n
+unfolding inkedLength
+inked-most bytes i zero = omega arith
+inked-most bytes i (suc n) =
+    by-test (eqb (getD bytes (i + n) 0) 63) (λ t. rw t (omega (arith, inked-most bytes i n))) (λ t. rw t (omega arith))
 
-  -- so a run that ends inside the extent keeps it
-  right-inside : (n : ℕ) → column + n ≤ right → right ≡ runRight right column bytes i n
-  right-inside n h = let between = right-between n in omega (arith, between .0, between .1)
+-- past so many sixels it lies between the old one and their end
+past-between : (right column inked : ℕ) → (right ≤ cond (eqb inked 0) right (max right (column + inked)))
+    × (cond (eqb inked 0) right (max right (column + inked)) ≤ max right (column + inked))
+past-between right column inked = by-test (eqb inked 0) (λ t. rw t (omega arith, omega arith)) (λ t. rw t (omega arith, omega arith))
 
-  -- it is found at the last sixel with ink, where there is one
-  pub right-found : (n : ℕ) → Sixels bytes i (i + n)
-      → cond (eqb (inkedLength bytes i n) 0) right (max right (column + inkedLength bytes i n)) ≡ runRight right column bytes i n
-  unfolding runRight rightAfter inkedLength
-  right-found zero s = refl
-  right-found (suc n) s =
-      let b : ℕ = getD bytes (i + n) 0 in
-      let least : 63 ≤ b = sixel-least _ refl (s .each (i + n) (omega arith) (omega arith)) in
-      by-test (eqb b 63)
-      (λ t. let none = to-nowhere (b - 63) (column + n + 1) (last-bits bytes i n s) (omega (arith, eqb-true b 63 t)) in
-      rw t (right-found n (sixels-fewer bytes i n s) ∙ (let between = right-between n in omega arith)))
-      (λ t. let some = to-end (b - 63) (column + n + 1) (last-bits bytes i n s) (λ (e : b - 63 ≡ 0). eqb-false b 63 t (omega arith)) in
-      let between = right-between n in
-      let long : eqb (suc n) 0 ≡ false = ne-eqb (suc n) 0 (λ (e : suc n ≡ 0). omega arith) in
-      rw (t, long) (omega (arith, between .0, between .1)))
-
-  -- and after one part goes on from there
-  right-parts : (m n : ℕ) → runRight (runRight right column bytes i m) (column + m) bytes (i + m) n ≡ runRight right column bytes i (m + n)
-  unfolding runRight
-  right-parts m zero = rw (add-zero m)
-  right-parts m (suc n) =
-      let there : i + m + n ≡ i + (m + n) = omega arith in
-      let end : column + m + n + 1 ≡ column + (m + n) + 1 = omega arith in
-      rw (add-suc m n, there, end, right-parts m n)
+-- it is found at the last sixel with ink, where there is one
+pub right-found : (right column : ℕ) (bytes : List ℕ) (i n : ℕ) → Sixels bytes i (i + n)
+    → cond (eqb (inkedLength bytes i n) 0) right (max right (column + inkedLength bytes i n)) ≡ runRight right column bytes i n
+unfolding runRight rightAfter inkedLength
+right-found right column bytes i zero s = refl
+right-found right column bytes i (suc n) s =
+    let b : ℕ = getD bytes (i + n) 0 in
+    let least : 63 ≤ b = sixel-least _ refl (s .each (i + n) (omega arith) (omega arith)) in
+    let before = right-found right column bytes i n (sixels-fewer bytes i n s) in
+    by-test (eqb b 63)
+    (λ t. let none = to-nowhere (b - 63) (column + n + 1) (last-bits bytes i n s) (omega (arith, eqb-true b 63 t)) in
+    rw t (omega arith))
+    (λ t. let some = to-end (b - 63) (column + n + 1) (last-bits bytes i n s) (λ (e : b - 63 ≡ 0). eqb-false b 63 t (omega arith)) in
+    let between = past-between right column (inkedLength bytes i n) in
+    let long : eqb (suc n) 0 ≡ false = ne-eqb (suc n) 0 (λ (e : suc n ≡ 0). omega arith) in
+    rw (t, long) (omega (arith, inked-most bytes i n)))
 
 -- ---- the last sixel with ink, from the end
 
@@ -89,12 +79,6 @@ inked-earlier bytes i (suc n) some e =
     let last : suc n - 1 ≡ n = omega arith in
     let blank : getD bytes (i + n) 0 ≡ 63 = rw last at e in
     rw (last, eq-eqb (getD bytes (i + n) 0) 63 blank)
-
-pub inked-most : (bytes : List ℕ) (i n : ℕ) → inkedLength bytes i n ≤ n
-unfolding inkedLength
-inked-most bytes i zero = omega arith
-inked-most bytes i (suc n) =
-    by-test (eqb (getD bytes (i + n) 0) 63) (λ t. rw t (omega (arith, inked-most bytes i n))) (λ t. rw t (omega arith))
 
 pub inked-none : (bytes : List ℕ) (i : ℕ) → inkedLength bytes i 0 ≡ 0
 unfolding inkedLength
@@ -125,36 +109,21 @@ bottom-both : (bottom row a b : ℕ) → a < 64 → b < 64 → bottomAfter botto
 unfolding bottomAfter paintedTo
 bottom-both bottom row a b h k = rw (depth-larger a b h k) (larger-depth bottom row (depth 6 a) (depth 6 b))
 
-module _ (bottom row : ℕ) (bytes : List ℕ) (i : ℕ) where
-  -- a run whose six rows lie above it keeps it
-  bottom-inside : (n : ℕ) → row + 6 ≤ bottom → bottom ≡ runBottom bottom row bytes i n
-  unfolding runBottom bottomAfter
-  bottom-inside zero h = refl
-  bottom-inside (suc n) h =
-      let before : bottom ≡ runBottom bottom row bytes i n = bottom-inside n h in
-      let deep = depth-most 6 (getD bytes (i + n) 0 - 63) in
-      let most = to-most (getD bytes (i + n) 0 - 63) (row + depth 6 (getD bytes (i + n) 0 - 63)) in
-      omega arith
+-- the largest bits are six
+pub largest-six : (bytes : List ℕ) (i n : ℕ) → Sixels bytes i (i + n) → largestBits bytes i n < 64
+unfolding largestBits
+largest-six bytes i zero s = omega arith
+largest-six bytes i (suc n) s = omega (arith, largest-six bytes i n (sixels-fewer bytes i n s), last-bits bytes i n s)
 
-  -- the largest bits are six
-  pub largest-six : (n : ℕ) → Sixels bytes i (i + n) → largestBits bytes i n < 64
-  unfolding largestBits
-  largest-six zero s = omega arith
-  largest-six (suc n) s = omega (arith, largest-six n (sixels-fewer bytes i n s), last-bits bytes i n s)
-
-  -- and tell it
-  pub bottom-largest : (n : ℕ) → Sixels bytes i (i + n) → bottomAfter bottom (largestBits bytes i n) row ≡ runBottom bottom row bytes i n
-  unfolding runBottom largestBits
-  bottom-largest zero s = bottom-none bottom row
-  bottom-largest (suc n) s =
-      let before = sixels-fewer bytes i n s in
-      bottom-both bottom row (largestBits bytes i n) (getD bytes (i + n) 0 - 63) (largest-six n before) (last-bits bytes i n s)
-      ∙ ap (λ (x : ℕ). bottomAfter x (getD bytes (i + n) 0 - 63) row) (bottom-largest n before)
-
-  bottom-parts : (m n : ℕ) → runBottom (runBottom bottom row bytes i m) row bytes (i + m) n ≡ runBottom bottom row bytes i (m + n)
-  unfolding runBottom
-  bottom-parts m zero = rw (add-zero m)
-  bottom-parts m (suc n) = let there : i + m + n ≡ i + (m + n) = omega arith in rw (add-suc m n, there, bottom-parts m n)
+-- and tell it
+pub bottom-largest : (bottom row : ℕ) (bytes : List ℕ) (i n : ℕ) → Sixels bytes i (i + n)
+    → bottomAfter bottom (largestBits bytes i n) row ≡ runBottom bottom row bytes i n
+unfolding runBottom largestBits
+bottom-largest bottom row bytes i zero s = bottom-none bottom row
+bottom-largest bottom row bytes i (suc n) s =
+    let before = sixels-fewer bytes i n s in
+    bottom-both bottom row (largestBits bytes i n) (getD bytes (i + n) 0 - 63) (largest-six bytes i n before) (last-bits bytes i n s)
+    ∙ ap (λ (x : ℕ). bottomAfter x (getD bytes (i + n) 0 - 63) row) (bottom-largest bottom row bytes i n before)
 
 -- one sixel more
 pub largest-more : {m r : ℕ} (bytes : List ℕ) (i n : ℕ) → 63 ≤ getD bytes (i + n) 0 → m ≡ 63 + largestBits bytes i n
@@ -172,10 +141,17 @@ both-sides : {r r′ b b′ : ℕ} → r ≡ r′ → b ≡ b′ → _≡_ {A = 
 both-sides e k = ap₂ (λ (x y : ℕ). record { right = x; bottom = y }) e k
 
 module _ (e : Extent) (column row : ℕ) (bytes : List ℕ) (i : ℕ) where
+  -- a run that lies inside it keeps it
   pub extent-inside : (n : ℕ) → row + 6 ≤ e .bottom → column + n ≤ e .right → e ≡ runExtent e column row bytes i n
-  unfolding runExtent
-  extent-inside n rows columns =
-      both-sides (right-inside (e .right) column bytes i n columns) (bottom-inside (e .bottom) row bytes i n rows)
+  unfolding runExtent runRight runBottom rightAfter bottomAfter
+  extent-inside zero rows columns = refl
+  extent-inside (suc n) rows columns =
+      let before : e ≡ runExtent e column row bytes i n = extent-inside n rows (omega arith) in
+      let bits : ℕ = getD bytes (i + n) 0 - 63 in
+      let wide = to-most bits (column + n + 1) in
+      let low = to-most bits (row + depth 6 bits) in
+      let deep = depth-most 6 bits in
+      both-sides (omega (arith, ap (λ (x : Extent). x .right) before)) (omega (arith, ap (λ (x : Extent). x .bottom) before))
 
   pub extent-found : {right bottom inked bits : ℕ} (n : ℕ) → Sixels bytes i (i + n) → inked ≡ inkedLength bytes i n
       → right ≡ cond (eqb inked 0) (e .right) (max (e .right) (column + inked)) → bits ≡ largestBits bytes i n
@@ -186,13 +162,22 @@ module _ (e : Extent) (column row : ℕ) (bytes : List ℕ) (i : ℕ) where
       (x ∙ ap (λ (k : ℕ). cond (eqb k 0) (e .right) (max (e .right) (column + k))) told ∙ right-found (e .right) column bytes i n s)
       (y ∙ ap (λ (k : ℕ). bottomAfter (e .bottom) k row) largest ∙ bottom-largest (e .bottom) row bytes i n s)
 
+  -- a run goes on from where its first part led
+  parts-joined : (m n : ℕ) → runExtent (runExtent e column row bytes i m) (column + m) row bytes (i + m) n ≡ runExtent e column row bytes i (m + n)
+  unfolding runExtent runRight runBottom
+  parts-joined m zero = rw (add-zero m)
+  parts-joined m (suc n) =
+      let there : i + m + n ≡ i + (m + n) = omega arith in
+      let end : column + m + n + 1 ≡ column + (m + n) + 1 = omega arith in
+      let before = parts-joined m n in
+      rw (add-suc m n, there, end, ap (λ (x : Extent). x .right) before, ap (λ (x : Extent). x .bottom) before)
+
   pub extent-parts : {first whole : Extent} (m n : ℕ) → m ≤ n → first ≡ runExtent e column row bytes i m
       → whole ≡ runExtent first (column + m) row bytes (i + m) (n - m) → whole ≡ runExtent e column row bytes i n
-  unfolding runExtent
   extent-parts m n h part rest =
       let all : m + (n - m) ≡ n = omega arith in
       rest ∙ ap (λ (x : Extent). runExtent x (column + m) row bytes (i + m) (n - m)) part
-      ∙ both-sides (right-parts (e .right) column bytes i m (n - m)) (bottom-parts (e .bottom) row bytes i m (n - m))
+      ∙ parts-joined m (n - m)
       ∙ ap (runExtent e column row bytes i) all
 
 -- ---- the right past so many sixels

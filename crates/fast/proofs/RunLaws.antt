@@ -3,7 +3,7 @@ use Prim.Native.Nat.{ℕ, zero, suc, _+_, _-_, _*_, _≤_, _<_}
 use mathlib.Core.Bool.{Bool, true, false, true≢false}
 use mathlib.Core.List.{List}
 use mathlib.Core.Path.{_≡_, refl, sym, ap, ap₂, _∙_, subst}
-use native.Mathlib.Nat.{add-zero, not-suc-le-zero}
+use native.Mathlib.Nat.{add-zero, add-suc, add-assoc, not-suc-le-zero}
 use native.Mathlib.Numerals.{add-one}
 use native.Mathlib.Omega.{arith}
 use borrow.Author.Tests.{le-leb}
@@ -21,6 +21,7 @@ use Rattle.frame.specs.declared.Frame.{Frame}
 use Rattle.frame.specs.declared.Ground.{Ground}
 use Rattle.frame.specs.declared.Kind.the-variants as kinds
 use Rattle.fast.specs.declared.Advance.{Advance}
+use Rattle.fast.specs.declared.blend.Four.{Four}
 use Rattle.frame.specs.declared.sizes.Needed.{Needed}
 use Rattle.frame.specs.declared.sizes.Needed.the-variants as needs
 use Rattle.frame.specs.Sizes.{sixelArea}
@@ -28,10 +29,12 @@ use Rattle.frame.specs.Commands.{withRepeat}
 use Rattle.reference.specs.Step.{Fits, Holds, areaGrown, passedTo}
 use Rattle.fast.specs.Argument.{onwards}
 use Rattle.fast.specs.Advance.{advanceTo, afterAdvance, Advances}
-use Rattle.fast.specs.Run.{Sixels, planned, runInk, runPainted, runExtent, ran, runAdvance, runCanvas}
+use Rattle.fast.specs.Blend.{fourInk, fourPainted, sixelsAt}
+use Rattle.fast.specs.Run.{Sixels, Laid, planned, runInk, runPainted, runExtent, ran, runAdvance, runCanvas}
 use Rattle.frame.proofs.SizeLaws.{sixel-visible, sixel-reach}
-use Rattle.reference.proofs.StepLaws.{needed-holds}
+use Rattle.reference.proofs.StepLaws.{sixel-bits, needed-holds}
 use Rattle.reference.proofs.FeedLaws.{Going}
+use Rattle.fast.proofs.BlendLaws.{blank-painted}
 use Rattle.fast.proofs.RunSteps.{ink-few, going-as, ranFrame, ranCanvas, run-going}
 
 -- ---- a run that was painted
@@ -134,49 +137,133 @@ sixels-before bytes i n six s =
           (λ above. s .each k above (omega arith));
     }
 
--- where the first is a sixel, a byte that is none comes later
-pub first-counted : {t : Bool} (bytes : List ℕ) (i n : ℕ) → sixel (getD bytes i 0) ≡ true → t ≡ sixel (getD bytes (i + n) 0) → t ≡ false → 1 ≤ n
-first-counted bytes i n six e none =
+-- ---- stretches of sixels that were painted
+
+ink-joined : (bytes : List ℕ) (i n m : ℕ) → runInk bytes i n + runInk bytes (i + n) m ≡ runInk bytes i (n + m)
+unfolding runInk
+ink-joined bytes i n zero = rw (add-zero n) (add-zero (runInk bytes i n))
+ink-joined bytes i n (suc m) = rw (add-suc n m, sym (add-assoc i n m)) (omega (arith, ink-joined bytes i n m))
+
+painted-joined : (stride column row : ℕ) (px bytes : List ℕ) (i n m : ℕ) (l : List ℕ)
+    → runPainted stride (column + n) row px bytes (i + n) m (runPainted stride column row px bytes i n l)
+    ≡ runPainted stride column row px bytes i (n + m) l
+unfolding runPainted
+painted-joined stride column row px bytes i n zero l = rw (add-zero n)
+painted-joined stride column row px bytes i n (suc m) l =
+    rw (add-suc n m, sym (add-assoc i n m), sym (add-assoc column n m))
+    (ap (sixelPainted stride (column + n + m) row 1 (getD bytes (i + n + m) 0 - 63) px) (painted-joined stride column row px bytes i n m l))
+
+module _ (stride column row : ℕ) (px bytes : List ℕ) (i : ℕ) where
+  -- none
+  pub laid-none : (l : List ℕ) → i ≤ length bytes → Laid stride column row px bytes i 0 0 l l
+  unfolding runInk runPainted
+  laid-none l h = record { sixels = sixels-none bytes i h; inked = refl; canvas = refl }
+
+  -- one
+  pub laid-one : {t : Bool} {ink : ℕ} {after : List ℕ} (l : List ℕ) → i < length bytes → t ≡ sixel (getD bytes i 0) → t ≡ true
+      → ink ≡ ones (getD bytes i 0 - 63) → after ≡ sixelPainted stride column row 1 (getD bytes i 0 - 63) px l
+      → Laid stride column row px bytes i 1 ink l after
+  unfolding runInk runPainted
+  laid-one l h e t x p =
+      record {
+        sixels = sixels-more bytes i 0 (sixels-none bytes i (omega arith)) (omega arith) (rw (add-zero i) e) t;
+        inked = rw (add-zero i) (omega (arith, x));
+        canvas = rw (add-zero i, add-zero column) p;
+      }
+
+  -- a blank one, which leaves the canvas, and a full one
+  pub laid-blank : (l : List ℕ) → i < length bytes → getD bytes i 0 ≡ 63 → Laid stride column row px bytes i 1 0 l l
+  unfolding sixel ones
+  laid-blank l h e = laid-one l h refl (ap sixel e) (sym (ap (λ (b : ℕ). ones (b - 63)) e)) (blank-painted stride column row _ px l (ap (λ (b : ℕ). b - 63) e))
+
+  pub laid-full : {after : List ℕ} (l : List ℕ) → i < length bytes → getD bytes i 0 ≡ 126 → after ≡ sixelPainted stride column row 1 63 px l
+      → Laid stride column row px bytes i 1 6 l after
+  unfolding sixel ones
+  laid-full l h e p =
+      laid-one l h refl (ap sixel e) (sym (ap (λ (b : ℕ). ones (b - 63)) e))
+      (p ∙ sym (ap (λ (b : ℕ). sixelPainted stride column row 1 (b - 63) px l) e))
+
+  -- four
+  pub laid-four : {four : Four} {ink : ℕ} {after : List ℕ} (l : List ℕ) → Sixels bytes i (i + 4) → four ≡ sixelsAt bytes i → ink ≡ fourInk four
+      → after ≡ fourPainted stride column row four px l
+      → Laid stride column row px bytes i 4 ink l after
+  unfolding runInk runPainted fourInk fourPainted sixelsAt
+  laid-four l s e x p =
+      record {
+        sixels = s;
+        inked = x ∙ ap fourInk e ∙ rw (add-zero i) (omega arith);
+        canvas = p ∙ ap (λ (y : Four). fourPainted stride column row y px l) e ∙ rw (add-zero i, add-zero column);
+      }
+
+  -- two of them side by side
+  pub laid-joined : {n m x y : ℕ} {l between after : List ℕ} → Laid stride column row px bytes i n x l between
+      → Laid stride (column + n) row px bytes (i + n) m y between after
+      → Laid stride column row px bytes i (n + m) (x + y) l after
+  laid-joined {n} {m} {x} {y} {l} a b =
+      record {
+        sixels = record {
+          within = omega (arith, b .sixels .within);
+          each = λ k h₁ h₂. split k (i + n) (λ below. a .sixels .each k h₁ below) (λ above. b .sixels .each k above (omega arith));
+        };
+        inked = ap₂ (λ (u v : ℕ). u + v) (a .inked) (b .inked) ∙ ink-joined bytes i n m;
+        canvas = b .canvas
+            ∙ ap (runPainted stride (column + n) row px bytes (i + n) m) (a .canvas)
+            ∙ painted-joined stride column row px bytes i n m l;
+      }
+
+  -- on a canvas that has room their ink is at most its bytes
+  pub laid-few : {n x : ℕ} {l after : List ℕ} (room : ℕ) → Laid stride column row px bytes i n x l after → column + n ≤ stride
+      → row + 6 ≤ rowsOf room stride
+      → x ≤ room
+  laid-few {n} room a columns rows =
+      let six : 6 ≤ rowsOf room stride = omega arith in
+      omega (arith, a .inked, ink-few bytes i n (a .sixels), rows-room room stride 6 six)
+
+-- where the first is a sixel and all were taken that are, one was
+pub first-taken : (bytes : List ℕ) (i n most : ℕ) → sixel (getD bytes i 0) ≡ true → 1 ≤ most
+    → (n < most → sixel (getD bytes (i + n) 0) ≡ false)
+    → 1 ≤ n
+first-taken bytes i n most six some rest =
     split n 1
     (λ below.
     let here : i + n ≡ i = omega arith in
-    absurd (true≢false (sym six ∙ ap (λ (j : ℕ). sixel (getD bytes j 0)) (sym here) ∙ sym e ∙ none)))
+    absurd (true≢false (sym six ∙ ap (λ (j : ℕ). sixel (getD bytes j 0)) (sym here) ∙ rest (omega arith))))
     (λ above. above)
 
--- one sixel more
-pub ink-more : (bytes : List ℕ) (i n : ℕ) → runInk bytes i n + ones (getD bytes (i + n) 0 - 63) ≡ runInk bytes i (n + 1)
-unfolding runInk
-ink-more bytes i n = rw (add-one n)
+-- where all are sixels, all were taken
+pub all-taken : (bytes : List ℕ) (i n most : ℕ) → Sixels bytes i (i + most) → n ≤ most → (n < most → sixel (getD bytes (i + n) 0) ≡ false)
+    → n ≡ most
+all-taken bytes i n most s few rest =
+    split n most
+    (λ below. absurd (true≢false (sym (s .each (i + n) (omega arith) (omega arith)) ∙ rest below)))
+    (λ above. omega arith)
 
-pub painted-more : (stride column row : ℕ) (px bytes : List ℕ) (i n : ℕ) (l : List ℕ)
-    → sixelPainted stride (column + n) row 1 (getD bytes (i + n) 0 - 63) px (runPainted stride column row px bytes i n l)
-    ≡ runPainted stride column row px bytes i (n + 1) l
-unfolding runPainted
-painted-more stride column row px bytes i n l = rw (add-one n)
-
--- the ink of a run that has room is at most the canvas's bytes
-pub ink-room : (stride column row room : ℕ) (bytes : List ℕ) (i n count : ℕ) → Sixels bytes i (i + count) → n < count → column + count ≤ stride
-    → row + 6 ≤ rowsOf room stride
-    → runInk bytes i n + 6 ≤ room
-ink-room stride column row room bytes i n count s more columns rows =
-    let part : Sixels bytes i (i + n) = record { within = omega (arith, s .within); each = λ k h₁ h₂. s .each k h₁ (omega arith) } in
-    let six : 6 ≤ rowsOf room stride = omega arith in
-    omega (arith, ink-few bytes i n part, rows-room room stride 6 six)
+-- the bits of each are six
+pub four-few : {four : Four} (bytes : List ℕ) (i : ℕ) → Sixels bytes i (i + 4) → four ≡ sixelsAt bytes i
+    → (four .a < 64) × (four .b < 64) × (four .c < 64) × (four .d < 64)
+unfolding sixelsAt
+four-few bytes i s e =
+    let few : (k : ℕ) → i ≤ k → k < i + 4 → getD bytes k 0 - 63 < 64 = λ k h₁ h₂. sixel-bits (getD bytes k 0) (s .each k h₁ h₂) in
+    rw e (
+      few i (omega arith) (omega arith),
+      few (i + 1) (omega arith) (omega arith),
+      few (i + 2) (omega arith) (omega arith),
+      few (i + 3) (omega arith) (omega arith),
+    )
 
 -- the frame after a run, by the extent that was found
 pub painted-as : {next : Frame} {r : Advance} {l₁ l₂ : List ℕ} {e : Extent} {ink : ℕ} (f : Frame) (g : Ground) (w h : ℕ) (bytes : List ℕ) (i : ℕ)
     (l : List ℕ)
     → l₁ ≡ areaGrown f g w h l
-    → (ink ≡ runInk bytes i (f .pen .repeat))
-    × (l₂ ≡ runPainted (g .stride) (f .pen .column) (f .pen .row) (f .pen .color) bytes i (f .pen .repeat) l₁)
+    → Laid (g .stride) (f .pen .column) (f .pen .row) (f .pen .color) bytes i (f .pen .repeat) ink l₁ l₂
     → e ≡ runExtent (f .extent) (f .pen .column) (f .pen .row) bytes i (f .pen .repeat)
     → next ≡ passedTo f (record { right = e .right; bottom = e .bottom }) w h → r ≡ advanceTo next false (i + f .pen .repeat) ink
     → (r ≡ runAdvance f w h bytes i) × (l₂ ≡ runCanvas f g w h bytes i l)
 unfolding runAdvance ran runCanvas
 painted-as f g w h bytes i l e₁ e₂ x e₃ e₄ =
     let after = e₃ ∙ ap (λ (y : Extent). passedTo f y w h) x in (
-      e₄ ∙ ap₂ (λ (y : Frame) (z : ℕ). advanceTo y false (i + f .pen .repeat) z) after (e₂ .0),
-      e₂ .1 ∙ ap (runPainted (g .stride) (f .pen .column) (f .pen .row) (f .pen .color) bytes i (f .pen .repeat)) e₁,
+      e₄ ∙ ap₂ (λ (y : Frame) (z : ℕ). advanceTo y false (i + f .pen .repeat) z) after (e₂ .inked),
+      e₂ .canvas ∙ ap (runPainted (g .stride) (f .pen .column) (f .pen .row) (f .pen .color) bytes i (f .pen .repeat)) e₁,
     )
 
 -- ---- a run on the visible area as it is
@@ -187,22 +274,22 @@ unfolding areaGrown
 still-grown f g l = grown-none (g .stride) (areaOf (f .area .width) (f .area .height)) (g .background) l
 
 pub visible-advances : {whole next : Frame} {l l′ : List ℕ} {r : Advance} {e : Extent} {ink : ℕ} (f : Frame) (g : Ground) (bytes : List ℕ) (i n : ℕ)
-    → Fits f g (length l) → f .command .kind ≡ kinds.Data → f .pen .repeat ≡ 1 → Sixels bytes i (i + n) → 1 ≤ n
-    → f .pen .column + n ≤ f .area .width → f .pen .row + 6 ≤ f .area .height → ink ≡ runInk bytes i n
-    → l′ ≡ runPainted (g .stride) (f .pen .column) (f .pen .row) (f .pen .color) bytes i n l
+    → Fits f g (length l) → f .command .kind ≡ kinds.Data → f .pen .repeat ≡ 1 → 1 ≤ n
+    → f .pen .column + n ≤ f .area .width → f .pen .row + 6 ≤ f .area .height
+    → Laid (g .stride) (f .pen .column) (f .pen .row) (f .pen .color) bytes i n ink l l′
     → e ≡ runExtent (whole .extent) (whole .pen .column) (whole .pen .row) bytes i (whole .pen .repeat)
     → whole ≡ planned f n → next ≡ passedTo whole (record { right = e .right; bottom = e .bottom }) (f .area .width) (f .area .height)
     → r ≡ advanceTo next false (i + n) ink
     → (p : Palette) (left : ℕ) → 6 * n ≤ left → Advances g bytes i left f p l r p l′
 unfolding planned withRepeat
-visible-advances {l = l} {e = e} f g bytes i n fits none once s some columns rows e₁ e₂ x plan e₃ e₄ =
+visible-advances {l = l} {e = e} f g bytes i n fits none once some columns rows laid x plan e₃ e₄ =
     let w : ℕ = f .area .width in
     let h : ℕ = f .area .height in
     let area : needs.Area w h ≡ sixelArea (planned f n .pen) (planned f n .area) g =
     sixel-visible (planned f n .pen) (f .area) g (sym (and-both (le-leb _ _ columns) (le-leb _ _ rows))) refl
     in
-    painted-advances f g bytes i n w h refl fits none once s some area refl
-    (painted-as (planned f n) g w h bytes i l (sym (still-grown (planned f n) g l)) (e₁, e₂)
+    painted-advances f g bytes i n w h refl fits none once (laid .sixels) some area refl
+    (painted-as (planned f n) g w h bytes i l (sym (still-grown (planned f n) g l)) laid
     (x ∙ ap (λ (z : Frame). runExtent (z .extent) (z .pen .column) (z .pen .row) bytes i (z .pen .repeat)) plan)
     (e₃ ∙ ap (λ (z : Frame). passedTo z (record { right = e .right; bottom = e .bottom }) w h) plan) e₄)
 

@@ -1,17 +1,21 @@
 -- What the code does with some bytes at once while no command is pending: an advance.
-use Prim.Native.Nat.{ℕ, _+_, _≤_, min}
+use Prim.Native.Nat.{ℕ, _+_, _≤_, min, max}
 use mathlib.Core.Path.{_≡_}
 use mathlib.Core.Bool.{Bool, true, false, cond}
 use mathlib.Core.List.{List}
-use lib.ListN.{length}
+use lib.ListN.{length, getD}
+use Rattle.numbers.specs.Bytes.{sixel, bang}
 use Rattle.colours.specs.declared.Palette.{Palette}
 use Rattle.colours.specs.Palette.{registerOf}
 use Rattle.frame.specs.declared.Frame.{Frame}
 use Rattle.frame.specs.declared.Ground.{Ground}
+use Rattle.frame.specs.declared.Pen.{Pen}
 use Rattle.fast.specs.declared.Advance.{Advance}
-use Rattle.frame.specs.Commands.{noCommand, withColor}
+use Rattle.fast.specs.declared.drawn.Drawn.{Drawn}
+use Rattle.fast.specs.declared.argument.Number.{Number}
+use Rattle.frame.specs.Commands.{noCommand, withCommand, withColor, withRepeat}
 use Rattle.reference.specs.Step.{Fits}
-use Rattle.fast.specs.Argument.{onwards}
+use Rattle.fast.specs.Argument.{onwards, Before}
 
 -- to a frame, whose command was read or not
 unfoldable pub advanceTo : Frame → Bool → ℕ → ℕ → Advance
@@ -32,6 +36,33 @@ afterAdvance f r =
 -- the same, after a command that was read before it
 unfoldable pub settledTo : Advance → Advance
 settledTo r = record { pen = r .pen; area = r .area; extent = r .extent; settled = true; end = r .end; ink = r .ink }
+
+-- where one was
+unfoldable pub settledIf : Bool → Advance → Advance
+unfolding settledTo
+settledIf said r = cond said (settledTo r) r
+
+-- a repeat command within the limit and the sixel after it
+pub record Said (bytes : List ℕ) (from most : ℕ) (r : Drawn) : Type 0 where
+  pub number : Number
+  pub before : Before bytes (from + 1) number
+  pub few : number .value ≤ most
+  pub repeat : r .repeat ≡ max 1 (number .value)
+  pub at : r .at ≡ number .end
+  pub begins : getD bytes from 0 ≡ bang
+
+-- a sixel that is painted by itself: with the pen's repeat where it stands, or as a repeat command says
+pub record Draws (pen : Pen) (bytes : List ℕ) (from most : ℕ) (r : Drawn) : Type 0 where
+  pub alone : r .said ≡ false → (r .repeat ≡ pen .repeat) × (r .at ≡ from) × (sixel (getD bytes from 0) ≡ true)
+  pub told : r .said ≡ true → Said bytes from most r
+
+-- the frame that it is drawn with
+unfoldable pub drawingOf : Frame → Drawn → Frame
+drawingOf f d =
+    cond (d .said)
+    (withCommand
+    (record { pen = withRepeat (f .pen) (d .repeat); area = f .area; extent = f .extent; raster = f .raster; command = f .command }) noCommand)
+    f
 
 -- the pen has the colour of a register, by its number, and a command is done
 unfoldable pub selectedTo : Frame → Palette → ℕ → ℕ → Advance

@@ -38,6 +38,12 @@ runPainted stride column row px bytes from zero l = l
 runPainted stride column row px bytes from (suc n) l =
     sixelPainted stride (column + n) row 1 (getD bytes (from + n) 0 - 63) px (runPainted stride column row px bytes from n l)
 
+-- so many sixels from a place on were painted side by side: their ink, and the canvas before and after
+pub record Laid (stride column row : ℕ) (px bytes : List ℕ) (from count ink : ℕ) (before after : List ℕ) : Type 0 where
+  pub sixels : Sixels bytes from (from + count)
+  pub inked : ink ≡ runInk bytes from count
+  pub canvas : after ≡ runPainted stride column row px bytes from count before
+
 -- the extent's right after so many sixels from a place on, the first of them in a column
 unfoldable pub runRight : ℕ → ℕ → List ℕ → ℕ → ℕ → ℕ
 unfolding rightAfter

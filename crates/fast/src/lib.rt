@@ -1,12 +1,15 @@
-// The fast machine: some bytes at once, while no command is pending. A run of sixels, a repeat with its sixel, a colour with the whole of
+// The fast machine: some bytes at once, while no command is pending. A run of sixels, a sixel by itself or with its repeat, a colour with the whole of
 // its argument, `$` or `-`. What the reference machine refuses, stops for or leaves unread is left to it.
 mod argument;
+mod blend;
+mod drawn;
 mod reach;
 mod rows;
 mod run;
+mod stretch;
 
 ghost use mathlib.Core.Path.{_≡_};
-ghost use Prim.Native.Nat.{ℕ, _+_, _<_};
+ghost use Prim.Native.Nat.{ℕ, _+_, _≤_, _<_};
 ghost use mathlib.Core.List.{List};
 ghost use lib.ListN.{length, getD};
 ghost use mathlib.Core.Bool.{true, false};
@@ -15,13 +18,11 @@ ghost use Rattle.colours.specs.Palette.{ofTable};
 ghost use Rattle.colours.specs.declared.Palette.{Palette};
 ghost use Rattle.frame.specs.declared.Ground.{Ground};
 ghost use Rattle.frame.specs.declared.Kind.the-variants as kinds;
-ghost use Rattle.frame.specs.declared.sizes.Needed.the-variants.{Area};
-ghost use Rattle.frame.specs.Sizes.{sixelArea};
 ghost use Rattle.reference.specs.Step.{Fits, Holds, movedTo};
-ghost use Rattle.fast.specs.Advance.{advanceTo, settledTo, selectedTo, Advances};
+ghost use Rattle.fast.specs.Advance.{advanceTo, selectedTo, Advances};
 use argument::last_number;
-use argument::number_before;
 use argument::read_definition;
+use drawn::read_drawn;
 use frame::Extent;
 use frame::Frame;
 use frame::Ground;
@@ -29,14 +30,7 @@ use frame::Pen;
 use frame::VisibleArea;
 use frame::commands::define;
 use frame::commands::register_at;
-use frame::commands::without_command;
-use frame::sizes::Needed;
-use frame::sizes::larger;
-use frame::sizes::sixel_area;
-use reference::after_sixel;
-use reference::grow;
 use reference::row_below;
-use rows::paint_rows;
 use run::read_run;
 
 // What some bytes change of a frame, whether a command was read, the place after them, and their ink. An advance that ends where it
@@ -123,115 +117,31 @@ fn move_to(frame: Frame, row: usize, from: usize) -> Advance
     advance_to(next, false, from + 1, 0)
 }
 
-// Paints a repeated sixel on an area that holds it, unless its ink exceeds what is left. The reference machine has the same, called from
-// there alone, so that the compiler can inline each into its own loop.
-fn paint_repeated(
-    frame: Frame,
-    ground: Ground,
-    canvas: &mut [u8],
-    bytes: &[u8],
-    from: usize,
-    left: usize,
-    width: usize,
-    height: usize,
-) -> Advance
-    requires { ⌜ Fits frame ground (length (now canvas)) × Holds frame ground width height
-        × (frame .command .kind ≡ kinds.Data) × (from < length (now bytes)) × (sixel (getD (now bytes) from 0) ≡ true)
-        × (sixelArea (frame .pen) (frame .area) ground ≡ Area width height) ⌝ }
-    ensures { λ r. ⌜ ((p : Palette)
-        → Advances ground (now (bytes .entry)) from left frame p (now (canvas .entry)) r p (now (canvas .exit))) ⌝ }
+// Whether no sixel stands after this one, which has some bits and not all. Blank and full ones are read as runs.
+fn is_alone(bytes: &[u8], from: usize, byte: u8) -> bool
+    requires { ⌜ from < length (now bytes) ⌝ }
 {
-    let bits = bytes[from] - 63;
-    let ones = u32::count_ones(bits as u32) as usize;
-    let ink = ones * frame.pen.repeat;
-    if left < ink {
-        return nothing(frame, from);
+    if byte == 63 {
+        return false;
     }
-    grow(frame, ground, canvas, width, height);
-    let color = frame.pen.color;
-    paint_rows(
-        canvas,
-        ground.stride,
-        frame.pen.column,
-        frame.pen.row,
-        frame.pen.repeat,
-        bits,
-        color,
-    );
-    advance_to(
-        after_sixel(frame, bits, width, height),
-        false,
-        from + 1,
-        ink,
-    )
+    if byte == 126 {
+        return false;
+    }
+    if bytes.len() <= from + 1 {
+        return true;
+    }
+    !numbers::is_sixel(bytes[from + 1])
 }
 
-// The sixel of a repeat.
-fn read_repeated(
-    frame: Frame,
-    ground: Ground,
-    canvas: &mut [u8],
-    bytes: &[u8],
-    from: usize,
-    left: usize,
-) -> Advance
-    requires { ⌜ Fits frame ground (length (now canvas)) × (frame .command .kind ≡ kinds.Data) × (from < length (now bytes))
-        × (sixel (getD (now bytes) from 0) ≡ true) ⌝ }
-    ensures { λ r. ⌜ ((p : Palette)
-        → Advances ground (now (bytes .entry)) from left frame p (now (canvas .entry)) r p (now (canvas .exit))) ⌝ }
+// Whether a sixel is read as the first of a run, or by itself.
+fn begins_run(repeat: usize, bytes: &[u8], from: usize, byte: u8) -> bool
+    requires { ⌜ from < length (now bytes) ⌝ }
+    ensures { λ r. ⌜ (r ≡ true → repeat ≡ 1) ⌝ }
 {
-    match sixel_area(frame, ground) {
-        Needed::Area { width, height } => {
-            paint_repeated(frame, ground, canvas, bytes, from, left, width, height)
-        }
-        Needed::Refused(_) => nothing(frame, from),
+    if repeat != 1 {
+        return false;
     }
-}
-
-// An advance after a command that was read before it.
-fn settled(advance: Advance) -> Advance
-    ensures { λ r. ⌜ r ≡ settledTo advance ⌝ }
-{
-    let pen = advance.pen;
-    let area = advance.area;
-    let extent = advance.extent;
-    Advance {
-        pen,
-        area,
-        extent,
-        settled: true,
-        end: advance.end,
-        ink: advance.ink,
-    }
-}
-
-// A repeat command and the sixel after it, in one turn of the loop. Without a sixel after it, the reference machine reads it.
-fn read_repeat(
-    frame: Frame,
-    ground: Ground,
-    canvas: &mut [u8],
-    bytes: &[u8],
-    from: usize,
-    left: usize,
-) -> Advance
-    requires { ⌜ Fits frame ground (length (now canvas)) × (frame .command .kind ≡ kinds.Data) × (from < length (now bytes))
-        × (getD (now bytes) from 0 ≡ bang) ⌝ }
-    ensures { λ r. ⌜ ((p : Palette)
-        → Advances ground (now (bytes .entry)) from left frame p (now (canvas .entry)) r p (now (canvas .exit))) ⌝ }
-{
-    let number = number_before(bytes, from + 1);
-    let end = number.end;
-    if end == 0 {
-        return nothing(frame, from);
-    }
-    let count = number.value as usize;
-    if ground.limits.repeats < count {
-        return nothing(frame, from);
-    }
-    let repeat = larger(1, count);
-    let mut next = frame;
-    next.pen.repeat = repeat;
-    settled(read_repeated(without_command(next), ground, canvas, bytes, end, left))
+    !is_alone(bytes, from, byte)
 }
 
 // What stands at a place.
@@ -251,16 +161,12 @@ pub fn read_ahead(
 {
     let byte = bytes[from];
     if numbers::is_sixel(byte) {
-        if frame.pen.repeat == 1 {
+        if begins_run(frame.pen.repeat, bytes, from, byte) {
             return read_run(frame, ground, canvas, bytes, from, left);
         }
-        return nothing(frame, from);
     }
     if byte == b'#' {
         return read_color(frame, colors, bytes, from);
-    }
-    if byte == b'!' {
-        return read_repeat(frame, ground, canvas, bytes, from, left);
     }
     if byte == b'$' {
         return move_to(frame, frame.pen.row, from);
@@ -268,5 +174,5 @@ pub fn read_ahead(
     if byte == b'-' {
         return move_to(frame, row_below(frame.pen.row), from);
     }
-    nothing(frame, from)
+    read_drawn(frame, ground, canvas, bytes, from, left)
 }

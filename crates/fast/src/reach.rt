@@ -64,7 +64,7 @@ fn right_past(right: usize, column: usize, inked: usize) -> usize
 // The extent after a run that may pass it. The depth of six bits grows with their number, so that the largest tell it. A long run is taken
 // in parts by the function itself: the compiler inlines none that calls itself, and so these loops take no register from the loop over the
 // bytes, which seldom needs them.
-fn reach(
+fn extent_past(
     extent: Extent,
     column: usize,
     row: usize,
@@ -76,8 +76,8 @@ fn reach(
     ensures { λ r. ⌜ r ≡ runExtent extent column row (now (bytes .entry)) from count ⌝ }
 {
     if PART < count {
-        let first = reach(extent, column, row, bytes, from, PART);
-        return reach(first, column + PART, row, bytes, from + PART, count - PART);
+        let first = extent_past(extent, column, row, bytes, from, PART);
+        return extent_past(first, column + PART, row, bytes, from + PART, count - PART);
     }
     let inked = inked_length(bytes, from, count);
     let right = right_past(extent.right, column, inked);
@@ -101,5 +101,5 @@ pub fn extent_after(frame: Frame, bytes: &[u8], from: usize) -> Extent
             return extent;
         }
     }
-    reach(extent, column, row, bytes, from, count)
+    extent_past(extent, column, row, bytes, from, count)
 }

@@ -27,7 +27,7 @@ use Rattle.meaning.proofs.SixelLaws.{sixel-range, append-each, closed-e
 
 -- what a stroke covers lies left of its right and above its bottom
 covered-inside : (k : Stroke) (x y : ℕ) → covers k x y ≡ true → (x < rightOf k) × (y < bottomOf k)
-unfolding covers inSixel
+unfolding covers inSixel rightOf bottomOf
 covered-inside k x y t =
     let columns : span (k .column) (k .column + k .repeat) x ≡ true = and-left _ _ t in
     let below : _ = and-right (span (k .column) (k .column + k .repeat) x) _ t in
@@ -35,13 +35,13 @@ covered-inside k x y t =
     let low : k .row ≤ y = span-low _ _ _ rows in
     let set : bit (k .bits) (y - k .row) ≡ true = and-right (span (k .row) (k .row + 6) y) _ below in
     let above : y - k .row < depth 6 (k .bits) = depth-above 6 (k .bits) (y - k .row) (omega (arith, span-high _ _ _ rows)) set in
-    painted-case (λ r b. (x < r) × (y < b)) k (λ e. omega arith) (λ _. (span-high _ _ _ columns, omega arith))
+    painted-case (λ r b. (x < r) × (y < b)) (depth 6 (k .bits)) (λ e. omega arith) (λ _. (span-high _ _ _ columns, omega arith))
 
 -- and it covers the pixel in that corner, where it takes a column and paints anything
 corner-covered : (k : Stroke) → 1 ≤ k .repeat → 0 < rightOf k + bottomOf k → covers k (rightOf k - 1) (bottomOf k - 1) ≡ true
-unfolding covers inSixel
+unfolding covers inSixel rightOf bottomOf
 corner-covered k once =
-    painted-case (λ r b. 0 < r + b → covers k (r - 1) (b - 1) ≡ true) k (λ _ h. absurd (omega arith))
+    painted-case (λ r b. 0 < r + b → covers k (r - 1) (b - 1) ≡ true) (depth 6 (k .bits)) (λ _ h. absurd (omega arith))
     (λ inked _.
     and-both (span-in _ _ _ (omega arith) (omega arith))
     (and-both (span-in _ _ _ (omega arith) (omega (arith, depth-most 6 (k .bits))))
@@ -114,12 +114,12 @@ AllSix = Each (λ k. k .bits < 64)
 
 -- no column is painted if and only if no ink is drawn
 columns-ink : (ks : List Stroke) → AllOnce ks → AllSix ks → (columnsPainted ks ≡ 0) ↔ (inkOfAll ks ≡ 0)
-unfolding columnsPainted inkOfAll
+unfolding columnsPainted inkOfAll rightOf
 columns-ink [] o six = (λ e. e, λ e. e)
 columns-ink (k ∷ ks) o six =
     let later : (columnsPainted ks ≡ 0) ↔ (inkOfAll ks ≡ 0) = columns-ink ks (o .1) (six .1) in
     let counts : (depth 6 (k .bits) ≤ 6 * ones (k .bits)) × (ones (k .bits) ≤ 6 * depth 6 (k .bits)) = depth-ones (k .bits) (six .0) in
-    painted-case (λ r b. (max r (columnsPainted ks) ≡ 0) ↔ (inkOf k + inkOfAll ks ≡ 0)) k
+    painted-case (λ r b. (max r (columnsPainted ks) ≡ 0) ↔ (inkOf k + inkOfAll ks ≡ 0)) (depth 6 (k .bits)) {b₀ = 0} {b = 0}
     (λ empty.
     let unset : ones (k .bits) ≡ 0 = omega arith in
     let own : k .repeat * ones (k .bits) ≡ 0 = rw unset (omega arith) in

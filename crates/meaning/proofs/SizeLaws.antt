@@ -73,38 +73,35 @@ pub payload-sound : {s : Setting} → Roomy s → (o : Parameters) (p : Palette)
 unfolding payload
 payload-sound r o p bs = drawAll-sound (commands bs) (blank-sound r p (o .p2))
 
--- ---- extent
-
 -- ---- the extent
 
--- a stroke paints nothing, or its columns, and its rows down to the lowest whose bit is 1
-pub painted-case : (P : ℕ → ℕ → Type 0) (k : Stroke) → (depth 6 (k .bits) ≡ 0 → P 0 0)
-    → ((depth 6 (k .bits) ≡ 0 → ⊥) → P (k .column + k .repeat) (k .row + depth 6 (k .bits))) → P (rightOf k) (bottomOf k)
-unfolding rightOf bottomOf
-painted-case P k blank inked = go (eqb (depth 6 (k .bits)) 0) refl
+-- a stroke paints nothing or something: what holds of its right and its bottom in either case holds of them, whatever numbers they are
+pub painted-case : (P : ℕ → ℕ → Type 0) (deep : ℕ) {r₀ b₀ r b : ℕ} → (deep ≡ 0 → P r₀ b₀) → ((deep ≡ 0 → ⊥) → P r b)
+    → P (cond (eqb deep 0) r₀ r) (cond (eqb deep 0) b₀ b)
+painted-case P deep {r₀} {b₀} {r} {b} blank inked = go (eqb deep 0) refl
   where
-    go : (t : Bool) → eqb (depth 6 (k .bits)) 0 ≡ t → P (cond t 0 (k .column + k .repeat)) (cond t 0 (k .row + depth 6 (k .bits)))
+    go : (t : Bool) → eqb deep 0 ≡ t → P (cond t r₀ r) (cond t b₀ b)
     go true e = blank (eqb-true _ _ e)
     go false e = inked (eqb-false _ _ e)
 
 -- what strokes inside an area paint lies in the area
 painted-inside : (a : Area) (ks : List Stroke) → allInside a ks ≡ true → (columnsPainted ks ≤ a .width) × (rowsPainted ks ≤ a .height)
-unfolding columnsPainted rowsPainted
+unfolding columnsPainted rowsPainted rightOf bottomOf
 painted-inside a [] e = (omega arith, omega arith)
 painted-inside a (k ∷ ks) e =
     let first : Within a k = within-of a k (all-parts a k ks e .0) in
     let later : (columnsPainted ks ≤ a .width) × (rowsPainted ks ≤ a .height) = painted-inside a ks (all-parts a k ks e .1) in
-    painted-case (λ r b. (max r (columnsPainted ks) ≤ a .width) × (max b (rowsPainted ks) ≤ a .height)) k
+    painted-case (λ r b. (max r (columnsPainted ks) ≤ a .width) × (max b (rowsPainted ks) ≤ a .height)) (depth 6 (k .bits))
     (λ _. (omega arith, omega arith))
     (λ _. (omega (arith, first .columns), omega (arith, first .bottom, depth-most 6 (k .bits))))
 
 -- if every stroke takes a column, no column is painted if and only if no row is
 neither-painted : (ks : List Stroke) → AllOnce ks → (columnsPainted ks ≡ 0) ↔ (rowsPainted ks ≡ 0)
-unfolding columnsPainted rowsPainted
+unfolding columnsPainted rowsPainted rightOf bottomOf
 neither-painted [] h = (λ e. e, λ e. e)
 neither-painted (k ∷ ks) h =
     let later : (columnsPainted ks ≡ 0) ↔ (rowsPainted ks ≡ 0) = neither-painted ks (h .1) in
-    painted-case (λ r b. (max r (columnsPainted ks) ≡ 0) ↔ (max b (rowsPainted ks) ≡ 0)) k
+    painted-case (λ r b. (max r (columnsPainted ks) ≡ 0) ↔ (max b (rowsPainted ks) ≡ 0)) (depth 6 (k .bits))
     (λ _. (λ e. omega (arith, later .0 (omega arith)), λ e. omega (arith, later .1 (omega arith))))
     (λ inked. (λ e. omega (arith, h .0), λ e. omega arith))
 

@@ -8,10 +8,10 @@ ghost use Prim.Native.Nat.{_*_, _≤_};
 ghost use lib.ListN.{length};
 ghost use Rattle.colours.specs.Palette.{ofTable};
 ghost use Rattle.meaning.specs.Calls.{partHandedBack};
-ghost use Rattle.payload.specs.Core.{over, finishedOver};
+ghost use Rattle.payload.specs.Core.{over, fedOver, finishedOver, Passed};
 ghost use Rattle.payload.specs.Meant.{parametersMeant, limitsMeant, settingMeant};
 ghost use Rattle.payload.specs.Refusals.{openable};
-ghost use Rattle.payload.specs.Session.{finishedBy};
+ghost use Rattle.payload.specs.Session.{fedBy, finishedBy};
 ghost use Rattle.oneshot.specs.OneShot.{pieceEnd, readWhole, readPart, readMeant};
 use colours::Palette;
 use colours::marks::begin;
@@ -24,10 +24,12 @@ use payload::Finishing;
 use payload::Life;
 use payload::Settings;
 use payload::core::Setup;
+use payload::core::feeding::Fed;
 use payload::core::feeding::feed_passed;
 use payload::core::finishing::finish;
 use payload::core::opening::open;
 use payload::refusals::may_open;
+use reading::renew::renewed;
 use search::Found;
 use search::find;
 
@@ -82,6 +84,31 @@ fn finish_for(
     answer
 }
 
+// Feeds a session that has passed 9, 12 and 13, and makes its frame anew: it has just been written number by number, and a processor that
+// copies it whole waits for that. A small picture feels it.
+fn feed_anew(
+    setup: Setup,
+    life: Life,
+    frame: Frame,
+    colors: &mut [u32; 256],
+    canvas: &mut [u8],
+    bytes: &[u8],
+    allowance: usize,
+) -> Fed
+    requires { ⌜ Passed setup life frame (length (now canvas)) allowance ⌝ }
+    ensures { λ r. ⌜ (fedOver setup r (now (colors .exit)), now (canvas .exit))
+        ≡ fedBy (over setup life frame (ofTable (now (colors .entry)))) (now (canvas .entry)) (now (bytes .entry)) allowance ⌝ }
+{
+    let fed = feed_passed(setup, life, frame, colors, canvas, bytes, allowance);
+    let answer = fed.answer;
+    let after = fed.life;
+    Fed {
+        answer,
+        life: after,
+        frame: renewed(fed.frame),
+    }
+}
+
 // Inner: asks that a session can be opened, and for an allowance of at least 6W. Feeds it the part in pieces of `chunk` bytes,
 // those that a stop left unread first, and finishes it. Neither `chunk` nor `allowance` shows in the outcome. The registers are the
 // picture's where there is one, and else stay as they are.
@@ -111,7 +138,7 @@ pub fn read_in_pieces(
     loop {
         let end = piece_end(at, part.len(), chunk);
         let bytes = &part[at..end];
-        let fed = feed_passed(setup, life, frame, colors, canvas, bytes, allowance);
+        let fed = feed_anew(setup, life, frame, colors, canvas, bytes, allowance);
         let answer = fed.answer;
         life = fed.life;
         frame = fed.frame;

@@ -15,6 +15,10 @@ use Rattle.frame.proofs.number.Reads as number
 use Rattle.frame.proofs.number.Kinds as number'
 use Rattle.reading.proofs.process.Reads as process
 use Rattle.reading.proofs.process.Kinds as process'
+use Rattle.reading.proofs.renew.renewed.Reads as renewed
+use Rattle.reading.proofs.renew.renewed.Kinds as renewed'
+use Rattle.reading.proofs.renew.renewed_pen.Reads as renewed-pen
+use Rattle.reading.proofs.renew.renewed_pen.Kinds as renewed-pen'
 use Rattle.frame.proofs.sizes.larger.Reads as larger
 use Rattle.frame.proofs.sizes.larger.Kinds as larger'
 use Rattle.frame.proofs.sizes.exceeds.Reads as exceeds
@@ -118,3 +122,9 @@ grow-one κs a z z' e e' p q = only p q
 
 pub nothing-one : One nothing'.ps nothing'.r nothing.Learnt
 nothing-one κs a z z' e e' p q = only p q
+
+pub renewed-one : One renewed'.ps renewed'.r renewed.Learnt
+renewed-one κs a z z' e e' p q = only p q
+
+pub renewed-pen-one : One renewed-pen'.ps renewed-pen'.r renewed-pen.Learnt
+renewed-pen-one κs a z z' e e' p q = only p q

@@ -1,5 +1,5 @@
 // The loop over a payload's bytes: the fast machine as far as it goes, then one byte by the reference machine, and again.
-mod renew;
+pub mod renew;
 
 ghost use mathlib.Core.Path.{_≡_};
 ghost use mathlib.Core.Bool.{_||_};

@@ -52,24 +52,18 @@ pub to-most : (bits end : ℕ) → paintedTo bits end ≤ end
 unfolding paintedTo
 to-most bits end = by-test (eqb (depth 6 bits) 0) (λ t. rw t (omega arith)) (λ t. rw t (omega arith))
 
--- a blank sixel keeps both sides of the extent, and any other takes the larger
-pub right-blank : (right bits end : ℕ) → bits < 64 → bits ≡ 0 → right ≡ rightAfter right bits end
-unfolding rightAfter
-right-blank right bits end six e = let none = to-nowhere bits end six e in omega arith
+-- a side of the extent, its right or its bottom: a blank sixel keeps it, and any other takes the larger of it and the sixel's end. Where that is these
+-- laws do not say, so that a wrong end breaks the contract of the function that works it out
+pub side-blank : (side bits end : ℕ) → bits < 64 → bits ≡ 0 → side ≡ max side (paintedTo bits end)
+side-blank side bits end six e = let none = to-nowhere bits end six e in omega arith
 
-pub right-inked : {r : ℕ} (right bits end : ℕ) → bits < 64 → (bits ≡ 0 → ⊥) → r ≡ max right end → r ≡ rightAfter right bits end
-unfolding rightAfter
-right-inked right bits end six n e = e ∙ ap (max right) (to-end bits end six n)
+pub side-inked : {r : ℕ} (side bits end : ℕ) → bits < 64 → (bits ≡ 0 → ⊥) → r ≡ max side end → r ≡ max side (paintedTo bits end)
+side-inked side bits end six n e = e ∙ ap (max side) (to-end bits end six n)
 
-pub bottom-blank : (bottom bits row : ℕ) → bits < 64 → bits ≡ 0 → bottom ≡ bottomAfter bottom bits row
-unfolding bottomAfter
-bottom-blank bottom bits row six e = let none = to-nowhere bits (row + depth 6 bits) six e in omega arith
-
-pub bottom-inked : {r d : ℕ} (bottom bits row : ℕ) → bits < 64 → (bits ≡ 0 → ⊥) → d ≡ depth 6 bits → r ≡ max bottom (row + d)
-    → r ≡ bottomAfter bottom bits row
-unfolding bottomAfter
-bottom-inked bottom bits row six n k e =
-    e ∙ ap (λ (d : ℕ). max bottom (row + d)) k ∙ ap (max bottom) (to-end bits (row + depth 6 bits) six n)
+-- the same where the number of the sixel's rows has been told
+pub rows-inked : {r told : ℕ} (bottom bits row rows : ℕ) → bits < 64 → (bits ≡ 0 → ⊥) → told ≡ rows → r ≡ max bottom (row + told)
+    → r ≡ max bottom (paintedTo bits (row + rows))
+rows-inked bottom bits row rows six n k e = side-inked bottom bits (row + rows) six n (e ∙ ap (λ (x : ℕ). max bottom (row + x)) k)
 
 pub inked-as : {right bottom : ℕ} {next : Frame} (f : Frame) (bits w h : ℕ)
     → right ≡ rightAfter (f .extent .right) bits (f .pen .column + f .pen .repeat)
@@ -374,7 +368,7 @@ pub step-argument : {t : Reached} (f : Frame) (g : Ground) (b left : ℕ) (p : P
 unfolding stepOf
 step-argument f g b left p l k e = e ∙ pending-step (f .command .kind) f g b left p l k
 
-pub ruleset extents = (right-blank, right-inked, bottom-blank, bottom-inked)
+pub ruleset extents = (side-blank, side-inked, rows-inked)
 
 pub ruleset drawing = (inked-as, put-as, painted-stopped, painted-read, drawn-area, drawn-refused)
 

@@ -47,7 +47,7 @@ piece-of c = piece-end (start-of (c .before) .args .chunk) (c .before .loop .inv
 
 -- a turn of the loop, once its piece is fed
 module _ (c : tie.After-frame2 Inv-loop μ-loop) where
-  abbrev fed : tie.After-feed-passed Inv-loop μ-loop
+  abbrev fed : tie.After-feed-anew Inv-loop μ-loop
   fed = c .before .before .before
 
   abbrev cut : tie.After-piece-end Inv-loop μ-loop
@@ -73,12 +73,12 @@ module _ (c : tie.After-frame2 Inv-loop μ-loop) where
   held = over (opened .«open» .result .setup) (here .loop .life) (here .loop .frame) (ofTable (here .loop .colors))
 
   abbrev after : Fed
-  after = fedOver (opened .«open» .result .setup) (fed .feed-passed .result) (fed .feed-passed .last .1 .1 .1 .0)
+  after = fedOver (opened .«open» .result .setup) (fed .feed-anew .result) (fed .feed-anew .last .1 .1 .1 .0)
 
   turn : Turn (start .args .limits) (start .args .stride) (start .args .settings) (ofTable (now (start .args .colors)))
       (now (start .args .canvas)) (now (start .args .part)) (start .args .allowance)
       whole (opened .«open» .last .1 .1 .1 .1 .0)
-      held (here .loop .canvas) (here .loop .at) after (fed .feed-passed .last .1 .1 .1 .1 .0)
+      held (here .loop .canvas) (here .loop .at) after (fed .feed-anew .last .1 .1 .1 .1 .0)
   turn =
       record {
         opens = start .pre .0;
@@ -88,11 +88,11 @@ module _ (c : tie.After-frame2 Inv-loop μ-loop) where
         chunk = start .args .chunk;
         end = cut .piece-end .result;
         ends = cut .piece-end .ensures;
-        fed = fed .feed-passed .ensures;
+        fed = fed .feed-anew .ensures;
       }
 
   -- the canvas is as long as at the opening
-  kept : length (fed .feed-passed .last .1 .1 .1 .1 .0) ≡ length (now (start .args .canvas))
+  kept : length (fed .feed-anew .last .1 .1 .1 .1 .0) ≡ length (now (start .args .canvas))
   kept = search (needs, c .before .before .canvas2 .given, here .loop .inv .kept, here .before .before .before .before .canvas .given)
 
   -- no place in the part is above what a `usize` holds
@@ -120,8 +120,8 @@ part-bytes-start c = search (needs, piece-of c .from)
 part-bytes-end : tie.Need-part-bytes-end Inv-loop μ-loop
 part-bytes-end c = search (needs, piece-of c .to)
 
-feed-passed-requires : tie.Need-feed-passed-requires Inv-loop μ-loop
-feed-passed-requires c κs =
+feed-anew-requires : tie.Need-feed-anew-requires Inv-loop μ-loop
+feed-anew-requires c κs =
     let loop = c .before .before .before .before in
     let start = start-of loop in
     let opened = opens-owned _ _ _ _ _ (begun-of loop .begin .ensures) (opening-of loop .«open» .ensures) in
@@ -224,7 +224,7 @@ read-in-pieces-spec =
     sub-bytes
     part-bytes-start
     part-bytes-end
-    feed-passed-requires
+    feed-anew-requires
     enum-known-answer
     add-at
     loop-less

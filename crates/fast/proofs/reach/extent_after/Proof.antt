@@ -1,4 +1,4 @@
--- `extent_after` meets its contract: one law for a run inside the extent, and any other is `reach`'s.
+-- `extent_after` meets its contract: one law for a run inside the extent, and any other is `extent_past`'s.
 use borrow.Author.Needs.{needs}
 use Rattle.fast.proofs.ReachLaws.{extent-inside}
 use Rattle.fast.proofs.reach.extent_after.Statement.{statement}
@@ -13,11 +13,11 @@ add-if2 c = search needs
 returns : tie.Need-returns
 returns c = search (needs, extent-inside)
 
-reach-requires : tie.Need-reach-requires
-reach-requires c κs = search needs
+extent-past-requires : tie.Need-extent-past-requires
+extent-past-requires c κs = search needs
 
 returns-2 : tie.Need-returns-2
 returns-2 c = search needs
 
 pub extent-after-spec : {M : Type 1} → statement M
-extent-after-spec = tie.close (tie.spec add-if1 add-if2 returns reach-requires returns-2)
+extent-after-spec = tie.close (tie.spec add-if1 add-if2 returns extent-past-requires returns-2)

@@ -5,7 +5,7 @@ use borrow.Author.Needs.{needs}
 use denote.Ref.{now}
 use lib.ListN.{length}
 use Rattle.fast.specs.Run.{Sixels}
-use Rattle.fast.proofs.RunLaws.{visible-advances, visible-room, planned-run}
+use Rattle.fast.proofs.RunLaws.{first-taken, visible-advances, visible-room, planned-run}
 use Rattle.fast.proofs.run.read_visible.Statement.{statement}
 use Rattle.fast.proofs.run.read_visible.Tie as tie
 
@@ -13,7 +13,7 @@ blend-sixels-requires : tie.Need-blend-sixels-requires
 blend-sixels-requires c κs =
     let s = c .before .before .before .before in
     let fits = s .pre .0 in
-    (s .pre .3, omega (arith, s .pre .4, fits .width), omega (arith, s .pre .5, fits .height, fits .rows), s .pre .6, s .pre .7)
+    (s .pre .3, omega (arith, s .pre .4, fits .width), omega (arith, s .pre .5, fits .height, fits .rows))
 
 -- where the sixels are painted, and the start
 abbrev painted : tie.After-as-repeated → tie.After-blend-sixels
@@ -35,8 +35,8 @@ whole-run c =
     let s = start done in
     let a = s .args in
     let sixels = done .blend-sixels .ensures in
-    planned-run (a .frame) (now (a .bytes)) (a .from) _ _ (c .as-repeated .ensures) (sixels .2)
-    (visible-room (a .frame) (a .ground) _ (length (now (a .canvas))) (s .pre .0) (omega arith) (omega (arith, s .pre .4, sixels .1)) (s .pre .5))
+    planned-run (a .frame) (now (a .bytes)) (a .from) _ _ (c .as-repeated .ensures) (sixels .1 .sixels)
+    (visible-room (a .frame) (a .ground) _ (length (now (a .canvas))) (s .pre .0) (omega arith) (omega (arith, s .pre .4, sixels .0)) (s .pre .5))
 
 extent-after-requires : tie.Need-extent-after-requires
 extent-after-requires c κs = whole-run c
@@ -48,7 +48,7 @@ add-advance-to : tie.Need-add-advance-to
 add-advance-to c =
     let done = painted (c .before .before .before) in
     let s = start done in
-    omega (arith, s .pre .3, done .blend-sixels .ensures .1, s .good .1 .1 .1 .0 .0)
+    omega (arith, s .pre .3, done .blend-sixels .ensures .0, s .good .1 .1 .1 .0 .0)
 
 advance-to-requires : tie.Need-advance-to-requires
 advance-to-requires c κs = search needs
@@ -66,19 +66,18 @@ returns c =
     let a = s .args in
     let sixels = done .blend-sixels .ensures in
     λ p left enough.
-    visible-advances (a .frame) (a .ground) (now (a .bytes)) (a .from) _ (s .pre .0) (s .pre .1) (s .pre .2) (sixels .2)
-    (sixels .0)
-    (omega (arith, s .pre .4, sixels .1))
+    visible-advances (a .frame) (a .ground) (now (a .bytes)) (a .from) _ (s .pre .0) (s .pre .1) (s .pre .2)
+    (first-taken (now (a .bytes)) (a .from) _ (a .most) (s .pre .7) (s .pre .6) (sixels .2))
+    (omega (arith, s .pre .4, sixels .0))
     (s .pre .5)
-    (sixels .3)
-    (sixels .4)
+    (sixels .1)
     (found .extent-after .ensures)
     (whole .as-repeated .ensures)
     (after .passed .ensures)
     (c .advance-to .ensures)
     p
     left
-    (omega (arith, enough, sixels .1))
+    (omega (arith, enough, sixels .0))
 
 pub read-visible-spec : {M : Type 1} → statement M
 read-visible-spec =

@@ -2,11 +2,13 @@
 use native.Mathlib.Omega.{arith}
 use borrow.Author.Needs.{needs}
 use Rattle.canvas.proofs.Depth.{depth-most}
+use Rattle.reference.specs.Step.{bottomAfter}
 use Rattle.reference.proofs.StepLaws.{extents}
 use Rattle.reference.proofs.extent.bottom_after.Statement.{statement}
 use Rattle.reference.proofs.extent.bottom_after.Tie as tie
 
 returns : tie.Need-returns
+unfolding bottomAfter
 returns c = search (needs, extents)
 
 depth-of-requires : tie.Need-depth-of-requires
@@ -19,6 +21,7 @@ larger-requires : tie.Need-larger-requires
 larger-requires c κs = search needs
 
 returns-2 : tie.Need-returns-2
+unfolding bottomAfter
 returns-2 c = search (needs, extents)
 
 pub bottom-after-spec : {M : Type 1} → statement M
