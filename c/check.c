@@ -41,6 +41,13 @@ void *lend(size_t size) {
     return start + page + whole - size;
 }
 
+uint64_t any_of(uint64_t *seed) {
+    uint64_t z = *seed += 0x9e3779b97f4a7c15;
+    z = (z ^ (z >> 30)) * 0xbf58476d1ce4e5b9;
+    z = (z ^ (z >> 27)) * 0x94d049bb133111eb;
+    return z ^ (z >> 31);
+}
+
 uint8_t before(size_t place) { return (uint8_t)(place * 7 + 3); }
 
 /* One canvas at a time, in the last bytes of one memory, before its guard page. */
@@ -90,6 +97,18 @@ uint64_t finish_session(kind which, owlgantry_session *session, owlgantry_canvas
                         uint32_t palette[OWLGANTRY_REGISTERS], owlgantry_picture *picture) {
     return which == PAYLOAD ? owlgantry_payload_finish(session, canvas, palette, picture)
                             : owlgantry_dcs_finish(session, canvas, palette, picture);
+}
+
+uint64_t explain_feed(kind which, const owlgantry_session *session, owlgantry_canvas canvas, const void *bytes,
+                      size_t count, size_t allowance, owlgantry_telling *telling) {
+    return which == PAYLOAD ? owlgantry_payload_explain(session, canvas, bytes, count, allowance, telling)
+                            : owlgantry_dcs_explain(session, canvas, bytes, count, allowance, telling);
+}
+
+uint64_t explain_finish(kind which, const owlgantry_session *session, owlgantry_canvas canvas,
+                        owlgantry_telling *telling) {
+    return which == PAYLOAD ? owlgantry_payload_explain_finish(session, canvas, telling)
+                            : owlgantry_dcs_explain_finish(session, canvas, telling);
 }
 
 progress feed_in_pieces(kind which, owlgantry_session *session, owlgantry_canvas canvas, const char *bytes,

@@ -13,6 +13,9 @@ int found_differences(void);
 /* Memory of a size that ends where a guard page begins. */
 void *lend(size_t size);
 
+/* SplitMix64: the next number of a seed. */
+uint64_t any_of(uint64_t *seed);
+
 /* The fill pattern: each byte of a canvas before a reading, by its place. */
 uint8_t before(size_t place);
 owlgantry_canvas fresh_canvas(size_t stride, size_t rows);
@@ -27,6 +30,10 @@ uint64_t feed_session(kind which, owlgantry_session *session, owlgantry_canvas c
                       size_t allowance, owlgantry_fed *fed);
 uint64_t finish_session(kind which, owlgantry_session *session, owlgantry_canvas canvas,
                         uint32_t palette[OWLGANTRY_REGISTERS], owlgantry_picture *picture);
+uint64_t explain_feed(kind which, const owlgantry_session *session, owlgantry_canvas canvas, const void *bytes,
+                      size_t count, size_t allowance, owlgantry_telling *telling);
+uint64_t explain_finish(kind which, const owlgantry_session *session, owlgantry_canvas canvas,
+                        owlgantry_telling *telling);
 
 /* What the calls of one session came to: the last one's answer, and the sums of those that were not refused. */
 typedef struct {
@@ -44,5 +51,6 @@ void test_refusals(void);
 void test_calls(void);
 void test_marks(void);
 void test_damage(void);
+void test_tellings(void);
 
 #endif

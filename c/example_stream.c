@@ -21,6 +21,9 @@ static uint32_t palette[OWLGANTRY_REGISTERS];
 /* What the next byte belongs to. */
 static enum { TEXT, PICTURE, REFUSED } place = TEXT;
 
+/* How many bytes of the picture were consumed, with its introducer. */
+static size_t consumed_before;
+
 /* In text and in what was refused: the byte before was 1B, and the next one tells what it begins. In a picture the
  * session keeps track of that. */
 static bool after_escape = false;
@@ -41,7 +44,18 @@ static void open_picture(void) {
     owlgantry_dcs_open(&session, limits, canvas, palette);
     owlgantry_dcs_feed(&session, canvas, "\033P", 2, owlgantry_least_allowance(limits), &fed);
     place = PICTURE;
+    consumed_before = 2;
     after_escape = false;
+}
+
+/* Where in the picture, and why, the session before a call says that the call was refused. */
+static void print_refusal(const owlgantry_session *before, const uint8_t *bytes, size_t count, size_t allowance) {
+    owlgantry_telling telling;
+    char line[OWLGANTRY_LINE];
+    owlgantry_dcs_explain(before, canvas, bytes, count, allowance, &telling);
+    telling.place += consumed_before;
+    owlgantry_words(&telling, line, sizeof line);
+    printf("[%s]\n", line);
 }
 
 /* Feeds what has been read to the session until all of it is consumed or the picture ends, and answers how many bytes
@@ -50,13 +64,15 @@ static size_t feed_picture(const uint8_t *bytes, size_t count) {
     size_t allowance = owlgantry_least_allowance(owlgantry_house_limits()), consumed = 0;
     owlgantry_fed fed;
     do {
+        owlgantry_session before = session;
         uint64_t refusal = owlgantry_dcs_feed(&session, canvas, bytes + consumed, count - consumed, allowance, &fed);
         if (refusal != OWLGANTRY_DONE) {
-            printf("[refused %d]\n", (int)refusal);
+            print_refusal(&before, bytes + consumed, count - consumed, allowance);
             place = REFUSED;
             return consumed;
         }
         consumed += fed.consumed;
+        consumed_before += fed.consumed;
     } while (fed.how == OWLGANTRY_DCS_STOPPED);
     if (fed.how != OWLGANTRY_DCS_ALL_READ) {
         owlgantry_picture picture;

@@ -28,7 +28,7 @@
 #include <stdint.h>
 
 /* The version that the file VERSION names; CHANGELOG.md says what it brings. */
-#define OWLGANTRY_VERSION "0.7.1"
+#define OWLGANTRY_VERSION "0.8.0"
 
 #if SIZE_MAX != UINT64_MAX
 #error "the reader is made for machines whose size_t has 64 bits"
@@ -41,10 +41,11 @@ extern "C" {
 #define OWLGANTRY_REGISTERS 256
 #define OWLGANTRY_MARK 0x1000000u
 #define OWLGANTRY_SESSION_NUMBERS 48
+#define OWLGANTRY_LINE 128 /* room for every line of owlgantry_words, and its NUL */
 
-/* What every function answers but the palette's (rule 5.1; in which order, rules 5.2 and 5.3). A feed that is refused by
- * 1 to 7 fails the session, by 9, 12 or 13 it leaves the session as it was. The palette stays as it was, and the canvas
- * shows what was read before the refused byte or command (rule 5.6). */
+/* What every function answers but the palette's and the words' (rule 5.1; in which order, rules 5.2 and 5.3). A feed that
+ * is refused by 1 to 7 fails the session, by 9, 12 or 13 it leaves the session as it was. The palette stays as it was,
+ * and the canvas shows what was read before the refused byte or command (rule 5.6). */
 enum owlgantry_refusal {
     OWLGANTRY_DONE = 0,          /* no refusal */
     OWLGANTRY_INTRODUCER = 1,    /* DCS: does not begin with 90, or with 1B and `P` */
@@ -84,6 +85,15 @@ enum owlgantry_ratio_kind {
     OWLGANTRY_RATIO_RASTER = 2  /* the raster's, number : 1, vertical to horizontal */
 };
 
+/* What a refused byte needed more of than there is (rule 5.10). */
+enum owlgantry_thing {
+    OWLGANTRY_THING_NONE = 0,
+    OWLGANTRY_THING_REPEATS = 1,
+    OWLGANTRY_THING_COLUMNS = 2,
+    OWLGANTRY_THING_ROWS = 3,
+    OWLGANTRY_THING_PIXELS = 4
+};
+
 /* P1 or P2 of a payload session where there is none: any number above 65,535. */
 #define OWLGANTRY_NO_PARAMETER UINT32_MAX
 
@@ -102,12 +112,12 @@ void owlgantry_raw_standard_palette(uint32_t out[OWLGANTRY_REGISTERS]);
 
 /* Reads all at once (docs/RULES.md, section 8): the part after the first introducer and its header, or the whole where
  * there is no introducer. The palette becomes the picture's where there is one. Reports width, height, right, bottom,
- * the ratio's kind and number, 1 for a transparent background, how many registers the picture defined, and the place
- * and the length of the payload among the bytes. On a refusal the first eight are 0; on 2, 3, 8 and 11 the payload is
- * empty, at the end of the bytes. */
+ * the ratio's kind and number, 1 for a transparent background, how many registers the picture defined, the declared
+ * width and height, and the place and the length of the payload among the bytes. On a refusal the first ten are 0; on
+ * 2, 3, 8 and 11 the payload is empty, at the end of the bytes. */
 uint64_t owlgantry_raw_read(size_t width, size_t height, size_t repeats, size_t pixels, size_t stride, uint8_t *canvas,
                             size_t canvas_length, const uint8_t *bytes, size_t bytes_length,
-                            uint32_t palette[OWLGANTRY_REGISTERS], uint64_t report[10]);
+                            uint32_t palette[OWLGANTRY_REGISTERS], uint64_t report[12]);
 
 /* Copies a picture's rows, tightly packed, to the front of `out`, whose later bytes stay. Answers 0, 12 or 14
  * (docs/RULES.md, section 10). */
@@ -129,12 +139,12 @@ uint64_t owlgantry_raw_payload_feed(uint64_t session[OWLGANTRY_SESSION_NUMBERS],
                                     uint32_t registers[OWLGANTRY_REGISTERS], uint8_t *canvas, size_t canvas_length,
                                     const uint8_t *bytes, size_t bytes_length, size_t allowance, uint64_t report[4]);
 
-/* Carries a pending command out and reports the eight numbers that owlgantry_raw_read reports first. The palette gets
- * the session's colours and marks; on a refusal it stays as it was, the canvas too, and the report is eight zeros. The
+/* Carries a pending command out and reports the ten numbers that owlgantry_raw_read reports first. The palette gets
+ * the session's colours and marks; on a refusal it stays as it was, the canvas too, and the report is ten zeros. The
  * session's numbers are zeros afterwards. */
 uint64_t owlgantry_raw_payload_finish(uint64_t session[OWLGANTRY_SESSION_NUMBERS],
                                       const uint32_t registers[OWLGANTRY_REGISTERS], uint8_t *canvas,
-                                      size_t canvas_length, uint32_t palette[OWLGANTRY_REGISTERS], uint64_t report[8]);
+                                      size_t canvas_length, uint32_t palette[OWLGANTRY_REGISTERS], uint64_t report[10]);
 
 /* The same for a whole DCS sequence: introducer, header, payload and its end. Opening takes the length of the canvas
  * and writes nothing to it; pixel (0, 0) gets the background at `q`. Before an end, a finish answers 8. */
@@ -150,7 +160,37 @@ uint64_t owlgantry_raw_dcs_feed(uint64_t session[OWLGANTRY_SESSION_NUMBERS], uin
 
 uint64_t owlgantry_raw_dcs_finish(uint64_t session[OWLGANTRY_SESSION_NUMBERS],
                                   const uint32_t registers[OWLGANTRY_REGISTERS], uint8_t *canvas, size_t canvas_length,
-                                  uint32_t palette[OWLGANTRY_REGISTERS], uint64_t report[8]);
+                                  uint32_t palette[OWLGANTRY_REGISTERS], uint64_t report[10]);
+
+/* What a call is refused with (rules 5.9 and 5.10): each answers what the call answers that it is named after, on a
+ * canvas of that length, and tells seven numbers, those of owlgantry_telling. They are zeros where the answer is 0. No
+ * other memory is written, and none of the canvas is needed: the bytes are read again without painting. The session is
+ * the one from before the refused call. */
+uint64_t owlgantry_raw_payload_explain(const uint64_t session[OWLGANTRY_SESSION_NUMBERS],
+                                       const uint32_t registers[OWLGANTRY_REGISTERS], size_t canvas_length,
+                                       const uint8_t *bytes, size_t bytes_length, size_t allowance,
+                                       uint64_t telling[7]);
+
+uint64_t owlgantry_raw_payload_explain_finish(const uint64_t session[OWLGANTRY_SESSION_NUMBERS],
+                                              const uint32_t registers[OWLGANTRY_REGISTERS], size_t canvas_length,
+                                              uint64_t telling[7]);
+
+uint64_t owlgantry_raw_dcs_explain(const uint64_t session[OWLGANTRY_SESSION_NUMBERS],
+                                   const uint32_t registers[OWLGANTRY_REGISTERS], size_t canvas_length,
+                                   const uint8_t *bytes, size_t bytes_length, size_t allowance, uint64_t telling[7]);
+
+uint64_t owlgantry_raw_dcs_explain_finish(const uint64_t session[OWLGANTRY_SESSION_NUMBERS],
+                                          const uint32_t registers[OWLGANTRY_REGISTERS], size_t canvas_length,
+                                          uint64_t telling[7]);
+
+uint64_t owlgantry_raw_read_explain(size_t width, size_t height, size_t repeats, size_t pixels, size_t stride,
+                                    size_t canvas_length, const uint32_t palette[OWLGANTRY_REGISTERS],
+                                    const uint8_t *bytes, size_t bytes_length, uint64_t telling[7]);
+
+/* Writes the line of English that seven numbers tell to the front of `out`, without a newline or a NUL, as much of it as
+ * there is room for, and answers how many bytes that is: 127 at most, and 0 where no refusal has the first number (rule
+ * 5.11). */
+uint64_t owlgantry_raw_words(const uint64_t telling[7], uint8_t *out, size_t out_length);
 
 #ifdef __cplusplus
 }
@@ -174,15 +214,35 @@ typedef struct {
 
 /* Right and bottom are the extent (rule 4.4): one past the last column and one past the last row that hold a painted
  * pixel, or 0 and 0 where nothing was painted. A crop to them loses no ink. Defined is how many registers the picture's
- * colour commands defined, each counted once, 0 to 256, whichever were marked before (rule 9.9). */
+ * colour commands defined, each counted once, 0 to 256, whichever were marked before (rule 9.9).
+ *
+ * Declared width and height are the size that the sender declared, by raster commands, each 0 where it declared none
+ * (rule 4.7). A sixel is six rows, so that a picture may be up to five rows taller than it was drawn: these say how
+ * tall it was meant to be. They are below width and height also where more was drawn than was declared, and never above
+ * them, unless a caller has changed a session's numbers. */
 typedef struct {
-    uint64_t width, height, right, bottom, ratio_kind, ratio, transparent, defined;
+    uint64_t width, height, right, bottom, ratio_kind, ratio, transparent, defined, declared_width, declared_height;
 } owlgantry_picture;
 
 /* The payload among the bytes. */
 typedef struct {
     uint64_t place, length;
 } owlgantry_part;
+
+/* Where and why a call is refused (rules 5.9 and 5.10).
+ *
+ * Number is the refusal's. Has_place is 1 for 1 to 8, else 0: 9 and 11 to 14 judge the call and no byte. Place is the
+ * offset of the refused byte among the bytes that the call was given: those before it are read, and it is the first
+ * that is not. A command is refused at the byte that ends it, or else at the end of the bytes. A finish is given no
+ * bytes and its place is 0, the end of what was fed before. Where a stream comes in pieces, a host adds what was
+ * consumed before.
+ *
+ * Thing is one of owlgantry_thing, and a need is told for 4 to 7: so much of it was needed (more is 1: more than that),
+ * and so much is allowed, or for 7 is on the canvas. So a host with a heap learns from 5 and 7 how wide or how high a
+ * canvas the refused byte needs. */
+typedef struct {
+    uint64_t number, has_place, place, thing, needed, more, allowed;
+} owlgantry_telling;
 
 static inline owlgantry_limits owlgantry_limits_of(size_t width, size_t height, size_t repeats, size_t pixels) {
     owlgantry_limits limits;
@@ -220,7 +280,7 @@ static inline owlgantry_fed owlgantry_fed_of(const uint64_t report[4]) {
     return fed;
 }
 
-static inline owlgantry_picture owlgantry_picture_of(const uint64_t report[8]) {
+static inline owlgantry_picture owlgantry_picture_of(const uint64_t report[10]) {
     owlgantry_picture picture;
     picture.width = report[0];
     picture.height = report[1];
@@ -230,7 +290,21 @@ static inline owlgantry_picture owlgantry_picture_of(const uint64_t report[8]) {
     picture.ratio = report[5];
     picture.transparent = report[6];
     picture.defined = report[7];
+    picture.declared_width = report[8];
+    picture.declared_height = report[9];
     return picture;
+}
+
+static inline owlgantry_telling owlgantry_telling_of(const uint64_t told[7]) {
+    owlgantry_telling telling;
+    telling.number = told[0];
+    telling.has_place = told[1];
+    telling.place = told[2];
+    telling.thing = told[3];
+    telling.needed = told[4];
+    telling.more = told[5];
+    telling.allowed = told[6];
+    return telling;
 }
 
 static inline void owlgantry_standard_palette(uint32_t out[OWLGANTRY_REGISTERS]) {
@@ -263,12 +337,12 @@ static inline void owlgantry_set_color(uint32_t palette[OWLGANTRY_REGISTERS], si
 static inline uint64_t owlgantry_read(owlgantry_limits limits, owlgantry_canvas canvas, const void *bytes, size_t count,
                                       uint32_t palette[OWLGANTRY_REGISTERS], owlgantry_picture *picture,
                                       owlgantry_part *part) {
-    uint64_t report[10];
+    uint64_t report[12];
     uint64_t refusal = owlgantry_raw_read(limits.width, limits.height, limits.repeats, limits.pixels, canvas.stride,
                                           canvas.bytes, canvas.length, (const uint8_t *)bytes, count, palette, report);
     *picture = owlgantry_picture_of(report);
-    part->place = report[8];
-    part->length = report[9];
+    part->place = report[10];
+    part->length = report[11];
     return refusal;
 }
 
@@ -295,7 +369,7 @@ static inline uint64_t owlgantry_payload_feed(owlgantry_session *session, owlgan
 
 static inline uint64_t owlgantry_payload_finish(owlgantry_session *session, owlgantry_canvas canvas,
                                                 uint32_t palette[OWLGANTRY_REGISTERS], owlgantry_picture *picture) {
-    uint64_t report[8];
+    uint64_t report[10];
     uint64_t refusal = owlgantry_raw_payload_finish(session->numbers, session->registers, canvas.bytes, canvas.length,
                                                     palette, report);
     *picture = owlgantry_picture_of(report);
@@ -319,11 +393,87 @@ static inline uint64_t owlgantry_dcs_feed(owlgantry_session *session, owlgantry_
 
 static inline uint64_t owlgantry_dcs_finish(owlgantry_session *session, owlgantry_canvas canvas,
                                             uint32_t palette[OWLGANTRY_REGISTERS], owlgantry_picture *picture) {
-    uint64_t report[8];
+    uint64_t report[10];
     uint64_t refusal =
         owlgantry_raw_dcs_finish(session->numbers, session->registers, canvas.bytes, canvas.length, palette, report);
     *picture = owlgantry_picture_of(report);
     return refusal;
+}
+
+/* Where and why a call is refused. Each of these takes what the call takes, answers what the call would answer, and
+ * changes nothing. The session must be the one from BEFORE the refused call, since a refusal fails it: a session may
+ * be copied, so a host that wants its refusals explained copies it before a call, and asks the copy where the call was
+ * refused. Of the canvas only the length counts. Explaining goes byte by byte and takes many times as long as reading,
+ * so it is for the one call that was refused. */
+static inline uint64_t owlgantry_payload_explain(const owlgantry_session *session, owlgantry_canvas canvas,
+                                                 const void *bytes, size_t count, size_t allowance,
+                                                 owlgantry_telling *telling) {
+    uint64_t told[7];
+    uint64_t refusal = owlgantry_raw_payload_explain(session->numbers, session->registers, canvas.length,
+                                                     (const uint8_t *)bytes, count, allowance, told);
+    *telling = owlgantry_telling_of(told);
+    return refusal;
+}
+
+static inline uint64_t owlgantry_payload_explain_finish(const owlgantry_session *session, owlgantry_canvas canvas,
+                                                        owlgantry_telling *telling) {
+    uint64_t told[7];
+    uint64_t refusal =
+        owlgantry_raw_payload_explain_finish(session->numbers, session->registers, canvas.length, told);
+    *telling = owlgantry_telling_of(told);
+    return refusal;
+}
+
+static inline uint64_t owlgantry_dcs_explain(const owlgantry_session *session, owlgantry_canvas canvas,
+                                             const void *bytes, size_t count, size_t allowance,
+                                             owlgantry_telling *telling) {
+    uint64_t told[7];
+    uint64_t refusal = owlgantry_raw_dcs_explain(session->numbers, session->registers, canvas.length,
+                                                 (const uint8_t *)bytes, count, allowance, told);
+    *telling = owlgantry_telling_of(told);
+    return refusal;
+}
+
+static inline uint64_t owlgantry_dcs_explain_finish(const owlgantry_session *session, owlgantry_canvas canvas,
+                                                    owlgantry_telling *telling) {
+    uint64_t told[7];
+    uint64_t refusal = owlgantry_raw_dcs_explain_finish(session->numbers, session->registers, canvas.length, told);
+    *telling = owlgantry_telling_of(told);
+    return refusal;
+}
+
+/* Reading leaves the palette as it was where it is refused, so the same arguments can be asked afterwards. Places count
+ * whatever stands before the introducer. */
+static inline uint64_t owlgantry_read_explain(owlgantry_limits limits, owlgantry_canvas canvas, const void *bytes,
+                                              size_t count, const uint32_t palette[OWLGANTRY_REGISTERS],
+                                              owlgantry_telling *telling) {
+    uint64_t told[7];
+    uint64_t refusal =
+        owlgantry_raw_read_explain(limits.width, limits.height, limits.repeats, limits.pixels, canvas.stride,
+                                   canvas.length, palette, (const uint8_t *)bytes, count, told);
+    *telling = owlgantry_telling_of(told);
+    return refusal;
+}
+
+/* Writes a telling's line of English with a NUL, such as `refused 5 at byte 4711: 1037 columns are needed, 1024
+ * allowed`, and answers its length without the NUL. OWLGANTRY_LINE bytes have room for every line; in fewer it is
+ * truncated, and in none nothing is written. A telling of the number alone has a line too. */
+static inline size_t owlgantry_words(const owlgantry_telling *telling, char *out, size_t size) {
+    uint64_t told[7];
+    size_t length;
+    if (size == 0) {
+        return 0;
+    }
+    told[0] = telling->number;
+    told[1] = telling->has_place;
+    told[2] = telling->place;
+    told[3] = telling->thing;
+    told[4] = telling->needed;
+    told[5] = telling->more;
+    told[6] = telling->allowed;
+    length = (size_t)owlgantry_raw_words(told, (uint8_t *)out, size - 1);
+    out[length] = '\0';
+    return length;
 }
 
 #endif

@@ -7,6 +7,7 @@ int main(void) {
     test_calls();
     test_marks();
     test_damage();
+    test_tellings();
     summary();
     return found_differences();
 }

@@ -9,7 +9,7 @@
 #define ROWS 20
 #define LENGTH (4 * STRIDE * ROWS)
 
-static uint64_t *numbers, *report;
+static uint64_t *numbers, *report, *telling;
 static uint32_t *registers, *palette;
 static uint8_t *canvas, *stream;
 static const char *const streams[] = {
@@ -22,13 +22,9 @@ static const char *const streams[] = {
 };
 static const size_t allowances[] = {0, 144, SIZE_MAX};
 
-/* SplitMix64. */
 static uint64_t any(void) {
     static uint64_t seed = 2;
-    uint64_t z = seed += 0x9e3779b97f4a7c15;
-    z = (z ^ (z >> 30)) * 0xbf58476d1ce4e5b9;
-    z = (z ^ (z >> 27)) * 0x94d049bb133111eb;
-    return z ^ (z >> 31);
+    return any_of(&seed);
 }
 
 static void open_one(kind which) {
@@ -55,6 +51,26 @@ static uint64_t finish_one(kind which) {
                             : owlgantry_raw_dcs_finish(numbers, registers, canvas, LENGTH, palette, report);
 }
 
+/* What is told of a feed, and of a finish where there is no text. */
+static uint64_t explain_one(kind which, const char *text, size_t allowance) {
+    if (text == NULL) {
+        return which == PAYLOAD ? owlgantry_raw_payload_explain_finish(numbers, registers, LENGTH, telling)
+                                : owlgantry_raw_dcs_explain_finish(numbers, registers, LENGTH, telling);
+    }
+    size_t count = strlen(text);
+    uint8_t *bytes = memcpy(stream + 64 - count, text, count);
+    return which == PAYLOAD
+               ? owlgantry_raw_payload_explain(numbers, registers, LENGTH, bytes, count, allowance, telling)
+               : owlgantry_raw_dcs_explain(numbers, registers, LENGTH, bytes, count, allowance, telling);
+}
+
+/* Seven zeros where nothing is refused, else the number and a place among the bytes, if there is one. */
+static int is_telling(uint64_t answer, size_t count) {
+    static const uint64_t nothing[7];
+    return answer == 0 ? memcmp(telling, nothing, sizeof nothing) == 0
+                       : telling[0] == answer && telling[1] <= 1 && telling[2] <= count && telling[3] <= 4;
+}
+
 /* Every number of a palette that a picture hands on is a colour and a mark. */
 static int has_colours_and_marks_alone(void) {
     for (size_t at = 0; at < OWLGANTRY_REGISTERS; at++) {
@@ -69,7 +85,10 @@ static int has_colours_and_marks_alone(void) {
 static void check_feeds(const char *name, kind which) {
     for (size_t at = 0; at < sizeof streams / sizeof *streams; at++) {
         const char *text = streams[at];
+        uint64_t told = explain_one(which, text, allowances[at % 3]);
         uint64_t answer = feed_one(which, text, allowances[at % 3]);
+        same(name, "what is told of a feed", told, answer);
+        holds(name, "a feed's telling", is_telling(told, strlen(text)));
         holds(name, "a feed answers 0 to 7, 9, 12 or 13", answer <= 7 || answer == 9 || answer == 12 || answer == 13);
         holds(name, "a feed has a known end",
               report[0] <= (which == DCS ? OWLGANTRY_DCS_INTERRUPTED : OWLGANTRY_PAYLOAD_ENDED));
@@ -80,12 +99,15 @@ static void check_feeds(const char *name, kind which) {
 }
 
 static void check_finish(const char *name, kind which) {
+    static const uint64_t nothing[10];
     uint32_t owner[OWLGANTRY_REGISTERS];
     memcpy(owner, palette, sizeof owner);
+    uint64_t told = explain_one(which, NULL, 0);
+    holds(name, "a finish's telling", is_telling(told, 0));
     uint64_t answer = finish_one(which);
+    same(name, "what is told of a finish", told, answer);
     holds(name, "a finish answers 0, 4 to 9 or 12", answer == 0 || (answer >= 4 && answer <= 9) || answer == 12);
-    holds(name, "a refused finish reports zeros",
-          answer == 0 || (report[0] | report[1] | report[2] | report[3] | report[6] | report[7]) == 0);
+    holds(name, "a refused finish reports zeros", answer == 0 || memcmp(report, nothing, sizeof nothing) == 0);
     holds(name, "no more than all registers are defined", report[7] <= OWLGANTRY_REGISTERS);
     holds(name, "a refused finish leaves the palette", answer == 0 || memcmp(palette, owner, sizeof owner) == 0);
     holds(name, "a picture hands on colours and marks", answer != 0 || has_colours_and_marks_alone());
@@ -184,7 +206,8 @@ void test_damage(void) {
     numbers = lend(8 * OWLGANTRY_SESSION_NUMBERS);
     registers = lend(4 * OWLGANTRY_REGISTERS);
     palette = lend(4 * OWLGANTRY_REGISTERS);
-    report = lend(8 * 8);
+    report = lend(8 * 10);
+    telling = lend(8 * 7);
     canvas = lend(LENGTH);
     stream = lend(64);
     owlgantry_standard_palette(palette);

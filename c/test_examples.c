@@ -9,57 +9,67 @@
 #define SIX(row) row row row row row row
 #define FORTY(pixel) SIX(pixel) SIX(pixel) SIX(pixel) SIX(pixel) SIX(pixel) SIX(pixel) pixel pixel pixel pixel
 
-/* A payload and its outcome: the refusal, or size, extent, ink, ratio and every pixel (a letter of `colour_of` each). */
+/* A payload and its outcome: the refusal, or size, extent, ink, ratio, declared size and every pixel (a letter of `colour_of` each). */
 typedef struct {
     const char *payload;
     owlgantry_limits limits;
     size_t stride, rows;
-    uint64_t refusal, width, height, right, bottom, ink, ratio_kind, ratio;
+    uint64_t refusal, width, height, right, bottom, ink, ratio_kind, ratio, declared_width, declared_height;
     const char *pixels;
 } example;
 
 static const example examples[] = {
-    {"", HOUSE, HOUSE_CANVAS, 0, 1, 1, 0, 0, 0, 0, 0, "k"},
-    {"~-?", HOUSE, HOUSE_CANVAS, 0, 1, 12, 1, 6, 6, 0, 0, "kkkkkkkkkkkk"},
-    {"!5#1~", HOUSE, HOUSE_CANVAS, 0, 5, 6, 5, 6, 30, 0, 0, SIX("ddddd")},
-    {"!0~", HOUSE, HOUSE_CANVAS, 0, 1, 6, 1, 6, 6, 0, 0, SIX("k")},
-    {"!1\n2~", HOUSE, HOUSE_CANVAS, 0, 12, 6, 12, 6, 72, 0, 0, SIX("kkkkkkkkkkkk")},
-    {"#1;2;100;0~", HOUSE, HOUSE_CANVAS, 0, 1, 6, 1, 6, 6, 0, 0, SIX("d")},
-    {"#1;2;100;0;~", HOUSE, HOUSE_CANVAS, 0, 1, 6, 1, 6, 6, 0, 0, SIX("r")},
-    {"#300~", HOUSE, HOUSE_CANVAS, 0, 1, 6, 1, 6, 6, 0, 0, SIX("w")},
-    {"~#0;2;100;100;100-~", HOUSE, HOUSE_CANVAS, 0, 1, 12, 1, 12, 12, 0, 0, SIX("k") SIX("w")},
-    {"\"2;1\"1;2", HOUSE, HOUSE_CANVAS, 0, 1, 1, 0, 0, 0, 0, 0, "k"},
-    {"!8~", {8, 768, 8, 786432}, HOUSE_CANVAS, 0, 8, 6, 8, 6, 48, 0, 0, SIX("kkkkkkkk")},
-    {"!9~", {8, 768, 8, 786432}, HOUSE_CANVAS, 4, 0, 0, 0, 0, 0, 0, 0, ""},
-    {"!9~", {8, 768, 1024, 786432}, HOUSE_CANVAS, 5, 0, 0, 0, 0, 0, 0, 0, ""},
-    {"--~", {1024, 12, 1024, 786432}, HOUSE_CANVAS, 5, 0, 0, 0, 0, 0, 0, 0, ""},
-    {"--", {1024, 12, 1024, 786432}, HOUSE_CANVAS, 0, 1, 1, 0, 0, 0, 0, 0, "k"},
-    {"!8~", {8, 12, 1024, 48}, HOUSE_CANVAS, 0, 8, 6, 8, 6, 48, 0, 0, SIX("kkkkkkkk")},
-    {"!8~-?", {8, 12, 1024, 48}, HOUSE_CANVAS, 6, 0, 0, 0, 0, 0, 0, 0, ""},
-    {"!5~", HOUSE, 4, 6, 7, 0, 0, 0, 0, 0, 0, 0, ""},
-    {"!8~$!8~", {8, 768, 1024, 786432}, HOUSE_CANVAS, 0, 8, 6, 8, 6, 96, 0, 0, SIX("kkkkkkkk")},
-    {"#1;1;120;50;100~", HOUSE, HOUSE_CANVAS, 0, 1, 6, 1, 6, 6, 0, 0, SIX("r")},
-    {"#1;1;0;50;100~", HOUSE, HOUSE_CANVAS, 0, 1, 6, 1, 6, 6, 0, 0, SIX("b")},
-    {"#1;2;100;0;0!2B", {128, 128, 128, 16384}, 128, 128, 0, 2, 6, 2, 2, 4, 0, 0, "rr" "rr" "kk" "kk" "kk" "kk"},
+    {"", HOUSE, HOUSE_CANVAS, 0, 1, 1, 0, 0, 0, 0, 0, 0, 0, "k"},
+    {"~-?", HOUSE, HOUSE_CANVAS, 0, 1, 12, 1, 6, 6, 0, 0, 0, 0, "kkkkkkkkkkkk"},
+    {"!5#1~", HOUSE, HOUSE_CANVAS, 0, 5, 6, 5, 6, 30, 0, 0, 0, 0, SIX("ddddd")},
+    {"!0~", HOUSE, HOUSE_CANVAS, 0, 1, 6, 1, 6, 6, 0, 0, 0, 0, SIX("k")},
+    {"!1\n2~", HOUSE, HOUSE_CANVAS, 0, 12, 6, 12, 6, 72, 0, 0, 0, 0, SIX("kkkkkkkkkkkk")},
+    {"#1;2;100;0~", HOUSE, HOUSE_CANVAS, 0, 1, 6, 1, 6, 6, 0, 0, 0, 0, SIX("d")},
+    {"#1;2;100;0;~", HOUSE, HOUSE_CANVAS, 0, 1, 6, 1, 6, 6, 0, 0, 0, 0, SIX("r")},
+    {"#300~", HOUSE, HOUSE_CANVAS, 0, 1, 6, 1, 6, 6, 0, 0, 0, 0, SIX("w")},
+    {"~#0;2;100;100;100-~", HOUSE, HOUSE_CANVAS, 0, 1, 12, 1, 12, 12, 0, 0, 0, 0, SIX("k") SIX("w")},
+    {"\"2;1\"1;2", HOUSE, HOUSE_CANVAS, 0, 1, 1, 0, 0, 0, 0, 0, 0, 0, "k"},
+    {"!8~", {8, 768, 8, 786432}, HOUSE_CANVAS, 0, 8, 6, 8, 6, 48, 0, 0, 0, 0, SIX("kkkkkkkk")},
+    {"!9~", {8, 768, 8, 786432}, HOUSE_CANVAS, 4, 0, 0, 0, 0, 0, 0, 0, 0, 0, ""},
+    {"!9~", {8, 768, 1024, 786432}, HOUSE_CANVAS, 5, 0, 0, 0, 0, 0, 0, 0, 0, 0, ""},
+    {"--~", {1024, 12, 1024, 786432}, HOUSE_CANVAS, 5, 0, 0, 0, 0, 0, 0, 0, 0, 0, ""},
+    {"--", {1024, 12, 1024, 786432}, HOUSE_CANVAS, 0, 1, 1, 0, 0, 0, 0, 0, 0, 0, "k"},
+    {"!8~", {8, 12, 1024, 48}, HOUSE_CANVAS, 0, 8, 6, 8, 6, 48, 0, 0, 0, 0, SIX("kkkkkkkk")},
+    {"!8~-?", {8, 12, 1024, 48}, HOUSE_CANVAS, 6, 0, 0, 0, 0, 0, 0, 0, 0, 0, ""},
+    {"!5~", HOUSE, 4, 6, 7, 0, 0, 0, 0, 0, 0, 0, 0, 0, ""},
+    {"!8~$!8~", {8, 768, 1024, 786432}, HOUSE_CANVAS, 0, 8, 6, 8, 6, 96, 0, 0, 0, 0, SIX("kkkkkkkk")},
+    {"#1;1;120;50;100~", HOUSE, HOUSE_CANVAS, 0, 1, 6, 1, 6, 6, 0, 0, 0, 0, SIX("r")},
+    {"#1;1;0;50;100~", HOUSE, HOUSE_CANVAS, 0, 1, 6, 1, 6, 6, 0, 0, 0, 0, SIX("b")},
+    {"#1;2;100;0;0!2B", {128, 128, 128, 16384}, 128, 128, 0, 2, 6, 2, 2, 4, 0, 0, 0, 0, "rr" "rr" "kk" "kk" "kk" "kk"},
     /* A sixel on another, a raster larger than the ink, and a ratio that stays. */
-    {"\"4;2;4;3#1!3@$#255A", HOUSE, 5, 7, 0, 4, 6, 3, 2, 4, 2, 2, "ddd" "k" "w" "kkk" "kkkk" "kkkk" "kkkk" "kkkk"},
+    {"\"4;2;4;3#1!3@$#255A", HOUSE, 5, 7, 0, 4, 6, 3, 2, 4, 2, 2, 4, 3, "ddd" "k" "w" "kkk" "kkkk" "kkkk" "kkkk" "kkkk"},
     /* Every sixel of the first band is one column further, and stops come between. */
-    {"#1~#255~#1~#255~-#1!4~", {4, 12, 9, 48}, 4, 12, 0, 4, 12, 4, 12, 48, 0, 0, SIX("dwdw") SIX("dddd")},
-    {"\"3;1;2;2-\"5;1", HOUSE, 2, 2, 0, 2, 2, 0, 0, 0, 2, 5, "kkkk"},
+    {"#1~#255~#1~#255~-#1!4~", {4, 12, 9, 48}, 4, 12, 0, 4, 12, 4, 12, 48, 0, 0, 0, 0, SIX("dwdw") SIX("dddd")},
+    {"\"3;1;2;2-\"5;1", HOUSE, 2, 2, 0, 2, 2, 0, 0, 0, 2, 5, 2, 2, "kkkk"},
     /* The extent: no blank column, no blank row of a band, and nothing of what has only grown. */
-    {"@!40?", HOUSE, HOUSE_CANVAS, 0, 41, 6, 1, 1, 1, 0, 0, SIX("k" FORTY("k"))},
-    {"_", HOUSE, HOUSE_CANVAS, 0, 1, 6, 1, 6, 1, 0, 0, SIX("k")},
-    {"!7?", HOUSE, HOUSE_CANVAS, 0, 7, 6, 0, 0, 0, 0, 0, SIX("kkkkkkk")},
-    {"\"1;1;4;3", HOUSE, HOUSE_CANVAS, 0, 4, 3, 0, 0, 0, 2, 1, "kkkk" "kkkk" "kkkk"},
-    {"!3@", HOUSE, HOUSE_CANVAS, 0, 3, 6, 3, 1, 3, 0, 0, SIX("kkk")},
-    {"C", HOUSE, HOUSE_CANVAS, 0, 1, 6, 1, 3, 1, 0, 0, SIX("k")},
-    {"#1?@G?A??", HOUSE, HOUSE_CANVAS, 0, 7, 6, 5, 4, 3, 0, 0, "kdkkkkk" "kkkkdkk" "kkkkkkk" "kkdkkkk" "kkkkkkk" "kkkkkkk"},
-    {"!3@-O$-", HOUSE, HOUSE_CANVAS, 0, 3, 12, 3, 11, 4, 0, 0, SIX("kkk") SIX("kkk")},
+    {"@!40?", HOUSE, HOUSE_CANVAS, 0, 41, 6, 1, 1, 1, 0, 0, 0, 0, SIX("k" FORTY("k"))},
+    {"_", HOUSE, HOUSE_CANVAS, 0, 1, 6, 1, 6, 1, 0, 0, 0, 0, SIX("k")},
+    {"!7?", HOUSE, HOUSE_CANVAS, 0, 7, 6, 0, 0, 0, 0, 0, 0, 0, SIX("kkkkkkk")},
+    {"\"1;1;4;3", HOUSE, HOUSE_CANVAS, 0, 4, 3, 0, 0, 0, 2, 1, 4, 3, "kkkk" "kkkk" "kkkk"},
+    {"!3@", HOUSE, HOUSE_CANVAS, 0, 3, 6, 3, 1, 3, 0, 0, 0, 0, SIX("kkk")},
+    {"C", HOUSE, HOUSE_CANVAS, 0, 1, 6, 1, 3, 1, 0, 0, 0, 0, SIX("k")},
+    {"#1?@G?A??", HOUSE, HOUSE_CANVAS, 0, 7, 6, 5, 4, 3, 0, 0, 0, 0, "kdkkkkk" "kkkkdkk" "kkkkkkk" "kkdkkkk" "kkkkkkk" "kkkkkkk"},
+    {"!3@-O$-", HOUSE, HOUSE_CANVAS, 0, 3, 12, 3, 11, 4, 0, 0, 0, 0, SIX("kkk") SIX("kkk")},
     /* In the background's own colour, and covered by it later. */
-    {"#0!2A", HOUSE, HOUSE_CANVAS, 0, 2, 6, 2, 2, 2, 0, 0, SIX("kk")},
-    {"#1!4B$#0!4B", HOUSE, HOUSE_CANVAS, 0, 4, 6, 4, 2, 16, 0, 0, SIX("kkkk")},
+    {"#0!2A", HOUSE, HOUSE_CANVAS, 0, 2, 6, 2, 2, 2, 0, 0, 0, 0, SIX("kk")},
+    {"#1!4B$#0!4B", HOUSE, HOUSE_CANVAS, 0, 4, 6, 4, 2, 16, 0, 0, 0, 0, SIX("kkkk")},
     /* The last sixel waits for a second call, and counts when that reads it. */
-    {"!8~-!8N", {8, 12, 8, 96}, 8, 12, 0, 8, 12, 8, 10, 80, 0, 0, SIX("kkkkkkkk") SIX("kkkkkkkk")},
+    {"!8~-!8N", {8, 12, 8, 96}, 8, 12, 0, 8, 12, 8, 10, 80, 0, 0, 0, 0, SIX("kkkkkkkk") SIX("kkkkkkkk")},
+    /* The declared size: one side, a raster that is pending at the end, more drawn than was declared, a second raster
+     * that keeps one side or none, and one that is refused. */
+    {"\"1;1;3;2~", HOUSE, HOUSE_CANVAS, 0, 3, 6, 1, 6, 6, 2, 1, 3, 2, SIX("kkk")},
+    {"\"1;1;3", HOUSE, HOUSE_CANVAS, 0, 3, 1, 0, 0, 0, 2, 1, 3, 0, "kkk"},
+    {"\"1;1;;2", HOUSE, HOUSE_CANVAS, 0, 1, 2, 0, 0, 0, 2, 1, 0, 2, "kk"},
+    {"~\"1;1;3;2", HOUSE, HOUSE_CANVAS, 0, 3, 6, 1, 6, 6, 2, 1, 3, 2, SIX("kkk")},
+    {"\"1;1;2;2!5~", HOUSE, HOUSE_CANVAS, 0, 5, 6, 5, 6, 30, 2, 1, 2, 2, SIX("kkkkk")},
+    {"\"1;1;3;4\"1;1;2", HOUSE, HOUSE_CANVAS, 0, 3, 4, 0, 0, 0, 2, 1, 2, 4, "kkk" "kkk" "kkk" "kkk"},
+    {"\"1;1;3;2\"2;1", HOUSE, HOUSE_CANVAS, 0, 3, 2, 0, 0, 0, 2, 2, 3, 2, "kkk" "kkk"},
+    {"\"1;1;3;2\"1;1;9;2~", {8, 768, 8, 786432}, HOUSE_CANVAS, 5, 0, 0, 0, 0, 0, 0, 0, 0, 0, ""},
 };
 
 static uint32_t colour_of(char letter) {
@@ -96,6 +106,8 @@ static void check_picture(const example *it, const char *name, owlgantry_canvas 
     same(name, "the ratio's kind", picture.ratio_kind, it->ratio_kind);
     same(name, "the ratio", picture.ratio, it->ratio);
     same(name, "transparent", picture.transparent, 0);
+    same(name, "the declared width", picture.declared_width, it->declared_width);
+    same(name, "the declared height", picture.declared_height, it->declared_height);
     if (it->refusal == 0) {
         check_pixels(it, name, canvas);
     }

@@ -83,7 +83,7 @@ fn session(
     if calls.refused != 0 {
         same("refusal", (calls.refused, false), (u64::from(answer.refusal), answer.at_finish))?;
         same("feed after a refusal", reader.feed(b"~", LEAST, 0), (9, [0; 4]))?;
-        same("finish after a refusal", reader.finish(), (9, [0; 8]))?;
+        same("finish after a refusal", reader.finish(), (9, [0; 10]))?;
         return Ok(model.defined);
     }
     same("refusal in a feed", false, answer.refusal != 0 && !answer.at_finish)?;
@@ -192,10 +192,10 @@ fn status(entry: Entry, [how, _, _, byte]: [u64; 4]) -> Status {
 ///
 /// The Rust has no extent to compare with: its reach counts blank columns and whole bands. But where the background is
 /// clear, the opaque pixels of its picture are just the painted ones.
-fn finished(expected: &Expected, ours: (u64, [u64; 8]), counted: Result<[u64; 8], u64>) -> Same {
+fn finished(expected: &Expected, ours: (u64, [u64; 10]), counted: Result<[u64; 10], u64>) -> Same {
     let (number, report) = ours;
     if number == 0 {
-        let [width, height, right, bottom, kind, ratio, transparent, _] = report;
+        let [width, height, right, bottom, kind, ratio, transparent, ..] = report;
         let answer = &expected.answer;
         same("size", [width, height], answer.size.map(|side| side as u64))?;
         if !answer.opaque {
@@ -209,9 +209,10 @@ fn finished(expected: &Expected, ours: (u64, [u64; 8]), counted: Result<[u64; 8]
         same("ratio", vertical, u16::from(answer.ratio))?;
         same("background", transparent, u64::from(!answer.opaque))?;
     }
-    let counted = counted.map_or_else(|number| (number, [0; 8]), |report| (0, report));
+    let counted = counted.map_or_else(|number| (number, [0; 10]), |report| (0, report));
     same("extent", &report[2..4], &counted.1[2..4])?;
     same("registers defined", report[7], counted.1[7])?;
+    same("declared size", &report[8..], &counted.1[8..])?;
     same("finish's numbers", (number, report), counted)
 }
 

@@ -1,7 +1,7 @@
 //! The rules of reading (docs/RULES.md), without pixels and colours: what each call has to answer, and the ink of every draw.
 //!
-//! Written from the document and not from either reader, so that calls, stops, ink, extent and the registers that are
-//! defined are counted by a third party.
+//! Written from the document and not from either reader, so that calls, stops, ink, extent, the registers that are
+//! defined and the declared size are counted by a third party.
 use crate::values::{ends, header_byte, skipped, Settings, Values};
 
 /// What a session is opened with: W, H, R, M, and the canvas's stride and rows.
@@ -298,8 +298,8 @@ impl Model {
         Ok(())
     }
 
-    /// The eight numbers of a finish.
-    pub fn finish(&mut self, effects: Effects) -> Result<[u64; 8], u64> {
+    /// The ten numbers of a finish.
+    pub fn finish(&mut self, effects: Effects) -> Result<[u64; 10], u64> {
         match self.phase {
             Phase::Failed => return Err(9),
             Phase::End(..) => {}
@@ -314,7 +314,8 @@ impl Model {
         };
         let transparent = u64::from(self.settings[1] == Some(1));
         let defined = self.defined.iter().filter(|&&defined| defined).count() as u64;
-        Ok([self.area[0], self.area[1], self.extent[0], self.extent[1], kind, number, transparent, defined])
+        let ([width, height], [right, bottom], [columns, rows]) = (self.area, self.extent, self.kept);
+        Ok([width, height, right, bottom, kind, number, transparent, defined, columns, rows])
     }
 }
 

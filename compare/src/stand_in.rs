@@ -122,7 +122,7 @@ impl Reader for StandIn {
         numbered(fed)
     }
 
-    fn finish(&mut self) -> (u64, [u64; 8]) {
+    fn finish(&mut self) -> (u64, [u64; 10]) {
         let Self { memory, canvas, model } = self;
         let mut registers = memory.registers;
         let lent = memory.canvas();
@@ -135,12 +135,12 @@ impl Reader for StandIn {
         numbered(finished)
     }
 
-    fn read(&mut self, opening: &Opening, bytes: &[u8]) -> (u64, [u64; 10]) {
+    fn read(&mut self, opening: &Opening, bytes: &[u8]) -> (u64, [u64; 12]) {
         let bounds = self.start(opening);
         let end = bytes.len() as u64;
         let (settings, place) = match values::part(bytes) {
             Ok(found) => found,
-            Err(number) => return (number, [0, 0, 0, 0, 0, 0, 0, 0, end, 0]),
+            Err(number) => return (number, [0, 0, 0, 0, 0, 0, 0, 0, 0, 0, end, 0]),
         };
         let Self { memory, canvas, .. } = self;
         let mut registers = memory.registers;
@@ -152,8 +152,11 @@ impl Reader for StandIn {
         if finished.is_ok() {
             memory.palette = lasting(registers);
         }
-        let (number, [w, h, right, bottom, kind, ratio, transparent, defined]) = numbered(finished);
-        (number, [w, h, right, bottom, kind, ratio, transparent, defined, place as u64, end - place as u64])
+        let (number, picture) = numbered(finished);
+        let mut report = [0; 12];
+        report[..10].copy_from_slice(&picture);
+        report[10..].copy_from_slice(&[place as u64, end - place as u64]);
+        (number, report)
     }
 
     fn copy(&mut self, [width, height]: [usize; 2], mut out: Vec<u8>) -> (u64, Vec<u8>) {

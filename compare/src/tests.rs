@@ -31,6 +31,12 @@ enum Damage {
     ExtentOfSize,
     /// A count of the registers that are marked in the end.
     DefinedOfMarked,
+    /// A declared size that is the visible one.
+    DeclaredOfSize,
+    /// A side that is declared as 1 where none is.
+    DeclaredOfOne,
+    /// Width and height exchanged.
+    DeclaredTurned,
     Palette,
     /// A picture that marks one register too many.
     MarkTooMany,
@@ -82,7 +88,7 @@ impl Damaged {
         self.damage == damage
     }
 
-    /// Puts a wrong extent or count into the report of a picture.
+    /// Puts a wrong extent, count or declared size into the report of a picture.
     fn stretch(&mut self, number: u64, report: &mut [u64]) {
         match self.damage {
             Damage::DefinedOfMarked if number == 0 => {
@@ -92,6 +98,9 @@ impl Damaged {
             Damage::ExtentNotEmpty if number == 0 => report[2..4].iter_mut().for_each(|side| *side = (*side).max(1)),
             Damage::ExtentInBands => report[3] = report[3].next_multiple_of(6),
             Damage::ExtentOfSize => report.copy_within(..2, 2),
+            Damage::DeclaredOfSize => report.copy_within(..2, 8),
+            Damage::DeclaredOfOne if number == 0 => report[8..10].iter_mut().for_each(|side| *side = (*side).max(1)),
+            Damage::DeclaredTurned => report.swap(8, 9),
             _ => {}
         }
     }
@@ -121,7 +130,7 @@ impl Reader for Damaged {
         (if self.is(Damage::FeedNumber) && number != 0 { number + 1 } else { number }, report)
     }
 
-    fn finish(&mut self) -> (u64, [u64; 8]) {
+    fn finish(&mut self) -> (u64, [u64; 10]) {
         self.ended = true;
         let (number, mut report) = self.inner.finish();
         self.committed = number == 0;
@@ -132,7 +141,7 @@ impl Reader for Damaged {
         (if self.is(Damage::FinishNumber) && number != 0 { number + 1 } else { number }, report)
     }
 
-    fn read(&mut self, opening: &Opening, bytes: &[u8]) -> (u64, [u64; 10]) {
+    fn read(&mut self, opening: &Opening, bytes: &[u8]) -> (u64, [u64; 12]) {
         self.owner = opening.palette;
         let (number, mut report) = self.inner.read(opening, bytes);
         self.committed = number == 0;
@@ -221,6 +230,8 @@ fn every_damage_is_noticed() {
         Finish(5),
         Finish(6),
         Finish(7),
+        Finish(8),
+        Finish(9),
         FinishNumber,
         Read(0),
         Read(1),
@@ -232,11 +243,16 @@ fn every_damage_is_noticed() {
         Read(7),
         Read(8),
         Read(9),
+        Read(10),
+        Read(11),
         ReadNumber,
         ExtentNotEmpty,
         ExtentInBands,
         ExtentOfSize,
         DefinedOfMarked,
+        DeclaredOfSize,
+        DeclaredOfOne,
+        DeclaredTurned,
         Palette,
         MarkTooMany,
         MarksOfBefore,
@@ -319,6 +335,7 @@ fn each_field_is_named() {
     assert!(found(Damage::ExtentOfSize).is_some_and(|what| what.starts_with("extent")));
     assert!(found(Damage::Palette).is_some_and(|what| what.starts_with("palette")));
     assert!(found(Damage::DefinedOfMarked).is_some_and(|what| what == "registers defined"));
+    assert!(found(Damage::DeclaredOfSize).is_some_and(|what| what == "declared size"));
     assert!(found(Damage::MarkTooMany).is_some_and(|what| what == "mark of register 77"));
     assert!(found(Damage::Before).is_some_and(|what| what.contains("outside the picture")));
 }
@@ -387,6 +404,36 @@ fn a_register_is_defined_by_five_values_in_a_known_space() {
     ];
     for (payload, registers) in others {
         assert_eq!(counted(payload), registers, "{payload}");
+    }
+}
+
+/// The count by itself, of the size that rasters declare.
+#[test]
+fn a_side_is_declared_by_a_raster_that_is_above_0() {
+    let bounds = Bounds { limits: [64, 64, 64, 4_096], stride: 64, rows: 64 };
+    let nothing = &mut |_| ();
+    let mut counted = |payload: &str| {
+        let mut model = Model::payload(bounds, [None; 2], nothing);
+        let fed = model.feed(payload.as_bytes(), u64::MAX, nothing);
+        let [.., width, height] = fed.and_then(|_| model.finish(nothing)).expect("a picture");
+        [width, height]
+    };
+    let pictures = [
+        ("", [0, 0]),
+        ("!5~", [0, 0]),
+        ("\"2;1~", [0, 0]),
+        ("\"1;1;3;2", [3, 2]),
+        ("\"1;1;3;2~", [3, 2]),
+        ("~\"1;1;3", [3, 0]),
+        ("\"1;1;;2", [0, 2]),
+        ("\"1;1;2;2!5~", [2, 2]),
+        ("\"1;1;9;8\"1;1;4", [4, 8]),
+        ("\"1;1;9;8\"1;1;0;5~", [9, 5]),
+        ("\"1;1;9;8\"2;1", [9, 8]),
+        ("\"1;1;3;2\x1b\"1;1;4;4", [3, 2]),
+    ];
+    for (payload, declared) in pictures {
+        assert_eq!(counted(payload), declared, "{payload}");
     }
 }
 

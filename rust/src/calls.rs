@@ -3,7 +3,7 @@
 //! The reader keeps no pointer, stays within the lengths, and gives any content of a session a stated answer. So a call
 //! is sound where every pointer is one of a reference that lives through the call, and is exclusive where it is written
 //! to; the types of the functions below see to both.
-use crate::ffi::{self, Numbers, Registers};
+use crate::ffi::{self, Numbers, Registers, Told};
 use crate::Limits;
 use std::alloc::{alloc_zeroed, Layout};
 use std::mem::MaybeUninit;
@@ -44,12 +44,12 @@ pub fn read(
     canvas: &mut [u8],
     bytes: &[u8],
     palette: &mut Registers,
-) -> (u64, [u64; 10]) {
+) -> (u64, [u64; 12]) {
     let Limits { width: w, height: h, repeats: r, pixels: m } = limits;
-    let mut report = [0; 10];
+    let mut report = [0; 12];
     let (at, length) = (canvas.as_mut_ptr(), canvas.len());
     let (given, count) = (bytes.as_ptr(), bytes.len());
-    // SAFETY: canvas and bytes have their slices' lengths, the palette 256 numbers and the report 10; all but bytes are exclusive.
+    // SAFETY: canvas and bytes have their slices' lengths, the palette 256 numbers and the report 12; all but bytes are exclusive.
     let answer = unsafe { ffi::owlgantry_raw_read(w, h, r, m, stride, at, length, given, count, palette, &mut report) };
     (answer, report)
 }
@@ -110,21 +110,69 @@ pub fn dcs_feed(memory: &mut Memory, canvas: &mut [u8], bytes: &[u8], allowance:
     (answer, report)
 }
 
-pub fn payload_finish(memory: &mut Memory, canvas: &mut [u8], palette: &mut Registers) -> (u64, [u64; 8]) {
-    let mut report = [0; 8];
+pub fn payload_finish(memory: &mut Memory, canvas: &mut [u8], palette: &mut Registers) -> (u64, [u64; 10]) {
+    let mut report = [0; 10];
     let (numbers, registers) = (&mut memory.numbers, &memory.registers);
     let (at, length) = (canvas.as_mut_ptr(), canvas.len());
-    // SAFETY: the session has 48 numbers and 256 registers, the canvas its slice's length, the palette 256 numbers and the report 8;
+    // SAFETY: the session has 48 numbers and 256 registers, the canvas its slice's length, the palette 256 numbers and the report 10;
     // all but the registers are exclusive.
     let answer = unsafe { ffi::owlgantry_raw_payload_finish(numbers, registers, at, length, palette, &mut report) };
     (answer, report)
 }
 
-pub fn dcs_finish(memory: &mut Memory, canvas: &mut [u8], palette: &mut Registers) -> (u64, [u64; 8]) {
-    let mut report = [0; 8];
+pub fn dcs_finish(memory: &mut Memory, canvas: &mut [u8], palette: &mut Registers) -> (u64, [u64; 10]) {
+    let mut report = [0; 10];
     let (numbers, registers) = (&mut memory.numbers, &memory.registers);
     let (at, length) = (canvas.as_mut_ptr(), canvas.len());
     // SAFETY: as in `payload_finish`.
     let answer = unsafe { ffi::owlgantry_raw_dcs_finish(numbers, registers, at, length, palette, &mut report) };
     (answer, report)
+}
+
+pub fn payload_explain(memory: &Memory, length: usize, bytes: &[u8], allowance: usize) -> Told {
+    let mut told = [0; 7];
+    let (numbers, registers) = (&memory.numbers, &memory.registers);
+    let (given, count) = (bytes.as_ptr(), bytes.len());
+    // SAFETY: the session has 48 numbers and 256 registers, the bytes their slice's length, and `told` 7 numbers; it is exclusive.
+    unsafe { ffi::owlgantry_raw_payload_explain(numbers, registers, length, given, count, allowance, &mut told) };
+    told
+}
+
+pub fn dcs_explain(memory: &Memory, length: usize, bytes: &[u8], allowance: usize) -> Told {
+    let mut told = [0; 7];
+    let (numbers, registers) = (&memory.numbers, &memory.registers);
+    let (given, count) = (bytes.as_ptr(), bytes.len());
+    // SAFETY: as in `payload_explain`.
+    unsafe { ffi::owlgantry_raw_dcs_explain(numbers, registers, length, given, count, allowance, &mut told) };
+    told
+}
+
+pub fn payload_explain_finish(memory: &Memory, length: usize) -> Told {
+    let mut told = [0; 7];
+    // SAFETY: the session has 48 numbers and 256 registers, and `told` 7 numbers; it is exclusive.
+    unsafe { ffi::owlgantry_raw_payload_explain_finish(&memory.numbers, &memory.registers, length, &mut told) };
+    told
+}
+
+pub fn dcs_explain_finish(memory: &Memory, length: usize) -> Told {
+    let mut told = [0; 7];
+    // SAFETY: as in `payload_explain_finish`.
+    unsafe { ffi::owlgantry_raw_dcs_explain_finish(&memory.numbers, &memory.registers, length, &mut told) };
+    told
+}
+
+pub fn read_explain(limits: Limits, stride: usize, length: usize, palette: &Registers, bytes: &[u8]) -> Told {
+    let Limits { width: w, height: h, repeats: r, pixels: m } = limits;
+    let mut told = [0; 7];
+    let (given, count) = (bytes.as_ptr(), bytes.len());
+    // SAFETY: the palette has 256 numbers, the bytes their slice's length, and `told` 7 numbers; it is exclusive.
+    unsafe { ffi::owlgantry_raw_read_explain(w, h, r, m, stride, length, palette, given, count, &mut told) };
+    told
+}
+
+/// How many bytes of the line were written.
+pub fn words(told: &Told, out: &mut [u8]) -> usize {
+    // SAFETY: `told` is 7 numbers; `out` has its slice's length and is exclusive.
+    let written = unsafe { ffi::owlgantry_raw_words(told, out.as_mut_ptr(), out.len()) };
+    written as usize
 }

@@ -1,8 +1,8 @@
 use crate::room::Room;
 use crate::stream::Session;
 use crate::{
-    look, read, DcsSettings, Limits, Palette, PayloadSession, Reading, Result, SixelDcsStreamDecoder, SixelImage,
-    SixelStreamDecoder,
+    explain, look, read, DcsSettings, Limits, Palette, PayloadSession, Reading, Result, SixelDcsStreamDecoder,
+    SixelImage, SixelStreamDecoder,
 };
 
 /// Owns limits and a palette, and decodes pictures one after another.
@@ -20,6 +20,11 @@ use crate::{
 ///   buffered. Its finish moves the rows together and gives back what is left of the canvas.
 ///
 /// [`Self::decode_onto`] allocates nothing.
+///
+/// A refusal comes with its place, counted from the first byte of the input or of the stream, however it was cut, and with
+/// what the refused byte needed ([`SixelError::telling`](crate::SixelError::telling)). The bytes are read again for that. A
+/// streaming decoder has them only while it buffers them: where it starts with a canvas of the limits' size, a refusal has
+/// neither. A session on a canvas that is lent can be asked there ([`DcsSession::explain`](crate::DcsSession::explain)).
 #[derive(Clone, Debug)]
 pub struct SixelDecoder {
     limits: Limits,
@@ -68,21 +73,25 @@ impl SixelDecoder {
         let Self { limits, palette } = self;
         let payload = look::after_header(data);
         let mut room = Room::for_payload(*limits, payload)?;
-        let picture =
-            room.read(payload, |limits, stride, canvas| read(limits, stride, canvas, data, palette).picture)?;
-        Ok(room.image(picture))
+        match room.read(payload, |limits, stride, canvas| read(limits, stride, canvas, data, palette).picture) {
+            Ok(picture) => Ok(room.image(picture)),
+            Err(error) => Err(explain::of_reading(error, &mut room, palette, data)),
+        }
     }
 
     /// Reads a payload whose header was read by somebody else.
     pub fn decode_from_dcs(&mut self, payload: &[u8], settings: DcsSettings) -> Result<SixelImage> {
         let Self { limits, palette } = self;
         let mut room = Room::for_payload(*limits, payload)?;
-        let picture = room.read(payload, |limits, stride, canvas| {
+        let answer = room.read(payload, |limits, stride, canvas| {
             let mut session = PayloadSession::open(limits, stride, settings, canvas, palette)?;
             let _ = session.feed_all(canvas, payload)?;
             session.finish(canvas, palette)
-        })?;
-        Ok(room.image(picture))
+        });
+        match answer {
+            Ok(picture) => Ok(room.image(picture)),
+            Err(error) => Err(explain::of_session::<PayloadSession>(error, &mut room, palette, payload)),
+        }
     }
 
     /// Reads as [`Self::decode`] does, onto a canvas that is lent, and allocates nothing.

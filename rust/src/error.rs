@@ -1,60 +1,65 @@
+use crate::{Need, Telling};
 use std::fmt;
 
 /// Why a call was refused; each has its number (docs/RULES.md, section 5: rule 5.1 has the table, 5.2 and 5.3 the orders).
+///
+/// Its text is the reader's line of English, without a place (rule 5.11). [`Telling`] says where and why.
 #[derive(Clone, Copy, Debug, PartialEq, Eq)]
-#[repr(u8)]
+#[non_exhaustive]
 pub enum Refusal {
     /// A DCS sequence does not begin with 90, or with 1B and `P`.
-    Introducer = 1,
+    Introducer,
     /// 18, 1A, 1B or 80-9F stands in the header.
-    HeaderEnded = 2,
+    HeaderEnded,
     /// Another byte stands in the header that does not belong there.
-    HeaderByte = 3,
+    HeaderByte,
     /// A repeat is above the limit.
-    Repeat = 4,
+    Repeat,
     /// A sixel or raster needs more than the limit of width or height.
-    Size = 5,
+    Size,
     /// The visible area would have more pixels than the limit.
-    Pixels = 6,
+    Pixels,
     /// A sixel or raster needs more than the canvas's stride or rows.
-    Room = 7,
+    Room,
     /// A DCS sequence has not come to its end; read all at once, it has an introducer but no `q`.
-    Unfinished = 8,
+    Unfinished,
     /// 1 to 7 refused this session before, or there is none.
-    Failed = 9,
+    Failed,
     /// Retired: nothing gives it.
-    FinalSize = 10,
+    FinalSize,
     /// A limit or the stride is out of range, or the canvas has no whole row.
-    Opening = 11,
+    Opening,
     /// The canvas has another length than at the opening, or no such picture.
-    Canvas = 12,
+    Canvas,
     /// The allowance is below six times the limit of width.
-    Allowance = 13,
+    Allowance,
     /// The copy's buffer is shorter than the picture.
-    Buffer = 14,
+    Buffer,
+    /// A number that this version does not know. No reader of this version gives one.
+    #[doc(hidden)]
+    Other(u8),
 }
 
 impl Refusal {
-    const ALL: [Self; 14] = [
-        Self::Introducer,
-        Self::HeaderEnded,
-        Self::HeaderByte,
-        Self::Repeat,
-        Self::Size,
-        Self::Pixels,
-        Self::Room,
-        Self::Unfinished,
-        Self::Failed,
-        Self::FinalSize,
-        Self::Opening,
-        Self::Canvas,
-        Self::Allowance,
-        Self::Buffer,
-    ];
-
     /// The refusal's number, 1 to 14.
     pub const fn number(self) -> u8 {
-        self as u8
+        match self {
+            Self::Introducer => 1,
+            Self::HeaderEnded => 2,
+            Self::HeaderByte => 3,
+            Self::Repeat => 4,
+            Self::Size => 5,
+            Self::Pixels => 6,
+            Self::Room => 7,
+            Self::Unfinished => 8,
+            Self::Failed => 9,
+            Self::FinalSize => 10,
+            Self::Opening => 11,
+            Self::Canvas => 12,
+            Self::Allowance => 13,
+            Self::Buffer => 14,
+            Self::Other(number) => number,
+        }
     }
 
     /// A call's answer: 0 is none. A feed may be of one byte, and so nothing is searched then.
@@ -68,81 +73,109 @@ impl Refusal {
 
     #[cold]
     fn numbered(answer: u64) -> Self {
-        match Self::ALL.into_iter().find(|refusal| u64::from(refusal.number()) == answer) {
-            Some(refusal) => refusal,
-            None => unreachable!("the reader answers 0 to 14, not {answer}"),
-        }
-    }
-
-    const fn words(self) -> &'static str {
-        match self {
-            Self::Introducer => "no DCS introducer",
-            Self::HeaderEnded => "the header ended before `q`",
-            Self::HeaderByte => "a byte that no header has",
-            Self::Repeat => "a repeat above the limit",
-            Self::Size => "a width or height above the limit",
-            Self::Pixels => "more pixels than the limit",
-            Self::Room => "a size above the canvas",
-            Self::Unfinished => "the sequence has no end",
-            Self::Failed => "the session was refused before",
-            Self::FinalSize => "a retired number that nothing gives",
-            Self::Opening => "an opening number out of its range",
-            Self::Canvas => "not the canvas of the opening",
-            Self::Allowance => "an allowance below six times the width",
-            Self::Buffer => "a buffer shorter than the picture",
+        match answer {
+            1 => Self::Introducer,
+            2 => Self::HeaderEnded,
+            3 => Self::HeaderByte,
+            4 => Self::Repeat,
+            5 => Self::Size,
+            6 => Self::Pixels,
+            7 => Self::Room,
+            8 => Self::Unfinished,
+            9 => Self::Failed,
+            10 => Self::FinalSize,
+            11 => Self::Opening,
+            12 => Self::Canvas,
+            13 => Self::Allowance,
+            14 => Self::Buffer,
+            other => Self::Other(u8::try_from(other).unwrap_or(u8::MAX)),
         }
     }
 }
 
 impl fmt::Display for Refusal {
     fn fmt(&self, f: &mut fmt::Formatter<'_>) -> fmt::Result {
-        write!(f, "{} (refusal {})", self.words(), self.number())
+        Telling::from(*self).fmt(f)
     }
 }
 
 impl std::error::Error for Refusal {}
 
 /// Why there is no image.
+///
+/// A refusal comes with its place and its need where the bytes are still there to be asked: [`SixelDecoder`](crate::SixelDecoder)
+/// says when.
 #[derive(Clone, Copy, Debug, PartialEq, Eq)]
 pub enum SixelError {
     /// Refusal 1: the bytes are no DCS sequence.
-    NoSixelData,
+    NoSixelData(Telling),
     /// Any other refusal.
-    InvalidData(Refusal),
+    InvalidData(Telling),
     /// The canvas or the kept bytes can't be allocated.
     OutOfMemory,
 }
 
 impl SixelError {
-    /// The refusal, where the reader refused.
-    pub const fn refusal(self) -> Option<Refusal> {
+    /// What is told of the refusal, where the reader refused.
+    pub const fn telling(self) -> Option<Telling> {
         match self {
-            Self::NoSixelData => Some(Refusal::Introducer),
-            Self::InvalidData(refusal) => Some(refusal),
+            Self::NoSixelData(telling) | Self::InvalidData(telling) => Some(telling),
             Self::OutOfMemory => None,
         }
+    }
+
+    /// The refusal, where the reader refused.
+    pub const fn refusal(self) -> Option<Refusal> {
+        match self.telling() {
+            Some(telling) => Some(telling.refusal),
+            None => None,
+        }
+    }
+
+    /// The offset of the refused byte among all bytes of the stream, where it is known.
+    pub fn place(self) -> Option<usize> {
+        self.telling().and_then(|telling| telling.place)
+    }
+
+    /// What the refused byte needed, where it is known.
+    pub fn need(self) -> Option<Need> {
+        self.telling().and_then(|telling| telling.need)
     }
 
     /// The refusal's number; 0 where memory ran out.
     pub fn number(self) -> u8 {
         self.refusal().map_or(0, Refusal::number)
     }
+
+    /// With place and need, where they are told of the same refusal.
+    #[cold]
+    pub(crate) fn explained(self, tell: impl FnOnce() -> Option<Telling>) -> Self {
+        let told = self.refusal().and_then(|refusal| tell().filter(|telling| telling.refusal == refusal));
+        told.map_or(self, Self::from)
+    }
+}
+
+impl From<Telling> for SixelError {
+    fn from(telling: Telling) -> Self {
+        match telling.refusal {
+            Refusal::Introducer => Self::NoSixelData(telling),
+            _ => Self::InvalidData(telling),
+        }
+    }
 }
 
 impl From<Refusal> for SixelError {
+    /// Without a place.
     fn from(refusal: Refusal) -> Self {
-        match refusal {
-            Refusal::Introducer => Self::NoSixelData,
-            other => Self::InvalidData(other),
-        }
+        Telling::from(refusal).into()
     }
 }
 
 impl fmt::Display for SixelError {
     fn fmt(&self, f: &mut fmt::Formatter<'_>) -> fmt::Result {
-        match self.refusal() {
-            Some(refusal) => write!(f, "{refusal}"),
-            None => write!(f, "out of memory"),
+        match self.telling() {
+            Some(telling) => telling.fmt(f),
+            None => f.pad("out of memory"),
         }
     }
 }

@@ -9,6 +9,11 @@ pub const REGISTERS: usize = 256;
 pub type Numbers = [u64; SESSION_NUMBERS];
 /// Registers' numbers: a packed colour, and 2^24 more where the register is marked.
 pub type Registers = [u32; REGISTERS];
+/// What is told of a refusal: its number; 1 where there is a place, else 0; the place; what ran short, or 0; how much was needed;
+/// 1 for more than that, else 0; how much is allowed.
+pub type Told = [u64; 7];
+/// No line of `owlgantry_raw_words` has so many bytes.
+pub const LINE: usize = 128;
 
 extern "C" {
     pub fn owlgantry_raw_standard_palette(out: *mut Registers);
@@ -23,7 +28,7 @@ extern "C" {
         bytes: *const u8,
         bytes_length: usize,
         palette: *mut Registers,
-        report: *mut [u64; 10],
+        report: *mut [u64; 12],
     ) -> u64;
     pub fn owlgantry_raw_copy(
         canvas: *const u8,
@@ -64,7 +69,7 @@ extern "C" {
         canvas: *mut u8,
         canvas_length: usize,
         palette: *mut Registers,
-        report: *mut [u64; 8],
+        report: *mut [u64; 10],
     ) -> u64;
     pub fn owlgantry_raw_dcs_open(
         width: usize,
@@ -93,6 +98,49 @@ extern "C" {
         canvas: *mut u8,
         canvas_length: usize,
         palette: *mut Registers,
-        report: *mut [u64; 8],
+        report: *mut [u64; 10],
     ) -> u64;
+    pub fn owlgantry_raw_payload_explain(
+        session: *const Numbers,
+        registers: *const Registers,
+        canvas_length: usize,
+        bytes: *const u8,
+        bytes_length: usize,
+        allowance: usize,
+        telling: *mut Told,
+    ) -> u64;
+    pub fn owlgantry_raw_payload_explain_finish(
+        session: *const Numbers,
+        registers: *const Registers,
+        canvas_length: usize,
+        telling: *mut Told,
+    ) -> u64;
+    pub fn owlgantry_raw_dcs_explain(
+        session: *const Numbers,
+        registers: *const Registers,
+        canvas_length: usize,
+        bytes: *const u8,
+        bytes_length: usize,
+        allowance: usize,
+        telling: *mut Told,
+    ) -> u64;
+    pub fn owlgantry_raw_dcs_explain_finish(
+        session: *const Numbers,
+        registers: *const Registers,
+        canvas_length: usize,
+        telling: *mut Told,
+    ) -> u64;
+    pub fn owlgantry_raw_read_explain(
+        width: usize,
+        height: usize,
+        repeats: usize,
+        pixels: usize,
+        stride: usize,
+        canvas_length: usize,
+        palette: *const Registers,
+        bytes: *const u8,
+        bytes_length: usize,
+        telling: *mut Told,
+    ) -> u64;
+    pub fn owlgantry_raw_words(telling: *const Told, out: *mut u8, out_length: usize) -> u64;
 }

@@ -7,7 +7,7 @@
 //! - [`PayloadSession`], [`DcsSession`], [`read`] and [`copy`] draw on a canvas that the caller lends, tell the ink, stop
 //!   at an allowance, and allocate nothing.
 //!
-//! Both answer a refusal with the number that [`Refusal`] lists. What the reader answers and paints is proved; this crate
+//! Both answer a refusal with the number that [`Refusal`] lists, and [`Telling`] says where and why, in words too. What the reader answers and paints is proved; this crate
 //! around it is plain Rust and tested. Its unsafe code is one module: FFI calls, where slices become pointers and lengths,
 //! and the zeros of a new canvas.
 //!
@@ -25,6 +25,7 @@
 mod calls;
 mod decoder;
 mod error;
+mod explain;
 mod ffi;
 mod frames;
 mod image;
@@ -35,6 +36,7 @@ mod room;
 mod session;
 mod settings;
 mod stream;
+mod telling;
 
 pub use decoder::SixelDecoder;
 pub use error::{Refusal, Result, SixelError};
@@ -44,5 +46,8 @@ pub use frames::{
 pub use image::{BackgroundMode, PixelAspectRatio, SixelImage};
 pub use limits::Limits;
 pub use palette::Palette;
-pub use session::{copy, read, DcsSession, DcsStatus, Fed, PayloadSession, PayloadStatus, Picture, Ratio, Reading};
+pub use session::{
+    copy, explain_read, read, DcsSession, DcsStatus, Fed, PayloadSession, PayloadStatus, Picture, Ratio, Reading,
+};
 pub use settings::DcsSettings;
+pub use telling::{Need, Telling, Thing};

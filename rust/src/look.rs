@@ -48,7 +48,7 @@ pub fn thorough(payload: &[u8], limits: Limits) -> Size {
 }
 
 /// Bytes that end a payload (rule 2.7).
-fn ends(byte: u8) -> bool {
+pub fn ends(byte: u8) -> bool {
     matches!(byte, 0x18 | 0x1a | 0x1b | 0x80..=0x9f)
 }
 

@@ -47,6 +47,10 @@ impl Room {
         Ok(Self { limits, stride, rows, streamed, width_known: 1, height_known: 1, canvas })
     }
 
+    pub fn limits(&self) -> Limits {
+        self.limits
+    }
+
     pub fn stride(&self) -> usize {
         self.stride
     }
@@ -193,7 +197,7 @@ fn zeros(width: usize, height: usize) -> Result<Vec<u8>> {
 #[cfg(test)]
 mod tests {
     use super::Room;
-    use crate::{read, Limits, Palette, Result, SixelDecoder, SixelImage};
+    use crate::{read, Limits, Palette, Result, SixelDecoder, SixelError, SixelImage};
 
     /// Reads on a canvas of that size first. The look sees other bytes, and so it is wrong.
     fn misled(data: &str, seen: &str, limits: Limits, size: [usize; 2], streamed: bool) -> Result<SixelImage> {
@@ -225,11 +229,13 @@ mod tests {
             "#1!64~-!65~-!130~-!259~$-~-~-~-~-~-~-~-~-~-~",
         ];
         for data in pictures {
-            let wanted = SixelDecoder::with_limits(limits).decode(data.as_bytes());
+            let refused = |error: SixelError| error.number();
+            let wanted = SixelDecoder::with_limits(limits).decode(data.as_bytes()).map_err(refused);
             for seen in ["", data, "!100~", "-----~", "\"1;1;3000;20", "\"1;1;1;2000"] {
                 for size in [[1, 1], [1, 2_000], [3_000, 1], [64, 6], [300, 200]] {
                     for streamed in [false, true] {
-                        assert_eq!(misled(data, seen, limits, size, streamed), wanted, "{data:?}, {seen:?}, {size:?}");
+                        let got = misled(data, seen, limits, size, streamed).map_err(refused);
+                        assert_eq!(got, wanted, "{data:?}, {seen:?}, {size:?}");
                     }
                 }
             }

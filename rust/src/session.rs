@@ -1,6 +1,6 @@
 //! Reading on a canvas that the caller lends: four bytes a pixel, rows of `stride` pixels. Nothing is allocated.
 use crate::calls;
-use crate::{BackgroundMode, DcsSettings, Limits, Palette, PixelAspectRatio, Refusal};
+use crate::{BackgroundMode, DcsSettings, Limits, Palette, PixelAspectRatio, Refusal, Telling};
 use std::ops::Range;
 
 /// What one feed did.
@@ -67,11 +67,16 @@ pub struct Picture {
     pub background_mode: BackgroundMode,
     /// How many registers the picture's colour commands defined, each counted once, whichever were marked before (rule 9.9).
     pub defined: usize,
+    /// The width that the sender declared by raster commands, or 0 where it declared none (rule 4.7). It is never above `width`.
+    pub declared_width: usize,
+    /// The height that it declared, or 0. A sixel is six rows, so that a picture may be up to five rows taller than it was drawn:
+    /// this says how tall it was meant to be.
+    pub declared_height: usize,
 }
 
 impl Picture {
-    fn of_report(report: [u64; 8]) -> Self {
-        let [width, height, right, bottom, kind, number, transparent, defined] = report;
+    fn of_report(report: [u64; 10]) -> Self {
+        let [width, height, right, bottom, kind, number, transparent, defined, declared @ ..] = report;
         let ratio = match kind {
             0 => Ratio::LeftToP1(None),
             1 => Ratio::LeftToP1(Some(number as u16)),
@@ -80,7 +85,8 @@ impl Picture {
         let background_mode = if transparent == 1 { BackgroundMode::Transparent } else { BackgroundMode::Opaque };
         let [width, height, right, bottom, defined] =
             [width, height, right, bottom, defined].map(|number| number as usize);
-        Self { width, height, right, bottom, ratio, background_mode, defined }
+        let [declared_width, declared_height] = declared.map(|number| number as usize);
+        Self { width, height, right, bottom, ratio, background_mode, defined, declared_width, declared_height }
     }
 
     /// The ratio: the raster's, else what P1 means, else square.
@@ -116,7 +122,7 @@ impl PayloadSession {
     /// Reads bytes until all are read, the payload ends, a sixel's ink exceeds the allowance, or a refusal.
     ///
     /// Refusals 4 to 7 fail the session; 9, 12 and 13 leave it as it was. The allowance is at least
-    /// [`Limits::least_allowance`].
+    /// [`Limits::least_allowance`]. Where a feed is refused, [`Self::explain`] on a clone from before says.
     pub fn feed(&mut self, canvas: &mut [u8], bytes: &[u8], allowance: usize) -> Result<Fed<PayloadStatus>, Refusal> {
         let (answer, [how, consumed, ink, byte]) = calls::payload_feed(&mut self.0, canvas, bytes, allowance);
         let status = match how {
@@ -131,6 +137,33 @@ impl PayloadSession {
     pub fn finish(mut self, canvas: &mut [u8], palette: &mut Palette) -> Result<Picture, Refusal> {
         let (answer, report) = calls::payload_finish(&mut self.0, canvas, &mut palette.0);
         Refusal::judge(answer).map(|()| Picture::of_report(report))
+    }
+
+    /// Where and why a feed would be refused, or none where it would not. The bytes are read without painting and the session
+    /// stays as it is; of the canvas only the length counts. The place is counted from the first of these bytes.
+    ///
+    /// A session that was refused knows nothing of its bytes any more: whoever wants its refusals explained clones it before a
+    /// feed. Explaining goes byte by byte and takes many times as long as reading, so it is for the one call that was refused.
+    ///
+    /// ```
+    /// use owlgantry::{DcsSettings, Limits, Palette, PayloadSession};
+    /// let (limits, mut canvas) = (Limits::HOUSE, vec![0; 4 * 100 * 100]);
+    /// let palette = Palette::standard();
+    /// let mut session = PayloadSession::open(limits, 100, DcsSettings::default(), &mut canvas, &palette)?;
+    /// let (before, bytes) = (session.clone(), b"#1!90~!20~");
+    /// if session.feed(&mut canvas, bytes, limits.least_allowance()).is_err() {
+    ///     let telling = before.explain(&canvas, bytes, limits.least_allowance()).expect("it was refused");
+    ///     assert_eq!(telling.to_string(), "refused 7 at byte 9: 110 columns are needed, the canvas has 100");
+    /// }
+    /// # Ok::<(), owlgantry::Refusal>(())
+    /// ```
+    pub fn explain(&self, canvas: &[u8], bytes: &[u8], allowance: usize) -> Option<Telling> {
+        Telling::of(calls::payload_explain(&self.0, canvas.len(), bytes, allowance))
+    }
+
+    /// Where and why a finish would be refused, or none where it would not. Its place is 0: the end of what was fed.
+    pub fn explain_finish(&self, canvas: &[u8]) -> Option<Telling> {
+        Telling::of(calls::payload_explain_finish(&self.0, canvas.len()))
     }
 
     /// Drops the session and what it did to the palette.
@@ -168,6 +201,16 @@ impl DcsSession {
         Refusal::judge(answer).map(|()| Picture::of_report(report))
     }
 
+    /// As [`PayloadSession::explain`].
+    pub fn explain(&self, canvas: &[u8], bytes: &[u8], allowance: usize) -> Option<Telling> {
+        Telling::of(calls::dcs_explain(&self.0, canvas.len(), bytes, allowance))
+    }
+
+    /// As [`PayloadSession::explain_finish`].
+    pub fn explain_finish(&self, canvas: &[u8]) -> Option<Telling> {
+        Telling::of(calls::dcs_explain_finish(&self.0, canvas.len()))
+    }
+
     /// Drops the session and what it did to the palette.
     pub fn abort(self) {}
 }
@@ -188,6 +231,12 @@ pub fn read(limits: Limits, stride: usize, canvas: &mut [u8], bytes: &[u8], pale
     let [numbers @ .., place, length] = report;
     let payload = place as usize..(place + length) as usize;
     Reading { picture: Refusal::judge(answer).map(|()| Picture::of_report(numbers)), payload }
+}
+
+/// Where and why [`read`] is refused with the same arguments, or none where it is not. The place is counted from the first of
+/// the bytes, whatever stands before the introducer. Of the canvas only the length counts.
+pub fn explain_read(limits: Limits, stride: usize, canvas: &[u8], bytes: &[u8], palette: &Palette) -> Option<Telling> {
+    Telling::of(calls::read_explain(limits, stride, canvas.len(), &palette.0, bytes))
 }
 
 /// Copies a picture's rows, tightly packed, to the front of `out`, whose later bytes stay.

@@ -1,14 +1,14 @@
 //! A session on a canvas of its own.
 use crate::room::Room;
 use crate::{
-    look, DcsSession, DcsSettings, DcsStatus, Fed, Limits, Palette, PayloadSession, PayloadStatus, Picture, Refusal,
-    Result, SixelError, SixelImage,
+    explain, look, DcsSession, DcsSettings, DcsStatus, Fed, Limits, Palette, PayloadSession, PayloadStatus, Picture,
+    Refusal, Result, SixelError, SixelImage, Telling,
 };
 
 type Judged<T> = std::result::Result<T, Refusal>;
 
 /// Both kinds of session, with the largest allowance there is.
-pub trait Session: Sized {
+pub trait Session: Clone {
     type Status;
     fn open_on(
         limits: Limits,
@@ -22,6 +22,11 @@ pub trait Session: Sized {
     fn end(self, canvas: &mut [u8], palette: &mut Palette) -> Judged<Picture>;
     /// The part of what it has read that is payload.
     fn payload(bytes: &[u8]) -> &[u8];
+    /// What a feed of these bytes is refused with, and what a finish is.
+    fn explain_piece(&self, canvas: &[u8], bytes: &[u8]) -> Option<Telling>;
+    fn explain_end(&self, canvas: &[u8]) -> Option<Telling>;
+    /// What all its bytes are refused with, by the limits alone.
+    fn explain_all(limits: Limits, palette: &Palette, bytes: &[u8]) -> Option<Telling>;
 
     /// A stop comes only where the ink would pass what a number can hold.
     fn feed_all(&mut self, canvas: &mut [u8], bytes: &[u8]) -> Judged<Fed<Self::Status>> {
@@ -61,6 +66,18 @@ impl Session for PayloadSession {
     fn payload(bytes: &[u8]) -> &[u8] {
         bytes
     }
+
+    fn explain_piece(&self, canvas: &[u8], bytes: &[u8]) -> Option<Telling> {
+        self.explain(canvas, bytes, usize::MAX)
+    }
+
+    fn explain_end(&self, canvas: &[u8]) -> Option<Telling> {
+        self.explain_finish(canvas)
+    }
+
+    fn explain_all(limits: Limits, palette: &Palette, bytes: &[u8]) -> Option<Telling> {
+        explain::payload(limits, palette, bytes)
+    }
 }
 
 impl Session for DcsSession {
@@ -81,6 +98,18 @@ impl Session for DcsSession {
 
     fn payload(bytes: &[u8]) -> &[u8] {
         look::after_header(bytes)
+    }
+
+    fn explain_piece(&self, canvas: &[u8], bytes: &[u8]) -> Option<Telling> {
+        self.explain(canvas, bytes, usize::MAX)
+    }
+
+    fn explain_end(&self, canvas: &[u8]) -> Option<Telling> {
+        self.explain_finish(canvas)
+    }
+
+    fn explain_all(limits: Limits, palette: &Palette, bytes: &[u8]) -> Option<Telling> {
+        explain::dcs(limits, palette, bytes)
     }
 }
 
@@ -109,11 +138,14 @@ impl<S: Session> Stream<S> {
         // Before anything is read: else a larger canvas would miss these bytes.
         kept.try_reserve(bytes.len()).map_err(|_| SixelError::OutOfMemory)?;
         match self.session.feed_all(self.room.canvas(), bytes) {
-            Err(Refusal::Room) => self.feed_again(bytes, palette),
-            answer => {
-                let fed = answer?;
+            Ok(fed) => {
                 kept.extend_from_slice(&bytes[..fed.consumed]);
                 Ok(fed)
+            }
+            Err(Refusal::Room) => self.feed_again(bytes, palette),
+            Err(refusal) => {
+                kept.extend_from_slice(bytes);
+                Err(self.explain(refusal.into(), palette))
             }
         }
     }
@@ -125,11 +157,15 @@ impl<S: Session> Stream<S> {
         let Some(all) = kept else { return Err(Refusal::Room.into()) };
         let before = all.len();
         all.extend_from_slice(bytes);
-        let (larger, fed) = room.retry(S::payload(all), |limits, stride, canvas| {
+        let answer = room.retry(S::payload(all), |limits, stride, canvas| {
             let mut larger = S::open_on(limits, stride, *settings, canvas, palette)?;
             let fed = larger.feed_all(canvas, all)?;
             Ok((larger, fed))
-        })?;
+        });
+        let (larger, fed) = match answer {
+            Ok(answer) => answer,
+            Err(error) => return Err(self.explain(error, palette)),
+        };
         *session = larger;
         all.truncate(fed.consumed);
         if !room.may_retry() {
@@ -138,16 +174,27 @@ impl<S: Session> Stream<S> {
         Ok(Fed { consumed: fed.consumed - before, ..fed })
     }
 
+    /// A failed stream keeps its bytes no longer than to say where it failed.
+    #[cold]
+    fn explain(&mut self, error: SixelError, palette: &Palette) -> SixelError {
+        let all = self.kept.take().unwrap_or_default();
+        explain::of_session::<S>(error, &mut self.room, palette, &all)
+    }
+
     pub fn finish(self, palette: &mut Palette) -> Result<SixelImage> {
         let Self { settings, mut room, session, kept } = self;
-        let picture = match (session.end(room.canvas(), palette), kept) {
-            (Err(Refusal::Room), Some(all)) => room.retry(S::payload(&all), |limits, stride, canvas| {
+        let answer = match (session.end(room.canvas(), palette), &kept) {
+            (Err(Refusal::Room), Some(all)) => room.retry(S::payload(all), |limits, stride, canvas| {
                 let mut larger = S::open_on(limits, stride, settings, canvas, palette)?;
-                let _ = larger.feed_all(canvas, &all)?;
+                let _ = larger.feed_all(canvas, all)?;
                 larger.end(canvas, palette)
-            })?,
-            (answer, _) => answer?,
+            }),
+            (answer, _) => answer.map_err(SixelError::from),
         };
-        Ok(room.image(picture))
+        match (answer, kept) {
+            (Ok(picture), _) => Ok(room.image(picture)),
+            (Err(error), Some(all)) => Err(explain::of_session::<S>(error, &mut room, palette, &all)),
+            (Err(error), None) => Err(error),
+        }
     }
 }

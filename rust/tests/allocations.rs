@@ -133,14 +133,14 @@ fn never_more_than_the_limits_allow() {
     ];
     for (payload, refusal) in beyond {
         let (answer, heap) = decode(payload.as_bytes(), Limits::CRATE);
-        assert_eq!(answer.err(), Some(SixelError::from(refusal)), "{payload:.40}");
+        assert_eq!(answer.unwrap_err().refusal(), Some(refusal), "{payload:.40}");
         assert!(heap.most <= 4 * 1_000_000, "{payload:.40}: {}", heap.most);
     }
     let limits = Limits { pixels: 6_000, ..Limits::CRATE };
     let wide = "!100~".repeat(1_000) + "-~";
     for payload in [&*bands, &*wide, "\"1;1;100;60!101~"] {
         let (answer, heap) = decode(payload.as_bytes(), limits);
-        assert_eq!(answer.err(), Some(SixelError::from(Refusal::Pixels)), "{payload:.40}");
+        assert_eq!(answer.unwrap_err().refusal(), Some(Refusal::Pixels), "{payload:.40}");
         assert!(heap.most <= 4 * 6_000, "{payload:.40}: {}", heap.most);
     }
 }
@@ -181,7 +181,7 @@ fn out_of_memory() {
     assert_eq!(frame.feed(b"~").err(), Some(SixelError::from(Refusal::Failed)));
     let refused = "#1!1000~-".repeat(1_000) + "!65536~" + &"-~".repeat(100_000);
     LARGEST.set(30_000_000);
-    assert_eq!(decode(refused.as_bytes(), Limits::CRATE).0.err(), Some(SixelError::from(Refusal::Repeat)));
+    assert_eq!(decode(refused.as_bytes(), Limits::CRATE).0.unwrap_err().refusal(), Some(Refusal::Repeat));
     assert_eq!(decoder.decode(b"!1000~-~").unwrap().dimensions(), (1_000, 12));
 }
 

@@ -1,5 +1,5 @@
 //! Pictures that outgrow the decoder's first canvas are the same as on a canvas that was large enough.
-use owlgantry::{copy, read, DcsSettings, Limits, Palette, Refusal, Result, SixelDecoder, SixelError, SixelImage};
+use owlgantry::{copy, read, DcsSettings, Limits, Palette, Refusal, Result, SixelDecoder, SixelImage};
 
 /// The payload through every way that owns its canvas, under the crate's limits.
 fn every_way(payload: &[u8], limits: Limits) -> Vec<Result<SixelImage>> {
@@ -82,7 +82,7 @@ fn growth_by_each_sixel() {
 
 fn refused(payload: &str, limits: Limits, refusal: Refusal) {
     for answer in every_way(payload.as_bytes(), limits) {
-        assert_eq!(answer, Err(SixelError::from(refusal)), "{payload}");
+        assert_eq!(answer.unwrap_err().refusal(), Some(refusal), "{payload}");
     }
 }
 

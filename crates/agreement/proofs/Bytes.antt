@@ -111,7 +111,7 @@ semicolon-begun k c h t =
     (λ e r. (e, read-semicolon r))
 
 -- what the code does not take is not taken
-untaken : (k : Begun) (c : codeCommand.Command) (b : ℕ) → SameBegun (some k) c → digit b ≡ false
+pub untaken : (k : Begun) (c : codeCommand.Command) (b : ℕ) → SameBegun (some k) c → digit b ≡ false
     → (eqb b semicolon && takesSemicolon (c .kind)) ≡ false → taken (some k) b ≡ false
 unfolding taken lengthens ofValues takesSemicolon
 untaken k c b h d e =
@@ -121,7 +121,7 @@ untaken k c b h d e =
     parted t = rw d (sym (and-true (eqb b semicolon)) ∙ ap (λ (u : Bool). eqb b semicolon && u) (sym t) ∙ e)
 
 -- the code steps by the argument
-argument-step : (k : Begun) (f : Frame) (g : Ground) (b left : ℕ) (p : Palette) (l : List ℕ) → SameBegun (some k) (f .command)
+pub argument-step : (k : Begun) (f : Frame) (g : Ground) (b left : ℕ) (p : Palette) (l : List ℕ) → SameBegun (some k) (f .command)
     → stepOf f g b left p l ≡ argumentStep f g b p l
 unfolding stepOf stepIn
 argument-step k f g b left p l h =

@@ -137,7 +137,7 @@ keeps old n = go (eqb n 0) refl
     go false e = rw (lt-ltb 0 n (omega (arith, eqb-false n 0 e)))
 
 -- what a record has read leaves the same raster
-rasters : (r : Raster) {bs : List ℕ} {v : Parameters} → Read 4 bs v
+pub rasters : (r : Raster) {bs : List ℕ} {v : Parameters} → Read 4 bs v
     → rasterBy (rasterOf r) (numbers.finished v) ≡ rasterOf (rasterAfter r (values 4 bs))
 unfolding rasterBy rasterOf rasterAfter
 rasters r {bs} {v} h = λ i. record { ratio = ratios (r .ratio) h i; width = sides 2 (r .width) i; height = sides 3 (r .height) i }

@@ -20,7 +20,7 @@ use Rattle.frame.specs.declared.Refusal.{Refusal}
 use Rattle.frame.specs.Numbers.{numberOf}
 use Rattle.reference.specs.Step.{Reached, settledStep}
 use Rattle.meaning.specs.Drawing.{Limits, Setting, Drawing, backgroundOf, blank, extentOf}
-use Rattle.meaning.specs.Payload.{Parameters, Ratio, ratioOf, Report, reportOf, Finished, finished, turnedDown, finish}
+use Rattle.meaning.specs.Payload.{Parameters, Ratio, ratioOf, declaredOf, Report, reportOf, Finished, finished, turnedDown, finish}
 use Rattle.meaning.specs.Sessions.{Reading, opened, settled, rested, finishReading}
 use Rattle.meaning.specs.Calls.{ranges, limitsHold, opens, settingFor}
 use Rattle.meaning.proofs.AreaLaws.{both, blank-opens, outcome-reports}
@@ -82,7 +82,7 @@ ratio-same p1 (some n) h = rw (ne-eqb n 0 (λ e. omega arith))
 -- and so is its report
 pub report-same : {s : Setting} {opening : List ℕ} {d : Drawing} {g : Ground} {f : Frame} {p : Palette} {l : List ℕ} (o : Parameters)
     → SameDrawing s opening d g f p l → reportOf o d ≡ reportFrom o f p
-unfolding reportOf reportFrom frameOf
+unfolding reportOf declaredOf reportFrom frameOf
 report-same {d = d} {f = f} o same =
     same-fact (λ g f p l. reportOf o d ≡ reportFrom o f p) same (ap rated (ratio-same (o .p1) (d .raster .ratio) (same .rated)))
   where
@@ -94,6 +94,7 @@ report-same {d = d} {f = f} o same =
           clear = reportOf o d .clear;
           extent = extentOf (d .strokes);
           defined = definedCount (d .palette);
+          declared = declaredOf (d .raster);
           palette = lasting (d .palette);
         }
 

@@ -15,11 +15,11 @@ use Rattle.meaning.proofs.InkLaws.{wentOn-rested}
 use Rattle.agreement.proofs.Data.{cond-same}
 
 -- some commands before what a byte scans to
-abbrev after : List Placed → Scanned → Scanned
+abbrev pub after : List Placed → Scanned → Scanned
 after before c = record { begun = c .begun; ended = before ++ c .ended }
 
 -- a byte's own effect comes after what ended
-own-after : (at b : ℕ) (before : List Placed) → own at b before ≡ after before (own at b [])
+pub own-after : (at b : ℕ) (before : List Placed) → own at b before ≡ after before (own at b [])
 unfolding own begins does
 own-after at b before = go (eqb b bang) (eqb b hash) (eqb b quote) (eqb b dollar) (eqb b dash) (sixel b)
   where

@@ -149,5 +149,6 @@ reportFrom o f p =
       clear = transparent (o .p2);
       extent = areaOf (f .extent .right) (f .extent .bottom);
       defined = definedCount p;
+      declared = areaOf (f .raster .width) (f .raster .height);
       palette = lasting p;
     }

@@ -122,7 +122,7 @@ module _ (l : Limits) (stride : ℕ) (p : Palette) (opening : List ℕ) where
     waits = openings.ready-stands l stride noSettings p opening opens
 
     -- so a feed and a finish are judged as the definition judges them
-    before-judged : (a : ℕ)
+    pub before-judged : (a : ℕ)
         → judgements.judgedMeant (feedJudged early (length opening) a) ≡ calls.feedRefusal areaOf there (length opening) a
     unfolding calls.feedRefusal
     before-judged a =
@@ -136,7 +136,7 @@ module _ (l : Limits) (stride : ℕ) (p : Palette) (opening : List ℕ) where
         ∷ []))
         (judgements.stands-fit waits ∙ sym (place-fits same))
 
-    before-ends : judgements.judgedMeant (finishJudged early (length opening))
+    pub before-ends : judgements.judgedMeant (finishJudged early (length opening))
         ≡ refusalAtFinish false (calls.misfits areaOf there (length opening))
     unfolding judgements.misfit
     before-ends =

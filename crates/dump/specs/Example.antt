@@ -13,7 +13,18 @@ use Rattle.dcs.specs.declared.Ending.the-variants as endings
 use Rattle.dump.specs.Dump.{countLine, pairLine, statusLine, sizeLine, extentLine, ratioLine, backgroundLine, inkLine, pixelText, furtherText, rowText, rowsText, pictureRows, pictureText}
 
 unfoldable pub report : Report
-report = record { width = 2; height = 6; right = 2; bottom = 2; ratio = ratios.LeftToP1 givens.Nothing; transparent = false; defined = 1 }
+report =
+    record {
+      width = 2;
+      height = 6;
+      right = 2;
+      bottom = 2;
+      ratio = ratios.LeftToP1 givens.Nothing;
+      transparent = false;
+      defined = 1;
+      «declared_width» = 0;
+      «declared_height» = 0;
+    }
 
 -- a row of each colour, and what lies beside it
 unfoldable pub red : List ℕ

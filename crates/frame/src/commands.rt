@@ -75,7 +75,7 @@ pub fn without_command(frame: Frame) -> Frame
 }
 
 // No command is pending any more.
-fn settled(frame: Frame) -> Progress
+pub fn settled(frame: Frame) -> Progress
     ensures { λ r. ⌜ r ≡ settledAs (frame .pen) (frame .area) (frame .extent) (frame .raster) ⌝ }
 {
     Progress {
@@ -98,7 +98,7 @@ fn refused(frame: Frame, refusal: Refusal) -> Progress
 }
 
 // A repeat of 0 means 1.
-fn end_repeat(frame: Frame, ground: Ground) -> Progress
+pub fn end_repeat(frame: Frame, ground: Ground) -> Progress
     ensures { λ r. ⌜ r ≡ repeatEnded frame ground ⌝ }
 {
     let number = frame.command.number as usize;
@@ -157,7 +157,7 @@ pub struct Selected {
 
 // Redefines and selects the register. Whoever ends a command calls this and `measure` with the few numbers
 // that matter: handed over, the frame would be spilled to memory while bytes are read.
-fn select(begun: Parameters, colors: &mut [u32; 256]) -> Selected
+pub fn select(begun: Parameters, colors: &mut [u32; 256]) -> Selected
     ensures { λ r. ⌜ (ofTable (now (colors .exit)) ≡ paletteAfter (ofTable (now (colors .entry))) (finished begun))
         × (r ≡ selectedIn (ofTable (now (colors .exit))) (finished begun)) ⌝ }
 {
@@ -168,7 +168,7 @@ fn select(begun: Parameters, colors: &mut [u32; 256]) -> Selected
     Selected { register, color }
 }
 
-fn colored(frame: Frame, selected: Selected) -> Progress
+pub fn colored(frame: Frame, selected: Selected) -> Progress
     ensures { λ r. ⌜ r ≡ settledAs (withColor (frame .pen) (selected .register) (selected .color)) (frame .area) (frame .extent) (frame .raster) ⌝ }
 {
     let color = selected.color;
@@ -180,7 +180,7 @@ fn colored(frame: Frame, selected: Selected) -> Progress
     settled(next)
 }
 
-fn rastered(frame: Frame, measured: Measured) -> Progress
+pub fn rastered(frame: Frame, measured: Measured) -> Progress
     ensures { λ r. ⌜ r ≡ rasterEndedIn measured frame ⌝ }
 {
     match measured {

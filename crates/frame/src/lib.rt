@@ -1,7 +1,7 @@
 // A frame while its payload is read: the Rust's FrameDecoder, palette and canvas apart. The session above owns both and lends
 // them. Inner: of this crate a caller of the reader has use for its limits, its refusals and their numbers alone.
 pub mod commands;
-mod rasters;
+pub mod rasters;
 pub mod sizes;
 
 ghost use mathlib.Core.Path.{_≡_};

@@ -66,7 +66,8 @@ fn kept(old: usize, value: u32) -> usize
     value as usize
 }
 
-fn raster_after(old: Raster, parameters: Parameters) -> Raster
+// What a raster command leaves of an earlier one: its ratio, and the sizes that it gives.
+pub fn raster_after(old: Raster, parameters: Parameters) -> Raster
     ensures { λ r. ⌜ r ≡ rasterBy old parameters ⌝ }
 {
     Raster {
@@ -77,7 +78,7 @@ fn raster_after(old: Raster, parameters: Parameters) -> Raster
 }
 
 // No size is kept.
-fn sizeless(raster: Raster) -> bool
+pub fn sizeless(raster: Raster) -> bool
     ensures { λ r. ⌜ r ≡ (eqb (raster .width) 0 && eqb (raster .height) 0) ⌝ }
 {
     if raster.width == 0 {

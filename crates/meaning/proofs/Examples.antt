@@ -7,7 +7,7 @@ use mathlib.Core.List.{List, [], _∷_, _++_, map}
 use Rattle.meaning.specs.Payload.{byRaster, leftToP1}
 use Rattle.meaning.specs.Sessions.{complete, cancelled, interrupted}
 use Rattle.meaning.specs.Calls.{needsMore, stoppedForInk, ended, told, refused}
-use Rattle.meaning.proofs.Trials.{Row, limited, onCanvas, row, under, partly, dcs, once, size, extent, upTo, ink, shows, ratio, transparent, opaque, defines, marked, unmarked, refusal, ends, goesOn, leaves, rowsHold, Calls, houseCalls, calls, feeding, finishing, fed, sized, declined, heard, computed}
+use Rattle.meaning.proofs.Trials.{Row, limited, onCanvas, row, under, partly, dcs, once, size, extent, upTo, ink, shows, ratio, transparent, opaque, defines, declares, marked, unmarked, refusal, ends, goesOn, leaves, rowsHold, Calls, houseCalls, calls, feeding, finishing, fed, sized, declined, heard, computed}
 
 -- the bench examples, and the program's
 bench : List Row
@@ -151,6 +151,30 @@ rasters =
     ∷ under (onCanvas 24 4 6) "!5~" (refusal 6 ∷ [])
     ∷ []
 
+-- the declared size: what rasters keep, a side at a time, and a pending one too at the end; whatever is drawn besides, and nothing of a
+-- raster that is not read
+declarations : List Row
+declarations =
+    row "" (declares 0 0 ∷ size 1 1 ∷ [])
+    ∷ row "!5~" (declares 0 0 ∷ size 5 6 ∷ [])
+    ∷ row "\"1;1;3;2" (declares 3 2 ∷ size 3 2 ∷ [])
+    ∷ row "\"1;1;3;2~" (declares 3 2 ∷ size 3 6 ∷ [])
+    ∷ row "\"1;1;3" (declares 3 0 ∷ size 3 1 ∷ [])
+    ∷ row "\"1;1;;2" (declares 0 2 ∷ size 1 2 ∷ [])
+    ∷ row "\"1;1" (declares 0 0 ∷ ratio (byRaster 1) ∷ [])
+    ∷ row "\"1;1;2;2!5~" (declares 2 2 ∷ size 5 6 ∷ extent 5 6 ∷ [])
+    ∷ row "\"1;1;9;8\"1;1;4;5" (declares 4 5 ∷ size 9 8 ∷ [])
+    ∷ row "\"1;1;9;8\"1;1;4" (declares 4 8 ∷ size 9 8 ∷ [])
+    ∷ row "\"1;1;9;8\"1;1;0;5" (declares 9 5 ∷ size 9 8 ∷ [])
+    ∷ row "\"1;1;9;8\"2;1" (declares 9 8 ∷ ratio (byRaster 2) ∷ [])
+    ∷ row "~~\"1;1;1;1" (declares 1 1 ∷ size 2 6 ∷ [])
+    ∷ row "\"1;1;3;2\"1;1;1025;2" (refusal 5 ∷ [])
+    ∷ partly "\"1;1;3;2" (declares 0 0 ∷ size 1 1 ∷ [])
+    ∷ partly "\"1;1;3;2$" (declares 3 2 ∷ size 3 2 ∷ [])
+    ∷ dcs "\u{90}q\"1;1;3;2\u{9c}\"1;1;4;4" (declares 3 2 ∷ size 3 2 ∷ [])
+    ∷ once "text\u{90}q\"1;1;3;20!2~" (declares 3 20 ∷ size 3 20 ∷ [])
+    ∷ []
+
 -- what has been drawn once the bytes are read: a pending command is not yet carried out, and neither is its refusal; the byte that
 -- ends it, or the payload, does both
 pending : List Row
@@ -224,8 +248,8 @@ shots =
 
 -- rules 12.1, 12.2: all of them
 pub table : List Row
-unfolding bench slips commands extents colours definitions rasters pending sequences shots
-table = bench ++ (slips ++ (commands ++ (extents ++ (colours ++ (definitions ++ (rasters ++ (pending ++ (sequences ++ shots))))))))
+unfolding bench slips commands extents colours definitions rasters declarations pending sequences shots
+table = bench ++ (slips ++ (commands ++ (extents ++ (colours ++ (definitions ++ (rasters ++ (declarations ++ (pending ++ (sequences ++ shots)))))))))
 
 -- the bench examples and all the others are read as their rows say
 pub table-holds : rowsHold table ≡ true

@@ -18,6 +18,7 @@ pub mod AreaLaws
 pub mod SixelLaws
 pub mod ExtentLaws
 pub mod MarkLaws
+pub mod DeclaredLaws
 pub mod InkLaws
 pub mod PayloadLaws
 pub mod WholeLaws
@@ -31,3 +32,5 @@ pub mod DcsEnds
 pub mod DcsSoFar
 pub mod Trials
 pub mod Examples
+pub mod TellingExamples
+pub mod TellingLaws

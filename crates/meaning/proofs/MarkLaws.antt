@@ -361,6 +361,7 @@ finishes-alike o p q cs x y same = go (x .refusal) (y .refusal) (same .refusal)
           clear = refl;
           extent = rw (same .strokes) refl;
           defined = f .count ∙ sym (g .count);
+          declared = rw (same .raster) refl;
           palette = λ n. reported-colours o (x .drawing) n ∙ same .palette n ∙ sym (reported-colours o (y .drawing) n);
         }
     go none (some n) e f g = absurd (let never : _≡_ {A = ℕ} 0 1 = cc in omega arith)

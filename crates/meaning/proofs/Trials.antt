@@ -44,8 +44,9 @@ pub data Way : Type 0 where
   asPayload soFar asDcs atOnce : Way
 
 -- what a row says: the size's or the extent's width and height, or those of the extent of what was drawn up to a refusal; ink; the pixel at
--- a column and a row, as RRGGBBAA; the ratio; the background; how many registers were defined; a register that is marked, or is not; a
--- refusal's number; that a DCS sequence has come to an end, or has not; and what stays unread, or is the part handed back
+-- a column and a row, as RRGGBBAA; the ratio; the background; how many registers were defined; the declared width and height; a register
+-- that is marked, or is not; a refusal's number; that a DCS sequence has come to an end, or has not; and what stays unread, or is the part
+-- handed back
 pub data Says : Type 0 where
   size extent upTo : ℕ → ℕ → Says
   ink : ℕ → Says
@@ -53,6 +54,7 @@ pub data Says : Type 0 where
   ratio : Ratio → Says
   transparent opaque : Says
   defines marked unmarked : ℕ → Says
+  declares : ℕ → ℕ → Says
   refusal : ℕ → Says
   ends : End → Says
   goesOn : Says
@@ -272,6 +274,7 @@ isSo r (ratio q) = reports (r .answer) (λ a. sameRatio (a .ratio) q)
 isSo r transparent = reports (r .answer) (λ a. a .clear)
 isSo r opaque = reports (r .answer) (λ a. not (a .clear))
 isSo r (defines n) = reports (r .answer) (λ a. eqb (a .defined) n)
+isSo r (declares w h) = reports (r .answer) (λ a. sameArea (a .declared) w h)
 isSo r (marked n) = reports (r .answer) (λ a. isMarked (a .palette) n)
 isSo r (unmarked n) = reports (r .answer) (λ a. not (isMarked (a .palette) n))
 isSo r (refusal n) = refuses (r .answer) n

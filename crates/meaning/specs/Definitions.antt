@@ -94,6 +94,7 @@ pub record SameReports (r t : Report) : Type 0 where
   pub clear : r .clear ≡ t .clear
   pub extent : r .extent ≡ t .extent
   pub defined : r .defined ≡ t .defined
+  pub declared : r .declared ≡ t .declared
   pub palette : SameColours (r .palette) (t .palette)
 
 -- two finishes: both report, or both are refused with one number

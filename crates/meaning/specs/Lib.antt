@@ -10,4 +10,6 @@ pub mod Calls
 pub mod Callers
 pub mod Demands
 pub mod Sizes
+pub mod DeclaredSizes
 pub mod Definitions
+pub mod Tellings

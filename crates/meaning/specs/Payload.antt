@@ -5,9 +5,9 @@ use mathlib.Core.Option.{Option, none, some}
 use mathlib.Core.List.{List}
 use Rattle.colours.specs.declared.Palette.{Palette}
 use Rattle.colours.specs.Marks.{lasting, definedCount}
-use Rattle.canvas.specs.Picture.{Area}
+use Rattle.canvas.specs.Picture.{Area, areaOf}
 use Rattle.meaning.specs.Commands.{commands, endedCommands}
-use Rattle.meaning.specs.Drawing.{Setting, Drawing, Outcome, transparent, blank, drawAll, inkOfAll, extentOf}
+use Rattle.meaning.specs.Drawing.{Setting, Raster, Drawing, Outcome, transparent, blank, drawAll, inkOfAll, extentOf}
 
 -- rule 1.5: P1 and P2, each a 16-bit number or none
 pub record Parameters : Type 0 where
@@ -42,6 +42,10 @@ unfoldable pub ratioOf : Option ℕ → Option ℕ → Ratio
 ratioOf p1 none = leftToP1 p1
 ratioOf p1 (some n) = byRaster n
 
+-- rule 4.7: the declared size: the width and the height that raster commands have kept, each 0 where none has been
+unfoldable pub declaredOf : Raster → Area
+declaredOf r = areaOf (r .width) (r .height)
+
 -- rule 4.6: what finishing reports
 pub record Report : Type 0 where
   pub size : Area
@@ -49,11 +53,12 @@ pub record Report : Type 0 where
   pub clear : Bool
   pub extent : Area
   pub defined : ℕ
+  pub declared : Area
   pub palette : Palette
 
 -- rule 4.6: what is reported of a drawing
 unfoldable pub reportOf : Parameters → Drawing → Report
-unfolding ratioOf transparent
+unfolding ratioOf transparent declaredOf
 reportOf o d =
     record {
       size = d .area;
@@ -61,6 +66,7 @@ reportOf o d =
       clear = transparent (o .p2);
       extent = extentOf (d .strokes);
       defined = definedCount (d .palette);
+      declared = declaredOf (d .raster);
       palette = lasting (d .palette);
     }
 

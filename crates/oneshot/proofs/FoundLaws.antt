@@ -40,7 +40,7 @@ use Rattle.oneshot.specs.Search.{introducerAt, startFrom, ledTo, headerF
 -- ---- the introducer
 
 -- what stands after a start
-unfoldable startMeant : List ℕ → Start → Option (List ℕ)
+unfoldable pub startMeant : List ℕ → Start → Option (List ℕ)
 startMeant l (At n) = some (drop n l)
 startMeant l Nowhere = none
 
@@ -51,7 +51,7 @@ further l at e = sym (drop-drop 1 at l) ∙ ap (drop 1) e
 two-further : {b : ℕ} {bs : List ℕ} (l : List ℕ) (at : ℕ) → drop at l ≡ b ∷ bs → drop (at + 2) l ≡ drop 1 bs
 two-further l at e = sym (drop-drop 2 at l) ∙ ap (drop 2) e
 
-start-meant : (l : List ℕ) (at : ℕ) (bs : List ℕ) → drop at l ≡ bs → startMeant l (startFrom at bs) ≡ afterIntroducer bs
+pub start-meant : (l : List ℕ) (at : ℕ) (bs : List ℕ) → drop at l ≡ bs → startMeant l (startFrom at bs) ≡ afterIntroducer bs
 unfolding startMeant startFrom introducerAt afterIntroducer
 start-meant l at [] e = refl
 start-meant l at (b ∷ bs) e =
@@ -93,11 +93,11 @@ found-meant l = start-found l (startFrom 0 l) (afterIntroducer l) (start-meant l
 
 -- ---- places within the input
 
-abbrev StartWithin : ℕ → Start → Type 0
+abbrev pub StartWithin : ℕ → Start → Type 0
 StartWithin most (At n) = n ≤ most
 StartWithin most Nowhere = Unit
 
-start-within : (at : ℕ) (bs : List ℕ) → StartWithin (at + length bs) (startFrom at bs)
+pub start-within : (at : ℕ) (bs : List ℕ) → StartWithin (at + length bs) (startFrom at bs)
 unfolding startFrom introducerAt
 start-within at [] = tt
 start-within at (b ∷ bs) =

@@ -45,7 +45,7 @@ fn introducer_length(bytes: &[u8], at: usize) -> usize
 }
 
 // Looks for the first introducer.
-fn header_start(bytes: &[u8]) -> Start
+pub fn header_start(bytes: &[u8]) -> Start
     ensures { λ r. ⌜ r ≡ startFrom 0 (now (bytes .entry)) ⌝ }
 {
     let mut at = 0;

@@ -49,7 +49,19 @@ as-number false = refl
 -- a picture's numbers, by the ratio's two and the background's
 abbrev picture-numbers : Report → ℕ → ℕ → ℕ → ℕ → ℕ → List ℕ
 picture-numbers x kind number clear place part =
-    x .width ∷ x .height ∷ x .right ∷ x .bottom ∷ kind ∷ number ∷ clear ∷ x .defined ∷ place ∷ part ∷ []
+    x .width
+    ∷ x .height
+    ∷ x .right
+    ∷ x .bottom
+    ∷ kind
+    ∷ number
+    ∷ clear
+    ∷ x .defined
+    ∷ x .«declared_width»
+    ∷ x .«declared_height»
+    ∷ place
+    ∷ part
+    ∷ []
 
 pub report-picture : {a : Finishing} {x : Report} {k n : ℕ} (p : Palette) (place part : ℕ)
     → a ≡ Picture x → k ≡ ratioKind (ratioMeant (x .ratio)) → n ≡ ratioNumber (ratioMeant (x .ratio))

@@ -61,7 +61,18 @@ told-end {n = n} {i = i} e h p q = ap₂ (λ (x y : ℕ). x ∷ n ∷ i ∷ y �
 
 -- a report's numbers without the part's two
 abbrev partless : List ℕ → List ℕ
-partless l = getD l 0 0 ∷ getD l 1 0 ∷ getD l 2 0 ∷ getD l 3 0 ∷ getD l 4 0 ∷ getD l 5 0 ∷ getD l 6 0 ∷ getD l 7 0 ∷ []
+partless l =
+    getD l 0 0
+    ∷ getD l 1 0
+    ∷ getD l 2 0
+    ∷ getD l 3 0
+    ∷ getD l 4 0
+    ∷ getD l 5 0
+    ∷ getD l 6 0
+    ∷ getD l 7 0
+    ∷ getD l 8 0
+    ∷ getD l 9 0
+    ∷ []
 
 partless-first : (x : meant.Finished) → partless (reportNumbers x 0 0) ≡ finishReport x
 unfolding finishReport reportNumbers
@@ -85,7 +96,7 @@ module _ (ns ts : List ℕ) {u : Setup} {life : Life} {f : Frame} (eu : u ≡ pa
   unfolding dcsMemory.sessionFrom
   dcs-held et = rw (payload-held, et) refl
 
-core-held : (ns ts : List ℕ) {c : Core} → c ≡ dcsMemory.coreFrom ns → dcsParts.over c (ofTable ts) ≡ dcsMemory.sessionFrom ns ts
+pub core-held : (ns ts : List ℕ) {c : Core} → c ≡ dcsMemory.coreFrom ns → dcsParts.over c (ofTable ts) ≡ dcsMemory.sessionFrom ns ts
 unfolding dcsMemory.sessionFrom dcsMemory.coreFrom payloadMemory.sessionFrom payloadMemory.setupFrom
 core-held ns ts e = rw e refl
 

@@ -121,9 +121,9 @@ pub fn dcs_report(answer: dcs::Answer) -> [u64; 4]
     }
 }
 
-// Width, height, right, bottom, the ratio's kind and number, 1 for a transparent background, and how many registers were defined; on a
-// refusal all are 0.
-pub fn finish_report(answer: Finishing) -> [u64; 8]
+// Width, height, right, bottom, the ratio's kind and number, 1 for a transparent background, how many registers were defined, and the
+// declared width and height; on a refusal all are 0.
+pub fn finish_report(answer: Finishing) -> [u64; 10]
     ensures { λ r. ⌜ ((p : Palette) → r ≡ finishReport (finishMeant answer p)) ⌝ }
 {
     let all = report_numbers(answer, 0, 0);
@@ -136,5 +136,7 @@ pub fn finish_report(answer: Finishing) -> [u64; 8]
         all[5],
         all[6],
         all[7],
+        all[8],
+        all[9],
     ]
 }

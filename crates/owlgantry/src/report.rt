@@ -56,8 +56,8 @@ fn ratio_number(ratio: Ratio) -> u64
     }
 }
 
-// The ten numbers of a report, with the part's place and length.
-pub fn report_numbers(answer: Finishing, place: usize, size: usize) -> [u64; 10]
+// The twelve numbers of a report, with the part's place and length.
+pub fn report_numbers(answer: Finishing, place: usize, size: usize) -> [u64; 12]
     ensures { λ r. ⌜ ((p : Palette) → r ≡ reportNumbers (finishMeant answer p) place size) ⌝ }
 {
     match answer {
@@ -72,11 +72,13 @@ pub fn report_numbers(answer: Finishing, place: usize, size: usize) -> [u64; 10]
                 ratio_number(ratio),
                 report.transparent as u64,
                 report.defined as u64,
+                report.declared_width as u64,
+                report.declared_height as u64,
                 place as u64,
                 size as u64,
             ]
         }
-        Finishing::Refused(_) => [0, 0, 0, 0, 0, 0, 0, 0, place as u64, size as u64],
+        Finishing::Refused(_) => [0, 0, 0, 0, 0, 0, 0, 0, 0, 0, place as u64, size as u64],
     }
 }
 

@@ -55,6 +55,7 @@ report-meant f o p =
       clear = t;
       extent = areaOf (f .extent .right) (f .extent .bottom);
       defined = definedCount p;
+      declared = areaOf (f .raster .width) (f .raster .height);
       palette = lasting p;
     })
     (ratio-meant (f .raster) (o .p1))

@@ -249,6 +249,8 @@ pub reported-as : {r : Ratio} {t : Bool} (f : Frame) (o : Settings) (n : ℕ) �
       ratio = r;
       transparent = t;
       defined = n;
+      «declared_width» = f .raster .width;
+      «declared_height» = f .raster .height;
     })
     (reportedAs f o n)
 unfolding reportedAs

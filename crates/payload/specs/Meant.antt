@@ -63,6 +63,7 @@ reportMeant r p =
       clear = r .transparent;
       extent = areaOf (r .right) (r .bottom);
       defined = r .defined;
+      declared = areaOf (r .«declared_width») (r .«declared_height»);
       palette = p;
     }
 

@@ -179,6 +179,8 @@ reportedAs f o defined =
       ratio = ratioFor (f .raster) (o .p1);
       transparent = clearFor (o .p2);
       defined = defined;
+      «declared_width» = f .raster .width;
+      «declared_height» = f .raster .height;
     }
 
 -- where a call led: its answer, the palette and the canvas

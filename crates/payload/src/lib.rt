@@ -101,6 +101,9 @@ pub struct Report {
     pub transparent: bool,
     // How many registers the frame defined.
     pub defined: usize,
+    // The width and the height that raster commands have kept, each 0 where none has been.
+    pub declared_width: usize,
+    pub declared_height: usize,
 }
 
 pub enum Finishing {

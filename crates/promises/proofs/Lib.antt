@@ -45,9 +45,11 @@ pub mod FailedHistories
 pub mod FirstRefusals
 pub mod DcsFirstRefusals
 pub mod OneText
+pub mod OneWords
 pub mod OneDump
 pub mod OnePieces
 pub mod OneInplace
+pub mod OneExplain
 pub mod OneOwlgantry
 pub mod OneTiming
 pub mod Alike
@@ -60,6 +62,7 @@ pub mod SixdumpExample
 pub mod SixdumpLength
 pub mod FinishedSizes
 pub mod FinishedMarks
+pub mod FinishedDeclared
 pub mod AnySession
 pub mod RefusedOnly
 pub mod Retired

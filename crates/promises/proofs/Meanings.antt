@@ -116,6 +116,8 @@ reportAt r =
       ratio = ratioAt (r .ratio);
       transparent = r .clear;
       defined = r .defined;
+      «declared_width» = r .declared .width;
+      «declared_height» = r .declared .height;
     }
 
 report-back : (p : Palette) (r : Report) → reportAt (reportMeant r p) ≡ r
@@ -123,7 +125,17 @@ unfolding reportMeant reportAt
 report-back p r =
     ap
     (λ (x : Ratio).
-    record { width = r .width; height = r .height; right = r .right; bottom = r .bottom; ratio = x; transparent = r .transparent; defined = r .defined })
+    record {
+      width = r .width;
+      height = r .height;
+      right = r .right;
+      bottom = r .bottom;
+      ratio = x;
+      transparent = r .transparent;
+      defined = r .defined;
+      «declared_width» = r .«declared_width»;
+      «declared_height» = r .«declared_height»;
+    })
     (ratio-back (r .ratio))
 
 finishingAt : meant.Finished → Finishing

@@ -101,8 +101,16 @@ unfolding finishedFrom refusalNumber finishReport reportNumbers finishMeant payl
 finish-told (finishes.Picture r) p =
     ap₂
     (λ (ratio : meant.Ratio) (clear : Bool).
-    let extent = areaOf (r .right) (r .bottom) in
-    meant.finished (record { size = areaOf (r .width) (r .height); ratio = ratio; clear = clear; extent = extent; defined = r .defined; palette = p }))
+    meant.finished
+    (record {
+      size = areaOf (r .width) (r .height);
+      ratio = ratio;
+      clear = clear;
+      extent = areaOf (r .right) (r .bottom);
+      defined = r .defined;
+      declared = areaOf (r .«declared_width») (r .«declared_height»);
+      palette = p;
+    }))
     (ratio-told (r .ratio)) (clear-told (r .transparent))
 finish-told (finishes.Refused n) p = cond-no _ _ (refusal-some n)
 

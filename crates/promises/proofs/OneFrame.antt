@@ -1,7 +1,13 @@
 -- Only one outcome, of every public function of `frame`, `reference`, `fast` and `reading` (One.antt).
+use Prim.Native.Nat.{ℕ}
+use mathlib.Core.List.{List}
+use mathlib.Core.Path.{sym, ap, ap₂, _∙_}
 use denote.Ref.{now}
+use Rattle.numbers.specs.Step.{finished}
+use Rattle.colours.specs.declared.Palette.{Palette}
 use Rattle.colours.specs.Palette.{ofTable}
-use Rattle.frame.specs.Commands.{Ended}
+use Rattle.frame.specs.declared.commands.Selected.{Selected}
+use Rattle.frame.specs.Commands.{Ended, selectedIn}
 use Rattle.reference.specs.Step.{Reached}
 use Rattle.frame.proofs.commands.begin_command.Reads as begin-command
 use Rattle.frame.proofs.commands.begin_command.Kinds as begin-command'
@@ -11,6 +17,18 @@ use Rattle.frame.proofs.commands.extend_by_semicolon.Reads as extend-by-semicol
 use Rattle.frame.proofs.commands.extend_by_semicolon.Kinds as extend-by-semicolon'
 use Rattle.frame.proofs.commands.end_command.Reads as end-command
 use Rattle.frame.proofs.commands.end_command.Kinds as end-command'
+use Rattle.frame.proofs.commands.settled.Reads as settled
+use Rattle.frame.proofs.commands.settled.Kinds as settled'
+use Rattle.frame.proofs.commands.end_repeat.Reads as end-repeat
+use Rattle.frame.proofs.commands.end_repeat.Kinds as end-repeat'
+use Rattle.frame.proofs.commands.select.Reads as select
+use Rattle.frame.proofs.commands.select.Kinds as select'
+use Rattle.frame.proofs.commands.colored.Reads as colored
+use Rattle.frame.proofs.commands.colored.Kinds as colored'
+use Rattle.frame.proofs.commands.rastered.Reads as rastered
+use Rattle.frame.proofs.commands.rastered.Kinds as rastered'
+use Rattle.frame.proofs.rasters.sizeless.Reads as sizeless
+use Rattle.frame.proofs.rasters.sizeless.Kinds as sizeless'
 use Rattle.frame.proofs.number.Reads as number
 use Rattle.frame.proofs.number.Kinds as number'
 use Rattle.reading.proofs.process.Reads as process
@@ -51,8 +69,20 @@ use Rattle.frame.proofs.commands.define.Reads as define
 use Rattle.frame.proofs.commands.define.Kinds as define'
 use Rattle.reference.proofs.row_below.Reads as row-below
 use Rattle.reference.proofs.row_below.Kinds as row-below'
+use Rattle.frame.proofs.rasters.raster_after.Reads as raster-after
+use Rattle.frame.proofs.rasters.raster_after.Kinds as raster-after'
+use Rattle.frame.proofs.rasters.measure.Reads as measure
+use Rattle.frame.proofs.rasters.measure.Kinds as measure'
+use Rattle.reference.proofs.read.Reads as read
+use Rattle.reference.proofs.read.Kinds as read'
+use Rattle.reference.proofs.unread.Reads as unread
+use Rattle.reference.proofs.unread.Kinds as unread'
+use Rattle.reference.proofs.own_effect.Reads as own-effect
+use Rattle.reference.proofs.own_effect.Kinds as own-effect'
+use Rattle.reference.proofs.parts_values.Reads as parts-values
+use Rattle.reference.proofs.parts_values.Kinds as parts-values'
 use Rattle.promises.proofs.Meanings.{table-known}
-use Rattle.promises.proofs.One.{only, Seen, One, OneLent}
+use Rattle.promises.proofs.One.{only, Seen, One, OneLent, OneWith}
 
 pub begin-command-one : One begin-command'.ps begin-command'.r begin-command.Learnt
 begin-command-one κs a z z' e e' p q = only p q
@@ -128,3 +158,41 @@ renewed-one κs a z z' e e' p q = only p q
 
 pub renewed-pen-one : One renewed-pen'.ps renewed-pen'.r renewed-pen.Learnt
 renewed-pen-one κs a z z' e e' p q = only p q
+
+pub raster-after-one : One raster-after'.ps raster-after'.r raster-after.Learnt
+raster-after-one κs a z z' e e' p q = only p q
+
+pub measure-one : One measure'.ps measure'.r measure.Learnt
+measure-one κs a z z' e e' p q = only p q
+
+pub read-one : One read'.ps read'.r read.Learnt
+read-one κs a z z' e e' p q = only p q
+
+pub unread-one : One unread'.ps unread'.r unread.Learnt
+unread-one κs a z z' e e' p q = only p q
+
+pub own-effect-one : One own-effect'.ps own-effect'.r own-effect.Learnt
+own-effect-one κs a z z' e e' p q = only p q
+
+pub parts-values-one : One parts-values'.ps parts-values'.r parts-values.Learnt
+parts-values-one κs a z z' e e' p q = only p q
+
+pub settled-one : One settled'.ps settled'.r settled.Learnt
+settled-one κs a z z' e e' p q = only p q
+
+pub end-repeat-one : One end-repeat'.ps end-repeat'.r end-repeat.Learnt
+end-repeat-one κs a z z' e e' p q = only p q
+
+pub colored-one : One colored'.ps colored'.r colored.Learnt
+colored-one κs a z z' e e' p q = only p q
+
+pub rastered-one : One rastered'.ps rastered'.r rastered.Learnt
+rastered-one κs a z z' e e' p q = only p q
+
+pub sizeless-one : One sizeless'.ps sizeless'.r sizeless.Learnt
+sizeless-one κs a z z' e e' p q = only p q
+
+pub select-one : OneWith select'.ps select'.r select.Learnt (λ κs e. now (e .1 .0))
+select-one κs a z z' e e' p q =
+    let tables = only (p .0) (q .0) in
+    ap₂ (λ (s : Selected) (t : List ℕ). (s, t)) (p .1 ∙ ap (λ (x : Palette). selectedIn x (finished (a .0))) tables ∙ sym (q .1)) (table-known tables)

@@ -13,6 +13,8 @@ use Rattle.oneshot.proofs.read.Reads as read
 use Rattle.oneshot.proofs.read.Kinds as read'
 use Rattle.oneshot.proofs.search.find.Reads as find
 use Rattle.oneshot.proofs.search.find.Kinds as find'
+use Rattle.oneshot.proofs.search.header_start.Reads as header-start
+use Rattle.oneshot.proofs.search.header_start.Kinds as header-start'
 use Rattle.promises.proofs.Meanings.{read-known}
 use Rattle.promises.proofs.One.{only, Seen, One, OnePart, OneWith}
 
@@ -35,3 +37,6 @@ read-one κs a z z' e e' p q = read-known (only p q)
 
 pub find-one : One find'.ps find'.r find.Learnt
 find-one κs a z z' e e' p q = only p q
+
+pub header-start-one : One header-start'.ps header-start'.r header-start.Learnt
+header-start-one κs a z z' e e' p q = only p q

@@ -22,6 +22,18 @@ use Rattle.owlgantry.proofs.dcs_session.owlgantry_raw_dcs_feed.Reads as owlgant
 use Rattle.owlgantry.proofs.dcs_session.owlgantry_raw_dcs_feed.Kinds as owlgantry-raw-dcs-feed'
 use Rattle.owlgantry.proofs.dcs_session.owlgantry_raw_dcs_finish.Reads as owlgantry-raw-dcs-finish
 use Rattle.owlgantry.proofs.dcs_session.owlgantry_raw_dcs_finish.Kinds as owlgantry-raw-dcs-finish'
+use Rattle.owlgantry.proofs.explaining.owlgantry_raw_payload_explain.Reads as owlgantry-raw-payload-explain
+use Rattle.owlgantry.proofs.explaining.owlgantry_raw_payload_explain.Kinds as owlgantry-raw-payload-explain'
+use Rattle.owlgantry.proofs.explaining.owlgantry_raw_payload_explain_finish.Reads as owlgantry-raw-payload-explain-finish
+use Rattle.owlgantry.proofs.explaining.owlgantry_raw_payload_explain_finish.Kinds as owlgantry-raw-payload-explain-finish'
+use Rattle.owlgantry.proofs.explaining.owlgantry_raw_dcs_explain.Reads as owlgantry-raw-dcs-explain
+use Rattle.owlgantry.proofs.explaining.owlgantry_raw_dcs_explain.Kinds as owlgantry-raw-dcs-explain'
+use Rattle.owlgantry.proofs.explaining.owlgantry_raw_dcs_explain_finish.Reads as owlgantry-raw-dcs-explain-finish
+use Rattle.owlgantry.proofs.explaining.owlgantry_raw_dcs_explain_finish.Kinds as owlgantry-raw-dcs-explain-finish'
+use Rattle.owlgantry.proofs.explaining.owlgantry_raw_read_explain.Reads as owlgantry-raw-read-explain
+use Rattle.owlgantry.proofs.explaining.owlgantry_raw_read_explain.Kinds as owlgantry-raw-read-explain'
+use Rattle.owlgantry.proofs.explaining.owlgantry_raw_words.Reads as owlgantry-raw-words
+use Rattle.owlgantry.proofs.explaining.owlgantry_raw_words.Kinds as owlgantry-raw-words'
 use Rattle.promises.proofs.Meanings.{table-known}
 use Rattle.promises.proofs.One.{only, Seen, OneLent, OneWith}
 
@@ -76,3 +88,23 @@ pub owlgantry-raw-dcs-finish-one : Seen owlgantry-raw-dcs-finish'.ps owlgantry-r
     (λ κs. ℕ × List ℕ × List ℕ × List ℕ × List ℕ)
     (λ κs z e. (z, now (e .0), now (e .1 .1 .1 .0), now (e .1 .1 .0), now (e .1 .1 .1 .1 .0)))
 owlgantry-raw-dcs-finish-one κs a z z' e e' p q = only p q
+
+-- the answer and what is told; a session and its registers are only read
+pub owlgantry-raw-payload-explain-one : OneWith owlgantry-raw-payload-explain'.ps owlgantry-raw-payload-explain'.r owlgantry-raw-payload-explain.Learnt (λ κs e. now (e .1 .1 .1 .1 .1 .0))
+owlgantry-raw-payload-explain-one κs a z z' e e' p q = only p q
+
+pub owlgantry-raw-payload-explain-finish-one : OneWith owlgantry-raw-payload-explain-finish'.ps owlgantry-raw-payload-explain-finish'.r owlgantry-raw-payload-explain-finish.Learnt (λ κs e. now (e .1 .1 .1 .0))
+owlgantry-raw-payload-explain-finish-one κs a z z' e e' p q = only p q
+
+pub owlgantry-raw-dcs-explain-one : OneWith owlgantry-raw-dcs-explain'.ps owlgantry-raw-dcs-explain'.r owlgantry-raw-dcs-explain.Learnt (λ κs e. now (e .1 .1 .1 .1 .1 .0))
+owlgantry-raw-dcs-explain-one κs a z z' e e' p q = only p q
+
+pub owlgantry-raw-dcs-explain-finish-one : OneWith owlgantry-raw-dcs-explain-finish'.ps owlgantry-raw-dcs-explain-finish'.r owlgantry-raw-dcs-explain-finish.Learnt (λ κs e. now (e .1 .1 .1 .0))
+owlgantry-raw-dcs-explain-finish-one κs a z z' e e' p q = only p q
+
+pub owlgantry-raw-read-explain-one : OneWith owlgantry-raw-read-explain'.ps owlgantry-raw-read-explain'.r owlgantry-raw-read-explain.Learnt (λ κs e. now (e .1 .1 .1 .1 .1 .1 .1 .1 .0))
+owlgantry-raw-read-explain-one κs a z z' e e' p q = only p q
+
+-- the answer and the buffer
+pub owlgantry-raw-words-one : OneWith owlgantry-raw-words'.ps owlgantry-raw-words'.r owlgantry-raw-words.Learnt (λ κs e. now (e .1 .0))
+owlgantry-raw-words-one κs a z z' e e' p q = only p q

@@ -39,7 +39,7 @@ pub fn row_below(row: usize) -> usize
 }
 
 // The byte was read.
-fn read(frame: Frame, ink: usize) -> Progress
+pub fn read(frame: Frame, ink: usize) -> Progress
     ensures { λ r. ⌜ r ≡ readAs frame ink ⌝ }
 {
     Progress {
@@ -51,7 +51,7 @@ fn read(frame: Frame, ink: usize) -> Progress
 }
 
 // The byte stays unread.
-fn unread(frame: Frame, outcome: Outcome) -> Progress
+pub fn unread(frame: Frame, outcome: Outcome) -> Progress
     ensures { λ r. ⌜ r ≡ unreadAs frame outcome ⌝ }
 {
     Progress {
@@ -173,7 +173,7 @@ fn moved(frame: Frame, row: usize) -> Frame
 }
 
 // The own effect of a byte that is no sixel and ends nothing.
-fn own_effect(frame: Frame, byte: u8) -> Frame
+pub fn own_effect(frame: Frame, byte: u8) -> Frame
     ensures { λ r. ⌜ r ≡ ownOf frame byte ⌝ }
 {
     if byte == b'#' {
@@ -222,7 +222,7 @@ fn takes_semicolon(kind: Kind) -> bool
 }
 
 // A `;` that belongs to the argument.
-fn parts_values(byte: u8, kind: Kind) -> bool
+pub fn parts_values(byte: u8, kind: Kind) -> bool
     ensures { λ r. ⌜ r ≡ (eqb byte semicolon && takesSemicolon kind) ⌝ }
 {
     if byte == b';' {

@@ -1,11 +1,12 @@
-// Tries single crates on cases from standard input: the numbers, the canvas, sessions in place, readers in pieces and their text. A line
-// is an order: a word, numbers one space apart, and bytes after `|`, where a backslash and two hex digits are an escaped byte.
-// What is to be printed was computed independently of this code where it can be: the canvas's checksums from pixels as sets of (x, y), and
-// the pictures of `pieces` from the oracle and docs/RULES.md.
+// Tries single crates on cases from standard input: the numbers, the canvas, sessions in place, readers in pieces and their text, and the
+// words of a refusal. A line is an order: a word, numbers one space apart, and bytes after `|`, where a backslash and two hex digits are
+// an escaped byte. What is to be printed was computed independently of this code where it can be: the canvas's checksums from pixels as
+// sets of (x, y), and the pictures of `pieces` from the oracle and docs/RULES.md.
 mod on_canvas;
 mod on_numbers;
 mod on_sessions;
 mod on_streams;
+mod on_words;
 mod order;
 mod parts;
 mod say;
@@ -25,6 +26,7 @@ use on_sessions::feed_dcs_twice;
 use on_sessions::feed_payload_twice;
 use on_streams::dump;
 use on_streams::take_pieces;
+use on_words::show_words;
 use order::Numbers;
 use order::numbers_of;
 use parts::first;
@@ -61,6 +63,7 @@ fn obey(word: u64, n: Numbers, bytes: &[u8], canvas: &mut [u8]) {
         order::DCS => feed_dcs_twice(canvas, n, bytes),
         order::PIECES => take_pieces(canvas, n, bytes),
         order::DUMP => dump(canvas, n, bytes),
+        order::WORDS => show_words(n),
         _ => say(b"bad line\n"),
     }
 }

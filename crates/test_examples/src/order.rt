@@ -37,6 +37,8 @@ pub(crate) const PIECES: u64 = 0x70_69_65_63_65_73;
 
 pub(crate) const DUMP: u64 = 0x64_75_6D_70;
 
+pub(crate) const WORDS: u64 = 0x77_6F_72_64_73;
+
 // No word, which is what a line with a bad number has.
 const BAD: u64 = 0;
 

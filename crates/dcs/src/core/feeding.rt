@@ -24,6 +24,7 @@ use payload::core::opening::blank_frame;
 use payload::deferred;
 use payload::refusals::Verdict;
 use payload::refusals::feed_refusal;
+use reading::renew::renewed;
 
 // A call's answer and the session after it.
 pub struct Fed {
@@ -162,7 +163,10 @@ fn feed_within(
     let call = feed_passed(setup, life, frame, colors, canvas, bytes, allowance);
     let answer = call.answer;
     let after = call.life;
-    tell(setup, after, call.frame, header, pass_on(answer, bytes, 0))
+    // Made anew: it has just been written number by number, and a processor that copies it whole waits for that. A call with one byte
+    // feels it.
+    let anew = renewed(call.frame);
+    tell(setup, after, anew, header, pass_on(answer, bytes, 0))
 }
 
 // The payload begins, with `from` bytes consumed.

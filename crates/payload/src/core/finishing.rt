@@ -38,6 +38,7 @@ fn report_for(frame: Frame, settings: Settings, defined: usize) -> Report
 {
     let area = frame.area;
     let extent = frame.extent;
+    let raster = frame.raster;
     let p1 = settings.p1;
     let p2 = settings.p2;
     Report {
@@ -45,9 +46,11 @@ fn report_for(frame: Frame, settings: Settings, defined: usize) -> Report
         height: area.height,
         right: extent.right,
         bottom: extent.bottom,
-        ratio: ratio_for(frame.raster, p1),
+        ratio: ratio_for(raster, p1),
         transparent: is_transparent(p2),
         defined,
+        declared_width: raster.width,
+        declared_height: raster.height,
     }
 }
 

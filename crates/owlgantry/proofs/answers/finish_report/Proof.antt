@@ -31,6 +31,12 @@ array-read-t24 c = search needs
 array-read-t27 : tie.Need-array-read-t27
 array-read-t27 c = search needs
 
+array-read-t30 : tie.Need-array-read-t30
+array-read-t30 c = search needs
+
+array-read-t33 : tie.Need-array-read-t33
+array-read-t33 c = search needs
+
 returns : tie.Need-returns
 returns c p = partless-told _ (c .report-numbers .ensures p)
 
@@ -47,4 +53,6 @@ finish-report-spec =
     array-read-t21
     array-read-t24
     array-read-t27
+    array-read-t30
+    array-read-t33
     returns)

@@ -1,0 +1,11 @@
+pub mod DryLaws
+pub mod NeedLaws
+pub mod ExplainLaws
+pub mod NeedMeant
+pub mod DryMeant
+pub mod NeedAgrees
+pub mod PayloadTells
+pub mod SessionTells
+pub mod DcsTells
+pub mod WholeTells
+pub mod SameNumbers

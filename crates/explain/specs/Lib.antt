@@ -1,0 +1,4 @@
+pub mod Dry
+pub mod Need
+pub mod Explained
+pub mod Meant

@@ -1,0 +1,3 @@
+pub mod WordLaws
+pub mod MemoryLaws
+pub mod LengthLaws
