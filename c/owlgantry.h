@@ -28,7 +28,7 @@
 #include <stdint.h>
 
 /* The version that the file VERSION names; CHANGELOG.md says what it brings. */
-#define OWLGANTRY_VERSION "0.8.0"
+#define OWLGANTRY_VERSION "0.8.1"
 
 #if SIZE_MAX != UINT64_MAX
 #error "the reader is made for machines whose size_t has 64 bits"

@@ -7,16 +7,13 @@ use crate::ffi::{self, Numbers, Registers, Told};
 use crate::Limits;
 use std::alloc::{alloc_zeroed, Layout};
 use std::mem::MaybeUninit;
+use std::ptr::addr_of_mut;
 
 /// A session's memory.
 #[derive(Clone)]
 pub struct Memory {
     numbers: Numbers,
     registers: Registers,
-}
-
-impl Memory {
-    const FAILED: Self = Self { numbers: [0; ffi::SESSION_NUMBERS], registers: [0; ffi::REGISTERS] };
 }
 
 /// So many zeros, more than none, where memory for them can be had. Only the allocator knows which memory is zeros already:
@@ -60,30 +57,41 @@ pub fn copy(canvas: &[u8], stride: usize, width: usize, height: usize, out: &mut
     unsafe { ffi::owlgantry_raw_copy(at, length, stride, width, height, out.as_mut_ptr(), out.len()) }
 }
 
+/// An opening's session, or its refusal's number. The call writes every number of the session where it is not refused, so that none
+/// has to be written before.
+fn opened(open: impl FnOnce(*mut Numbers, *mut Registers) -> u64) -> Result<Memory, u64> {
+    let mut memory = MaybeUninit::<Memory>::uninit();
+    let at = memory.as_mut_ptr();
+    // SAFETY: the pointers are of fields of `memory`, which lives through the call; nothing is read of it.
+    let (numbers, registers) = unsafe { (addr_of_mut!((*at).numbers), addr_of_mut!((*at).registers)) };
+    match open(numbers, registers) {
+        // SAFETY: an opening that answers 0 has written all 48 numbers and all 256 registers.
+        0 => Ok(unsafe { memory.assume_init() }),
+        answer => Err(answer),
+    }
+}
+
 pub fn payload_open(
     limits: Limits,
     stride: usize,
     [p1, p2]: [u32; 2],
     canvas: &mut [u8],
     palette: &Registers,
-) -> (u64, Memory) {
+) -> Result<Memory, u64> {
     let Limits { width: w, height: h, repeats: r, pixels: m } = limits;
-    let mut memory = Memory::FAILED;
     let (at, length) = (canvas.as_mut_ptr(), canvas.len());
-    let (numbers, registers) = (&mut memory.numbers, &mut memory.registers);
     // SAFETY: the canvas has its slice's length, palette and registers 256 numbers, the session 48; all but the palette are exclusive.
-    let answer =
-        unsafe { ffi::owlgantry_raw_payload_open(w, h, r, m, stride, p1, p2, at, length, palette, numbers, registers) };
-    (answer, memory)
+    opened(|numbers, registers| unsafe {
+        ffi::owlgantry_raw_payload_open(w, h, r, m, stride, p1, p2, at, length, palette, numbers, registers)
+    })
 }
 
-pub fn dcs_open(limits: Limits, stride: usize, length: usize, palette: &Registers) -> (u64, Memory) {
+pub fn dcs_open(limits: Limits, stride: usize, length: usize, palette: &Registers) -> Result<Memory, u64> {
     let Limits { width: w, height: h, repeats: r, pixels: m } = limits;
-    let mut memory = Memory::FAILED;
-    let (numbers, registers) = (&mut memory.numbers, &mut memory.registers);
     // SAFETY: palette and registers have 256 numbers, the session 48; the latter two are exclusive.
-    let answer = unsafe { ffi::owlgantry_raw_dcs_open(w, h, r, m, stride, length, palette, numbers, registers) };
-    (answer, memory)
+    opened(|numbers, registers| unsafe {
+        ffi::owlgantry_raw_dcs_open(w, h, r, m, stride, length, palette, numbers, registers)
+    })
 }
 
 pub fn payload_feed(memory: &mut Memory, canvas: &mut [u8], bytes: &[u8], allowance: usize) -> (u64, [u64; 4]) {

@@ -72,7 +72,7 @@ impl Refusal {
     }
 
     #[cold]
-    fn numbered(answer: u64) -> Self {
+    pub(crate) fn numbered(answer: u64) -> Self {
         match answer {
             1 => Self::Introducer,
             2 => Self::HeaderEnded,

@@ -70,6 +70,6 @@ pub fn payload(limits: Limits, palette: &Palette, payload: &[u8]) -> Option<Tell
 /// The bytes of a DCS sequence, and no finish.
 pub fn dcs(limits: Limits, palette: &Palette, sequence: &[u8]) -> Option<Telling> {
     let (stride, length) = largest(limits);
-    let (_, memory) = calls::dcs_open(limits, stride, length, &palette.0);
+    let memory = calls::dcs_open(limits, stride, length, &palette.0).ok()?;
     Telling::of(calls::dcs_explain(&memory, length, sequence, usize::MAX))
 }

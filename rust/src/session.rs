@@ -115,8 +115,10 @@ impl PayloadSession {
         canvas: &mut [u8],
         palette: &Palette,
     ) -> Result<Self, Refusal> {
-        let (answer, memory) = calls::payload_open(limits, stride, settings.numbers(), canvas, &palette.0);
-        Refusal::judge(answer).map(|()| Self(memory))
+        match calls::payload_open(limits, stride, settings.numbers(), canvas, &palette.0) {
+            Ok(memory) => Ok(Self(memory)),
+            Err(answer) => Err(Refusal::numbered(answer)),
+        }
     }
 
     /// Reads bytes until all are read, the payload ends, a sixel's ink exceeds the allowance, or a refusal.
@@ -178,8 +180,10 @@ pub struct DcsSession(calls::Memory);
 impl DcsSession {
     /// Opens a session for a canvas of a length, to which nothing is written before `q`.
     pub fn open(limits: Limits, stride: usize, length: usize, palette: &Palette) -> Result<Self, Refusal> {
-        let (answer, memory) = calls::dcs_open(limits, stride, length, &palette.0);
-        Refusal::judge(answer).map(|()| Self(memory))
+        match calls::dcs_open(limits, stride, length, &palette.0) {
+            Ok(memory) => Ok(Self(memory)),
+            Err(answer) => Err(Refusal::numbered(answer)),
+        }
     }
 
     /// As [`PayloadSession::feed`], with introducer, header and ends.

@@ -28,7 +28,8 @@ use Rattle.frame.specs.declared.Refusal.{Refusal}
 use Rattle.frame.specs.declared.sizes.Needed.{Needed}
 use Rattle.frame.specs.declared.sizes.Needed.the-variants.{Area, Refused}
 use Rattle.frame.specs.Sizes.{rasterArea, sixelArea}
-use Rattle.frame.specs.Commands.{withCommand, byDigit, bySemicolon, unreadAs, refusedAs, settledAs, repeatEnded, rasterGrown, rasterEndedBy, colorEndedBy, rasterBy, finishedOf, Ended, endedIn, ended}
+use Rattle.frame.specs.Commands.{withCommand, byDigit, bySemicolon, unreadAs, refusedAs, settledAs, repeatEnded, rasterGrown, rasterEndedBy, colorEndedBy}
+use Rattle.frame.specs.Commands.{rasterBy, finishedOf, Ended, endedIn, ended}
 use Rattle.frame.proofs.SizeLaws.{sixel-reach}
 use Rattle.frame.proofs.Kind as KindType
 use Rattle.frame.proofs.Outcome as OutcomeType

@@ -45,7 +45,9 @@ drawn-dry (Refused r) f g bits left p l = refl
 module _ (f : Frame) (g : Ground) (b left : ℕ) (p : Palette) (l : List ℕ) where
   pub data-dry : uncanvassed (dataStep f g b left p l) ≡ record { progress = dataDry f g b left; palette = p }
   unfolding dataStep dataDry drawnBy drawnDry
-  data-dry = by-test (sixel b) (λ t. rw t (drawn-dry (sixelArea (f .pen) (f .area) g) f g (b - 63) left p l)) (λ t. by-test (ends b) (λ u. rw (t, u)) (λ u. rw (t, u)))
+  data-dry =
+      by-test (sixel b) (λ t. rw t (drawn-dry (sixelArea (f .pen) (f .area) g) f g (b - 63) left p l))
+      (λ t. by-test (ends b) (λ u. rw (t, u)) (λ u. rw (t, u)))
 
   argument-dry : uncanvassed (argumentStep f g b p l) ≡ argumentDry f g b p
   unfolding argumentStep argumentDry settledStep

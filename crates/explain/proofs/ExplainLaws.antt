@@ -63,7 +63,10 @@ use Rattle.explain.specs.declared.Explained.the-variants.{Fine, Refused}
 use Rattle.explain.specs.declared.dry.Led.{Led}
 use Rattle.explain.specs.Dry.{byteDry, costOf, ledAs, goOnDry, dryFrom}
 use Rattle.explain.specs.Need.{largest, needOf}
-use Rattle.explain.specs.Explained.{placelessFor, toldFor, explainedIn, partExplained, pendingExplained, unlessJudged, fedExplainedIn, fedExplained, payloadFeedExplained, payloadFinishExplained, ledExplained, leadExplained, dcsFeedIn, dcsFeedExplained, dcsFinishIn, dcsFinishExplained, wholeIn, wholeExplained, startedExplained, headedIn, headedFrom, foundExplained, inputExplained, readExplainedOn, readExplained}
+use Rattle.explain.specs.Explained.{placelessFor, toldFor, explainedIn, partExplained, pendingExplained, unlessJudged, fedExplainedIn, fedExplained}
+use Rattle.explain.specs.Explained.{payloadFeedExplained, payloadFinishExplained, ledExplained, leadExplained, dcsFeedIn, dcsFeedExplained}
+use Rattle.explain.specs.Explained.{dcsFinishIn, dcsFinishExplained, wholeIn, wholeExplained, startedExplained, headedIn, headedFrom, foundExplained}
+use Rattle.explain.specs.Explained.{inputExplained, readExplainedOn, readExplained}
 
 -- ---- what is told
 
@@ -399,6 +402,8 @@ pub ruleset telling = (placeless-as, told-as, outcome-refused, outcome-fine, par
 
 pub ruleset payloads = (passed-ended, passed-live, fed-refused, fed-passed, fed-all, finish-refused, finish-passed)
 
-pub ruleset sequences = (lead-on, lead-begins, lead-refused, dcs-refused, dcs-before, dcs-within, dcs-escaped, dcs-over, ending-refused, ending-over, ending-early)
+pub ruleset sequences =
+    (lead-on, lead-begins, lead-refused, dcs-refused, dcs-before, dcs-within, dcs-escaped, dcs-over, ending-refused, ending-over, ending-early)
 
-pub ruleset wholes = (whole-read, whole-left, headed-within, headed-on, headed-begins, headed-refused, input-headed, input-bare, read-opened, read-unopened, read-owned)
+pub ruleset wholes =
+    (whole-read, whole-left, headed-within, headed-on, headed-begins, headed-refused, input-headed, input-bare, read-opened, read-unopened, read-owned)

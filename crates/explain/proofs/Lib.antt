@@ -6,6 +6,7 @@ pub mod DryMeant
 pub mod NeedAgrees
 pub mod PayloadTells
 pub mod SessionTells
+pub mod PhaseTells
 pub mod DcsTells
 pub mod WholeTells
 pub mod SameNumbers

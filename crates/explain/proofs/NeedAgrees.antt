@@ -22,11 +22,13 @@ use Rattle.frame.specs.declared.sizes.Needed.{Needed}
 use Rattle.frame.specs.declared.sizes.Needed.the-variants as needed
 use Rattle.frame.specs.Commands.{unreadAs, refusedAs, noCommand, Ended, endedIn, ended}
 use Rattle.frame.specs.Sizes.{sixelArea}
-use Rattle.reference.specs.Step.{Reached, readAs, inked, canvasAfter, paintedOn, drawnIn, drawnBy, dataStep, takesSemicolon, settledStep, argumentStep, stepIn, stepOf}
+use Rattle.reference.specs.Step.{Reached, readAs, inked, canvasAfter, paintedOn, drawnIn, drawnBy, dataStep, takesSemicolon, settledStep, argumentStep}
+use Rattle.reference.specs.Step.{stepIn, stepOf}
 use Rattle.reference.specs.Feed.{thenData, byteStep}
 use Rattle.reference.proofs.FeedLaws.{byte-once, byte-twice}
 use Rattle.meaning.specs.Commands.{Begun, argued, draw, Placed, taken, Scanned, closed, does, own, scanByte}
-use Rattle.meaning.specs.Drawing.{Setting, Drawing, Drawn, drawn, refused, unless, strokeOf, stroked, sixelled, sizeRefusal, drawCommand, Outcome as Drew, andThen, drawAll}
+use Rattle.meaning.specs.Drawing.{Setting, Drawing, Drawn, drawn, refused, unless, strokeOf, stroked, sixelled, sizeRefusal, drawCommand, Outcome as Drew}
+use Rattle.meaning.specs.Drawing.{andThen, drawAll}
 use Rattle.meaning.specs.Sessions.{Reading, settled, rested}
 use Rattle.meaning.specs.Tellings.{Shortage, commandShortage, shortageIn, firstShortage, byteShortage}
 use Rattle.meaning.proofs.AreaLaws.{Sound}
@@ -156,7 +158,8 @@ unfolding closed
 closed-one k = refl
 
 -- what a command alone comes to
-command-drawn : (s : Setting) (c : Placed) (d : Drawing) → drawAll s (c ∷ []) d .refusal ≡ none → drawCommand s (c .command) d ≡ drawn (drawAll s (c ∷ []) d .drawing)
+command-drawn : (s : Setting) (c : Placed) (d : Drawing) → drawAll s (c ∷ []) d .refusal ≡ none
+    → drawCommand s (c .command) d ≡ drawn (drawAll s (c ∷ []) d .drawing)
 unfolding drawAll andThen
 command-drawn s c d e = go (drawCommand s (c .command) d) e
   where
@@ -213,7 +216,8 @@ module _ {s : Setting} {opening : List ℕ} {r : Reading} {g : Ground} {f : Fram
       ends-as = pending-ends (same .drawing .bounded) (same .drawing .sound) (d .background) (f .command) (r .begun) (same .begun)
 
       canonical : commandShortage s (pending .command) d
-          ≡ needMeant (needOf (settledStep (frameOf d (f .command)) (groundOf s (d .background)) (d .palette) (canvasOf s d opening) .progress .frame) (groundOf s (d .background)))
+          ≡ needMeant (needOf (settledStep (frameOf d (f .command)) (groundOf s (d .background)) (d .palette) (canvasOf s d opening) .progress .frame)
+          (groundOf s (d .background)))
       canonical =
           sym (pending-meant (same .drawing .bounded) d (d .background) (f .command) k begun-as)
           ∙ ap (λ (x : Frame). needMeant (needOf x (groundOf s (d .background)))) (sym (refused-frame ends-as e))
@@ -285,7 +289,8 @@ module _ {s : Setting} {opening : List ℕ} {r : Reading} {g : Ground} {f : Fram
       let kind : f .command .kind ≡ kinds.Data = subst (λ (o : Option Begun). SameBegun o (f .command)) e (same .begun) in
       let is : stepOf f g b left p l ≡ dataStep f g b left p l = ap (λ k. stepIn k f g b left p l) kind in
       let all : byteStep f g b left p l ≡ dataStep f g b left p l =
-      byte-once f g b left p l (subst (λ (t : Reached). t .progress .outcome ≡ outcomes.Read → t .progress .consumed ≡ 1) (sym is) (data-once f g b left p l)) ∙ is in
+      byte-once f g b left p l
+      (subst (λ (t : Reached). t .progress .outcome ≡ outcomes.Read → t .progress .consumed ≡ 1) (sym is) (data-once f g b left p l)) ∙ is in
       ap (λ (o : Option Begun). firstShortage s (cond (ends b) (closed o) (scanByte (r .passed) o b .ended)) (r .drawing)) e
       ∙ rest-need (r .passed) b left same e (subst (λ (t : Reached). t .progress .outcome ≡ outcomes.Refused why) all refusal)
       ∙ ap (λ (t : Reached). needMeant (needOf (t .progress .frame) g)) (sym all)

@@ -53,7 +53,9 @@ use Rattle.dcs.specs.Session as dcs
 use Rattle.explain.specs.declared.Explained.{Explained}
 use Rattle.explain.specs.declared.dry.Led as dryLed
 use Rattle.explain.specs.Dry.{dataDry, argumentDry, stepDryIn, stepDry, thenDry, byteDry, ledAs, dryFrom}
-use Rattle.explain.specs.Explained.{placelessFor, toldFor, explainedIn, partExplained, pendingExplained, unlessJudged, fedExplainedIn, fedExplained, payloadFeedExplained, payloadFinishExplained, ledExplained, leadExplained, dcsFeedIn, dcsFeedExplained, dcsFinishIn, dcsFinishExplained}
+use Rattle.explain.specs.Explained.{placelessFor, toldFor, explainedIn, partExplained, pendingExplained, unlessJudged, fedExplainedIn, fedExplained}
+use Rattle.explain.specs.Explained.{payloadFeedExplained, payloadFinishExplained, ledExplained, leadExplained, dcsFeedIn, dcsFeedExplained}
+use Rattle.explain.specs.Explained.{dcsFinishIn, dcsFinishExplained}
 use Rattle.explain.specs.Meant.{placeMeant, tellingMeant, explainedMeant}
 use Rattle.explain.proofs.DryMeant.{feed-dry}
 use Rattle.explain.proofs.SessionTells.{pending-dry}
@@ -96,7 +98,8 @@ fed-number : (s : payloadSession.Session) (l bs : List ℕ) (from a : ℕ)
 unfolding fedExplained payload.fedBy payload.fedAs unlessJudged placelessFor numberTold explainedMeant tellingMeant answerNumber payloadMeant.answerMeant
 fed-number s l bs from a = go (feedJudged s (length l) a)
   where
-    go : (v : Verdict) → explainedNumber (unlessJudged v (fedExplainedIn (s .life) s bs from a)) ≡ answerNumber (payloadMeant.answerMeant (payload.fedAs v s l bs a .0 .answer))
+    go : (v : Verdict)
+        → explainedNumber (unlessJudged v (fedExplainedIn (s .life) s bs from a)) ≡ answerNumber (payloadMeant.answerMeant (payload.fedAs v s l bs a .0 .answer))
     go verdicts.Fine = passed-number (s .life) s l bs from a
     go (verdicts.Refused r) = refl
 

@@ -21,7 +21,8 @@ use Rattle.meaning.specs.Calls as calls
 use Rattle.meaning.specs.Drawing.{Setting}
 use Rattle.meaning.specs.Reader.{Step, halt, isRefused, still, halted, call}
 use Rattle.meaning.specs.Sessions.{Reading, rested, readByte, payloadStep}
-use Rattle.meaning.specs.Tellings.{Telling, placeless, firstRefused, callTelling, feedTelling, byteShortage, pendingTelling, finishTelling, payloadFeedTelling, payloadFinishTelling}
+use Rattle.meaning.specs.Tellings.{Telling, placeless, firstRefused, callTelling, feedTelling, byteShortage, pendingTelling, finishTelling}
+use Rattle.meaning.specs.Tellings.{payloadFeedTelling, payloadFinishTelling}
 use Rattle.agreement.specs.Same.{Same}
 use Rattle.payload.specs.declared.Life.{Life}
 use Rattle.payload.specs.declared.Life.the-variants as lives
@@ -36,7 +37,8 @@ use Rattle.dcs.proofs.Runs.{call-halts}
 use Rattle.explain.specs.declared.Explained.{Explained}
 use Rattle.explain.specs.declared.dry.Led.{Led}
 use Rattle.explain.specs.Dry.{byteDry, ledAs, goOnDry, dryFrom}
-use Rattle.explain.specs.Explained.{placelessFor, explainedIn, partExplained, pendingExplained, unlessJudged, fedExplainedIn, fedExplained, payloadFeedExplained, payloadFinishExplained}
+use Rattle.explain.specs.Explained.{placelessFor, explainedIn, partExplained, pendingExplained, unlessJudged, fedExplainedIn, fedExplained}
+use Rattle.explain.specs.Explained.{payloadFeedExplained, payloadFinishExplained}
 use Rattle.explain.specs.Meant.{placeMeant, needMeant, tellingMeant, explainedMeant}
 use Rattle.explain.proofs.DryMeant.{uncanvassed, byte-dry, ledBy, feed-dry}
 use Rattle.explain.proofs.PayloadTells.{toldOf, callOf, firstOf, toldIf, call-tells, pending-tells}
@@ -47,7 +49,8 @@ use Rattle.explain.proofs.PayloadTells.{toldOf, callOf, firstOf, toldIf
 pub judged-told : (v : Verdict) (later : Explained) (o : Option ℕ) (t : Option Telling) → judgedMeant v ≡ o → (v ≡ verdicts.Fine → explainedMeant later ≡ t)
     → explainedMeant (unlessJudged v later) ≡ elim o as (λ _. Option Telling) [ none ↦ t | some n ↦ some (placeless n) ]
 unfolding judgedMeant unlessJudged explainedMeant placelessFor tellingMeant placeMeant needMeant placeless
-judged-told verdicts.Fine later o t e k = subst (λ (o : Option ℕ). explainedMeant later ≡ elim o as (λ _. Option Telling) [ none ↦ t | some n ↦ some (placeless n) ]) e (k refl)
+judged-told verdicts.Fine later o t e k =
+    subst (λ (o : Option ℕ). explainedMeant later ≡ elim o as (λ _. Option Telling) [ none ↦ t | some n ↦ some (placeless n) ]) e (k refl)
 judged-told (verdicts.Refused n) later o t e k =
     subst (λ (o : Option ℕ). some (placeless (numberOf n)) ≡ elim o as (λ _. Option Telling) [ none ↦ t | some n ↦ some (placeless n) ]) e refl
 
@@ -75,7 +78,8 @@ dry-told g a from bs f p l =
 -- ---- the pending command
 
 -- one byte that is not followed by another
-one-told : (o : Outcome) (t : Ended) (g : Ground) (at : ℕ) (later : Frame → Palette → ℕ → Led) → ((f : Frame) (p : Palette) (i : ℕ) → later f p i .outcome ≡ outcomes.Read)
+one-told : (o : Outcome) (t : Ended) (g : Ground) (at : ℕ) (later : Frame → Palette → ℕ → Led)
+    → ((f : Frame) (p : Palette) (i : ℕ) → later f p i .outcome ≡ outcomes.Read)
     → explainedIn (goOnDry o t 0 later .outcome) (goOnDry o t 0 later .frame) g at ≡ explainedIn o (t .progress .frame) g at
 unfolding goOnDry ledAs explainedIn
 one-told outcomes.Read t g at later h =
@@ -105,7 +109,8 @@ module _ {opening : List ℕ} {s : Session} {l : List ℕ} {m : calls.Session Re
       ≡ toldIf (callOf (m .setting) a (m .state) bs .how) (firstOf (m .setting) from (m .state) bs)
   live-told a from bs h over =
       dry-told (s .ground) a from bs (s .frame) (s .palette) l
-      ∙ sym (call-tells (m .setting) opening (s .ground) a from bs 0 0 (m .state) (s .frame) (s .palette) l (omega arith) (record { drawing = k .drawing; begun = k .begun h }) over)
+      ∙ sym (call-tells (m .setting) opening (s .ground) a from bs 0 0 (m .state) (s .frame) (s .palette) l (omega arith)
+      (record { drawing = k .drawing; begun = k .begun h }) over)
       ∙ ap₂ (λ (x y : ℕ). toldIf (callOf (m .setting) x (m .state) bs .how) (firstOf (m .setting) y (m .state) bs)) (sub-zero a) (add-zero from)
 
   -- a session that passes 9, 12 and 13, whatever its life
@@ -122,7 +127,8 @@ module _ {opening : List ℕ} {s : Session} {l : List ℕ} {m : calls.Session Re
 
       go : (x : Life) → s .life ≡ x → explainedMeant (fedExplainedIn x s bs from a) ≡ told
       go lives.Live q = live-told a from bs (life-as q .0) (life-as q .1)
-      go (lives.Ended b) q = ap (λ (t : Bool). cond t (firstOf (m .setting) from (m .state) bs) none) (sym (over-unrefused (m .setting) a (m .state) bs (life-as q .1)))
+      go (lives.Ended b) q =
+          ap (λ (t : Bool). cond t (firstOf (m .setting) from (m .state) bs) none) (sym (over-unrefused (m .setting) a (m .state) bs (life-as q .1)))
       go lives.Failed q = absurd (true≢false (ap isFailed (sym q) ∙ passes refusals.Failed (isFailed (s .life)) _ e .0))
 
   -- What is told of a feed is what the definition tells: number, place and need.

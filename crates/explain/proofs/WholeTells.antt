@@ -44,7 +44,8 @@ use Rattle.meaning.specs.Payload as meant
 use Rattle.meaning.specs.Reader.{Step, next, halt, refuse, Run, still, after, follow, readFrom}
 use Rattle.meaning.specs.Sessions as sessions
 use Rattle.meaning.specs.Sessions.{Reading, settled, endedAt, wentOn, readByte, payloadStep}
-use Rattle.meaning.specs.Tellings.{Shortage, Telling, toldAt, placeless, firstShortage, firstRefused, byteShortage, pendingTelling, orPending, partTelling, headerTelling, inputTelling, readTelling}
+use Rattle.meaning.specs.Tellings.{Shortage, Telling, toldAt, placeless, firstShortage, firstRefused, byteShortage, pendingTelling, orPending, partTelling}
+use Rattle.meaning.specs.Tellings.{headerTelling, inputTelling, readTelling}
 use Rattle.meaning.proofs.AreaLaws.{cond-case, option-case}
 use Rattle.meaning.proofs.Demand3.{payload-caps}
 use Rattle.agreement.specs.Same.{Same, Bounded}
@@ -75,7 +76,8 @@ use Rattle.words.specs.declared.Need.the-variants as needs
 use Rattle.explain.specs.declared.Explained.{Explained}
 use Rattle.explain.specs.declared.dry.Led.{Led}
 use Rattle.explain.specs.Dry.{dataDry, argumentDry, stepDryIn, stepDry, thenDry, byteDry, costOf, ledAs, goOnDry, dryFrom}
-use Rattle.explain.specs.Explained.{toldFor, placelessFor, explainedIn, partExplained, pendingExplained, wholeIn, wholeExplained, startedExplained, headedIn, headedFrom, foundExplained, inputExplained, readExplainedOn, readExplained}
+use Rattle.explain.specs.Explained.{toldFor, placelessFor, explainedIn, partExplained, pendingExplained, wholeIn, wholeExplained, startedExplained}
+use Rattle.explain.specs.Explained.{headedIn, headedFrom, foundExplained, inputExplained, readExplainedOn, readExplained}
 use Rattle.explain.specs.Meant.{placeMeant, needMeant, tellingMeant, explainedMeant}
 use Rattle.explain.specs.Need.{largest, needOf}
 use Rattle.explain.proofs.DryMeant.{uncanvassed, byte-dry}
@@ -117,7 +119,8 @@ halt-begun s r b going e =
 -- what reading a payload comes to, in the definition and in the code, and what is told of it: nothing where all is read or the end has come, and
 -- else the refused byte
 pub data Whole (s : Setting) (opening : List ℕ) (g : Ground) (from : ℕ) : Reading → Led → Option Telling → Type 0 where
-  allRead : {u : Reading} {d : Led} (p : Palette) (l : List ℕ) → d .outcome ≡ outcomes.Read → Same s opening u g (d .frame) p l → Whole s opening g from u d none
+  allRead : {u : Reading} {d : Led} (p : Palette) (l : List ℕ) → d .outcome ≡ outcomes.Read
+      → Same s opening u g (d .frame) p l → Whole s opening g from u d none
   atEnd : {u : Reading} {d : Led} (b : ℕ) → d .outcome ≡ outcomes.Ended b → u .begun ≡ none → Whole s opening g from u d none
   refusedAt : {u : Reading} {d : Led} {t : Telling} (why : Refusal) → d .outcome ≡ outcomes.Refused why
       → some t ≡ explainedMeant (explainedIn (outcomes.Refused why) (d .frame) g (from + d .consumed)) → Whole s opening g from u d (some t)
@@ -156,7 +159,8 @@ module _ (s : Setting) (opening : List ℕ) (g : Ground) (from : ℕ) where
       unfolding follows tells goesOn after still ledAs costOf
       byte-whole cap step (reads {u} {i = j} h over e one ink same) =
           known e
-          (subst (λ (k : ℕ). Whole s opening g from (readFrom (payloadStep s) u bs .state) (dryFrom false g bs (n + 1) largest (t .progress .frame) (t .palette)) (firstOf s k u bs))
+          (subst (λ (k : ℕ). Whole s opening g from (readFrom (payloadStep s) u bs .state)
+          (dryFrom false g bs (n + 1) largest (t .progress .frame) (t .palette)) (firstOf s k u bs))
           (omega arith)
           (later (n + 1) u (t .progress .frame) (t .palette) (t .canvas) same over))
       byte-whole cap step (stops {u} {i = j} h e same) = absurd (omega (arith, payload-caps s r u b j step))
@@ -168,7 +172,8 @@ module _ (s : Setting) (opening : List ℕ) (g : Ground) (from : ℕ) where
   read-whole cap [] n r f p l same going = allRead p l refl same
   read-whole cap (b ∷ bs) n r f p l same going =
       subst
-      (λ (t : Ended). Whole s opening g from (readFrom (payloadStep s) r (b ∷ bs) .state) (goesOn n b r bs going (read-whole cap bs) (t .progress .outcome) t) (firstOf s (from + n) r (b ∷ bs)))
+      (λ (t : Ended). Whole s opening g from (readFrom (payloadStep s) r (b ∷ bs) .state) (goesOn n b r bs going (read-whole cap bs) (t .progress .outcome) t)
+      (firstOf s (from + n) r (b ∷ bs)))
       (byte-dry f g b largest p l)
       (byte-whole n b r bs going (read-whole cap bs) (byteStep f g b largest p l) (λ why. byte-need same b largest) cap refl (byte-agrees same going b largest))
 
@@ -271,8 +276,12 @@ module _ (l : Limits) (stride : ℕ) (opening : List ℕ) (owner : Palette) (ope
   unfolding startedExplained begunSession withBackground sessionFor groundFor partTelling sessions.opened
   started-told o whole from h =
       let k : Stands opening _ _ _ = ready-stands l stride o owner opening opens in
-      whole-told {r = sessions.opened (parametersMeant o) owner} (record { drawing = k .drawing; begun = k .begun refl }) refl capped from (length whole) (drop from whole)
-      ∙ ap (λ (end : ℕ). orPending (firstOf setting from (sessions.opened (parametersMeant o) owner) (drop from whole)) (pendingTelling setting end (readFrom (payloadStep setting) (sessions.opened (parametersMeant o) owner) (drop from whole) .state))) (omega (arith, length-drop from whole))
+      whole-told {r = sessions.opened (parametersMeant o) owner} (record { drawing = k .drawing; begun = k .begun refl }) refl capped from
+      (length whole) (drop from whole)
+      ∙ ap
+      (λ (end : ℕ). orPending (firstOf setting from (sessions.opened (parametersMeant o) owner) (drop from whole))
+      (pendingTelling setting end (readFrom (payloadStep setting) (sessions.opened (parametersMeant o) owner) (drop from whole) .state)))
+      (omega (arith, length-drop from whole))
 
   -- where a header leads, told
   abbrev headed : List ℕ → Lead → Option Telling
@@ -281,7 +290,8 @@ module _ (l : Limits) (stride : ℕ) (opening : List ℕ) (owner : Palette) (ope
   -- one byte of it, where the later ones are known
   byte-told : {got : List ℕ} {x : leadStep.Step} {y : sessions.HeaderByte} (whole us : List ℕ) (n : ℕ) → drop (n + 1) whole ≡ us → n + 1 ≤ length whole
       → HeaderAgrees got x y
-      → ((h : Parameters) (more : List ℕ) → Read 3 more h → headed whole (leadFrom us (n + 1) leadPlaces.Header h) ≡ headerTelling setting owner (n + 1) more us)
+      → ((h : Parameters) (more : List ℕ) → Read 3 more h
+      → headed whole (leadFrom us (n + 1) leadPlaces.Header h) ≡ headerTelling setting owner (n + 1) more us)
       → headed whole (leadOn (x .led) x n (λ n′ t′ h′. leadFrom us n′ t′ h′))
       ≡ elim y as (λ _. Option Telling) [
         | sessions.goesOn more ↦ headerTelling setting owner (suc n) more us

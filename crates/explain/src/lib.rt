@@ -70,7 +70,8 @@ fn explain_part(
     allowance: usize,
 ) -> Explained
     requires { ⌜ from ≤ length (now bytes) ⌝ }
-    ensures { λ r. ⌜ r ≡ partExplained (dryFrom true ground (drop from (now (bytes .entry))) 0 allowance frame (ofTable (now (registers .entry)))) ground from ⌝ }
+    ensures { λ r. ⌜ r ≡ partExplained (dryFrom true ground (drop from (now (bytes .entry))) 0 allowance frame (ofTable (now (registers .entry))))
+        ground from ⌝ }
 {
     let part = &bytes[from..];
     let mut colors = *registers;

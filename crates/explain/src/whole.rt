@@ -67,7 +67,8 @@ fn explain_started(
     from: usize,
 ) -> Explained
     requires { ⌜ from ≤ length (now bytes) ⌝ }
-    ensures { λ r. ⌜ ((life : Life) (f : Drawn.Frame) → r ≡ startedExplained (over setup life f (ofTable (now (registers .entry)))) settings (now (bytes .entry)) from) ⌝ }
+    ensures { λ r. ⌜ ((life : Life) (f : Drawn.Frame)
+        → r ≡ startedExplained (over setup life f (ofTable (now (registers .entry)))) settings (now (bytes .entry)) from) ⌝ }
 {
     let mut none = [0_u8; 0];
     let begun = start(setup, settings, registers, &mut none);

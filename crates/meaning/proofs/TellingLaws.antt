@@ -18,8 +18,12 @@ use Rattle.meaning.specs.OneShot.{Found, found, lacking, refusedWith, fi
 use Rattle.meaning.specs.Payload.{Parameters, noParameters, Finished, finished, turnedDown, reportOf, finish, payload}
 use Rattle.meaning.specs.Reader.{Step, next, halt, refuse, How, readAll, stopped, halted, refusedBy, isRefused, Run, still, after, follow, readFrom, call}
 use Rattle.meaning.specs.Sessions as sessions
-use Rattle.meaning.specs.Sessions.{Reading, opened, settled, rested, payloadStep, finishReading, outcomeOf, Phase, start, introduced, header, within, afterEscape, over, dcsStep, dcsRested, finishDcs, goesOn, settles, wrong, headerByte}
-use Rattle.meaning.specs.Tellings.{Shortage, Telling, placeless, toldAt, firstShortage, firstRefused, callTelling, feedTelling, byteShortage, pendingTelling, finishTelling, payloadFeedTelling, payloadFinishTelling, dcsShortage, dcsFeedTelling, dcsEndTelling, dcsFinishTelling, orPending, partTelling, headerTelling, inputTelling, readTelling, TellsRun, untold, told, numberTold, answerNumber, finishNumber}
+use Rattle.meaning.specs.Sessions.{Reading, opened, settled, rested, payloadStep, finishReading, outcomeOf, Phase, start, introduced, header, within}
+use Rattle.meaning.specs.Sessions.{afterEscape, over, dcsStep, dcsRested, finishDcs, goesOn, settles, wrong, headerByte}
+use Rattle.meaning.specs.Tellings.{Shortage, Telling, placeless, toldAt, firstShortage, firstRefused, callTelling, feedTelling, byteShortage}
+use Rattle.meaning.specs.Tellings.{pendingTelling, finishTelling, payloadFeedTelling, payloadFinishTelling, dcsShortage, dcsFeedTelling}
+use Rattle.meaning.specs.Tellings.{dcsEndTelling, dcsFinishTelling, orPending, partTelling, headerTelling, inputTelling, readTelling, TellsRun}
+use Rattle.meaning.specs.Tellings.{untold, told, numberTold, answerNumber, finishNumber}
 use Rattle.meaning.proofs.PayloadLaws.{outcome-settled, outcome-refused, reading-is-payload}
 
 -- ---- any reader
@@ -76,14 +80,16 @@ module _ {S : Type 0} (step : S → ℕ → Step S) (needOf : S → ℕ → Opti
         never q = let z : _≡_ {A = ℕ} 0 1 = cc in omega arith
 
         reads : (t : S) (i : ℕ) (u : Bool)
-            → ((k : ℕ) (t : S) → isRefused (call step rest k t bs .how) ≡ true → TellsRun (suc at) (call step rest k t bs) (firstRefused step needOf (suc at) t bs))
+            → ((k : ℕ) (t : S) → isRefused (call step rest k t bs .how) ≡ true
+            → TellsRun (suc at) (call step rest k t bs) (firstRefused step needOf (suc at) t bs))
             → isRefused (cond u (after 1 i (call step rest (a - i) t bs)) (still (rest s) stopped) .how) ≡ true
             → TellsRun at (cond u (after 1 i (call step rest (a - i) t bs)) (still (rest s) stopped)) (firstRefused step needOf (suc at) t bs)
         reads t i true later e = one-more i (later (a - i) t e)
         reads t i false later e = absurd (never e)
 
         go : (x : Step S)
-            → ((k : ℕ) (t : S) → isRefused (call step rest k t bs .how) ≡ true → TellsRun (suc at) (call step rest k t bs) (firstRefused step needOf (suc at) t bs))
+            → ((k : ℕ) (t : S) → isRefused (call step rest k t bs .how) ≡ true
+            → TellsRun (suc at) (call step rest k t bs) (firstRefused step needOf (suc at) t bs))
             → isRefused (run x .how) ≡ true → TellsRun at (run x) (told-by x)
         go (next t i) later e = reads t i (leb i a) later e
         go (halt t) later e = absurd (never e)
@@ -124,7 +130,8 @@ module _ {S E : Type 0} (end : S → Option E) (s : calls.Session S) where
 -- A feed's telling has the number of the feed's answer.
 pub feed-number : {S E : Type 0} (areaOf : S → Area) (step : Setting → S → ℕ → Step S) (rest : Setting → S → S) (end : S → Option E)
     (needOf : S → ℕ → Option Shortage) (s : calls.Session S) (size a : ℕ) (bs : List ℕ)
-    → numberTold (feedTelling (step (s .setting)) needOf areaOf (rest (s .setting)) s size a bs) ≡ answerNumber (calls.feed areaOf step rest end s size a bs .answer)
+    → numberTold (feedTelling (step (s .setting)) needOf areaOf (rest (s .setting)) s size a bs)
+    ≡ answerNumber (calls.feed areaOf step rest end s size a bs .answer)
 unfolding feedTelling calls.feed numberTold answerNumber placeless
 feed-number {S} {E} areaOf step rest end needOf s size a bs = go (calls.feedRefusal areaOf s size a)
   where
@@ -180,7 +187,8 @@ pending-number s at r = go (settled s r .refusal)
     go (some n) = refl
 
 -- 9, 12, and then what the state says
-finish-number : {S : Type 0} (areaOf : S → Area) (ofState : Setting → S → Option Telling) (finishState : Setting → S → Finished) (s : calls.Session S) (size : ℕ)
+finish-number : {S : Type 0} (areaOf : S → Area) (ofState : Setting → S → Option Telling) (finishState : Setting → S → Finished)
+    (s : calls.Session S) (size : ℕ)
     → numberTold (ofState (s .setting) (s .state)) ≡ finishNumber (finishState (s .setting) (s .state))
     → numberTold (finishTelling areaOf ofState s size) ≡ finishNumber (calls.finishSession areaOf finishState s size)
 unfolding finishTelling calls.finishSession numberTold finishNumber placeless

@@ -25,7 +25,8 @@ use Rattle.words.specs.Memory.{placeNumbers, needNumbers, numbersOf, having, re
 use Rattle.words.proofs.MemoryLaws.{refusal-at, telling-back}
 use Rattle.explain.specs.declared.Explained.{Explained}
 use Rattle.explain.specs.declared.Explained.the-variants.{Fine, Refused}
-use Rattle.explain.specs.Explained.{placelessFor, unlessJudged, fedExplained, payloadFeedExplained, payloadFinishExplained, dcsFeedExplained, dcsFinishExplained}
+use Rattle.explain.specs.Explained.{placelessFor, unlessJudged, fedExplained, payloadFeedExplained, payloadFinishExplained, dcsFeedExplained}
+use Rattle.explain.specs.Explained.{dcsFinishExplained}
 use Rattle.owlgantry.specs.Explaining.{toldNumber, toldNumbers, toldAs, payloadFeedTold, payloadFinishTold, dcsFeedTold, dcsFinishTold}
 use Rattle.owlgantry.proofs.SessionCalls.{payload-held, core-held}
 

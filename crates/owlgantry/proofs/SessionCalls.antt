@@ -41,7 +41,9 @@ use Rattle.dcs.specs.Memory as dcsMemory
 use Rattle.dcs.specs.Session as dcs
 use Rattle.payload.specs.Meant.{finishMeant}
 use Rattle.owlgantry.specs.Reading.{reportNumbers, refusalNumber}
-use Rattle.owlgantry.specs.Sessions.{openingNumber, payloadNumber, payloadReport, endingKind, endingByte, dcsNumber, dcsReport, finishReport, payloadOpenedAs, payloadOpened, payloadFedAs, payloadFed, finishedAs, payloadFinished, dcsOpenedAs, dcsOpened, dcsFedAs, dcsFed, dcsFinished}
+use Rattle.owlgantry.specs.Sessions.{openingNumber, payloadNumber, payloadReport, endingKind, endingByte, dcsNumber, dcsReport, finishReport}
+use Rattle.owlgantry.specs.Sessions.{payloadOpenedAs, payloadOpened, payloadFedAs, payloadFed, finishedAs, payloadFinished, dcsOpenedAs, dcsOpened}
+use Rattle.owlgantry.specs.Sessions.{dcsFedAs, dcsFed, dcsFinished}
 
 -- a call by value told `z` of its outcome `y`; it was given `s`, which is the session `s′` that the memory holds
 called : {S Y Z : Type 0} {z : Z} {y : Y} {s s′ : S} (tell : Y → Z) (by : S → Y)
@@ -127,16 +129,17 @@ dcs-opened w h m n stride size owner own x eo e en er =
 
 -- ---- a feed
 
-pub payload-fed : (ns ts canvas bytes : List ℕ) (allowance : ℕ) {u : Setup} {life : Life} {f : Frame}
+-- `v` is the setup, read once more
+pub payload-fed : (ns ts canvas bytes : List ℕ) (allowance : ℕ) {u v : Setup} {life : Life} {f : Frame}
     (x : payloadFeeding.Fed) (l₁ ts′ : List ℕ) {ns′ report : List ℕ} {r : ℕ}
     → u ≡ payloadMemory.setupFrom ns → life ≡ lifeFrom (getD ns 10 0) → f ≡ payloadMemory.frameFrom ns
     → (payloadParts.fedOver u x ts′, l₁) ≡ payload.fedBy (payloadParts.over u life f (ofTable ts)) canvas bytes allowance
-    → ((p : Palette) → ns′ ≡ payloadMemory.numbersOf (payloadParts.over u (x .life) (x .frame) p))
+    → v ≡ payloadMemory.setupFrom ns → ((p : Palette) → ns′ ≡ payloadMemory.numbersOf (payloadParts.over v (x .life) (x .frame) p))
     → report ≡ payloadReport (x .answer) → r ≡ payloadNumber (x .answer)
     → (r, ns′, ts′, l₁, report) ≡ payloadFed ns ts canvas bytes allowance
 unfolding payloadFed payloadFedAs ofTable
-payload-fed ns ts canvas bytes allowance x l₁ ts′ eu el ef e en ep er =
-    called payloadFedAs (λ (s : payloadSession.Session). payload.fedBy s canvas bytes allowance) (rw (er, en (ofTable ts′), ep) refl) e
+payload-fed ns ts canvas bytes allowance x l₁ ts′ eu el ef e ev en ep er =
+    called payloadFedAs (λ (s : payloadSession.Session). payload.fedBy s canvas bytes allowance) (rw (er, en (ofTable ts′), ev ∙ sym eu, ep) refl) e
     (payload-held ns ts eu el ef)
 
 pub dcs-fed : (ns ts canvas bytes : List ℕ) (allowance : ℕ) {c : Core} (x : dcsFeeding.Fed) (l₁ ts′ : List ℕ) {ns′ report : List ℕ} {r : ℕ}

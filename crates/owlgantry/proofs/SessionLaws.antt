@@ -21,7 +21,8 @@ use Rattle.dcs.specs.Memory as dcsMemory
 use Rattle.dcs.specs.Session as dcs
 use Rattle.dcs.proofs.MemoryLaws as dcsLaws
 use Rattle.dcs.proofs.SessionRanges as dcsKept
-use Rattle.owlgantry.specs.Sessions.{payloadNumber, payloadOpenedAs, payloadOpened, payloadFedAs, payloadFed, finishedAs, payloadFinished, dcsNumber, dcsOpenedAs, dcsOpened, dcsFedAs, dcsFed, dcsFinished}
+use Rattle.owlgantry.specs.Sessions.{payloadNumber, payloadOpenedAs, payloadOpened, payloadFedAs, payloadFed, finishedAs, payloadFinished, dcsNumber}
+use Rattle.owlgantry.specs.Sessions.{dcsOpenedAs, dcsOpened, dcsFedAs, dcsFed, dcsFinished}
 
 -- ---- a payload session
 

@@ -86,7 +86,9 @@ pub extern "C" fn owlgantry_raw_payload_feed(
     );
     let answer = fed.answer;
     let after = fed.life;
-    *session = numbers_of(setup, after, fed.frame);
+    // Read once more, where it still lies, so that the call above has nothing of it to keep.
+    let kept = setup_from(session);
+    *session = numbers_of(kept, after, fed.frame);
     *report = payload_report(answer);
     payload_number(answer)
 }

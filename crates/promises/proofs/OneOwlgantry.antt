@@ -90,19 +90,24 @@ pub owlgantry-raw-dcs-finish-one : Seen owlgantry-raw-dcs-finish'.ps owlgantry-r
 owlgantry-raw-dcs-finish-one κs a z z' e e' p q = only p q
 
 -- the answer and what is told; a session and its registers are only read
-pub owlgantry-raw-payload-explain-one : OneWith owlgantry-raw-payload-explain'.ps owlgantry-raw-payload-explain'.r owlgantry-raw-payload-explain.Learnt (λ κs e. now (e .1 .1 .1 .1 .1 .0))
+pub owlgantry-raw-payload-explain-one : OneWith owlgantry-raw-payload-explain'.ps owlgantry-raw-payload-explain'.r
+    owlgantry-raw-payload-explain.Learnt (λ κs e. now (e .1 .1 .1 .1 .1 .0))
 owlgantry-raw-payload-explain-one κs a z z' e e' p q = only p q
 
-pub owlgantry-raw-payload-explain-finish-one : OneWith owlgantry-raw-payload-explain-finish'.ps owlgantry-raw-payload-explain-finish'.r owlgantry-raw-payload-explain-finish.Learnt (λ κs e. now (e .1 .1 .1 .0))
+pub owlgantry-raw-payload-explain-finish-one : OneWith owlgantry-raw-payload-explain-finish'.ps owlgantry-raw-payload-explain-finish'.r
+    owlgantry-raw-payload-explain-finish.Learnt (λ κs e. now (e .1 .1 .1 .0))
 owlgantry-raw-payload-explain-finish-one κs a z z' e e' p q = only p q
 
-pub owlgantry-raw-dcs-explain-one : OneWith owlgantry-raw-dcs-explain'.ps owlgantry-raw-dcs-explain'.r owlgantry-raw-dcs-explain.Learnt (λ κs e. now (e .1 .1 .1 .1 .1 .0))
+pub owlgantry-raw-dcs-explain-one : OneWith owlgantry-raw-dcs-explain'.ps owlgantry-raw-dcs-explain'.r
+    owlgantry-raw-dcs-explain.Learnt (λ κs e. now (e .1 .1 .1 .1 .1 .0))
 owlgantry-raw-dcs-explain-one κs a z z' e e' p q = only p q
 
-pub owlgantry-raw-dcs-explain-finish-one : OneWith owlgantry-raw-dcs-explain-finish'.ps owlgantry-raw-dcs-explain-finish'.r owlgantry-raw-dcs-explain-finish.Learnt (λ κs e. now (e .1 .1 .1 .0))
+pub owlgantry-raw-dcs-explain-finish-one : OneWith owlgantry-raw-dcs-explain-finish'.ps owlgantry-raw-dcs-explain-finish'.r
+    owlgantry-raw-dcs-explain-finish.Learnt (λ κs e. now (e .1 .1 .1 .0))
 owlgantry-raw-dcs-explain-finish-one κs a z z' e e' p q = only p q
 
-pub owlgantry-raw-read-explain-one : OneWith owlgantry-raw-read-explain'.ps owlgantry-raw-read-explain'.r owlgantry-raw-read-explain.Learnt (λ κs e. now (e .1 .1 .1 .1 .1 .1 .1 .1 .0))
+pub owlgantry-raw-read-explain-one : OneWith owlgantry-raw-read-explain'.ps owlgantry-raw-read-explain'.r
+    owlgantry-raw-read-explain.Learnt (λ κs e. now (e .1 .1 .1 .1 .1 .1 .1 .1 .0))
 owlgantry-raw-read-explain-one κs a z z' e e' p q = only p q
 
 -- the answer and the buffer

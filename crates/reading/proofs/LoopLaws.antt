@@ -12,6 +12,7 @@ use Rattle.frame.specs.declared.Kind.the-variants as kinds
 use Rattle.fast.specs.declared.Advance.{Advance}
 use Rattle.frame.specs.Commands.{withCommand, noCommand}
 use Rattle.reference.specs.Step.{Reached, Fits}
+use Rattle.reference.specs.Feed.{feedFrom}
 use Rattle.fast.specs.Argument.{onwards}
 use Rattle.fast.specs.Advance.{afterAdvance, Advances}
 use Rattle.reading.specs.Loop.{joinedTo}
@@ -116,3 +117,12 @@ module _ {g : Ground} {allowance : ℕ} {bytes : List ℕ} {whole : Reached} {ro
       go : (t : Bool) → 2 * (length bytes - r .end) + pending (cond t noCommand (f .command) .kind) ≤ left-over bytes i f
       go true = omega (arith, advances .onward)
       go false = omega (arith, advances .onward)
+
+-- ---- a frame made anew
+
+pub fits-anew : {f anew : Frame} {g : Ground} {room : ℕ} → anew ≡ f → Fits f g room → Fits anew g room
+fits-anew {g = g} {room = room} same = subst (λ (x : Frame). Fits x g room) (sym same)
+
+pub read-anew : (g : Ground) (allowance : ℕ) (bytes : List ℕ) (p : Palette) (l : List ℕ) {f anew : Frame} {r : Reached} → anew ≡ f
+    → r ≡ feedFrom g allowance bytes 0 0 anew p l → r ≡ feedFrom g allowance bytes 0 0 f p l
+read-anew g allowance bytes p l same read = read ∙ ap (λ (x : Frame). feedFrom g allowance bytes 0 0 x p l) same

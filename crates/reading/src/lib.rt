@@ -165,7 +165,9 @@ pub fn process(
     ensures { λ r. ⌜ record { progress = r; palette = ofTable (now (colors .exit)); canvas = now (canvas .exit) }
         ≡ feedFrom ground allowance (now (bytes .entry)) 0 0 frame (ofTable (now (colors .entry))) (now (canvas .entry)) ⌝ }
 {
-    let mut now = frame;
+    // Made anew: a caller has just written it number by number, and eight bytes read at once where one and its padding were written are
+    // waited for. A call with one byte feels it.
+    let mut now = renewed(frame);
     let mut consumed = 0;
     let mut ink = 0;
     while consumed < bytes.len() {

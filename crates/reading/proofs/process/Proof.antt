@@ -10,7 +10,7 @@ use lib.ListN.{length}
 use Rattle.colours.specs.Palette.{ofTable}
 use Rattle.reference.specs.Feed.{feedFrom}
 use Rattle.reference.proofs.FeedLaws.{Going, left-over, going-done, step-ink, step-within, step-less, step-stops, going-on, looping}
-use Rattle.reading.proofs.LoopLaws.{advance-ink, advance-left, going-advanced}
+use Rattle.reading.proofs.LoopLaws.{advance-ink, advance-left, going-advanced, fits-anew, read-anew}
 use Rattle.reading.proofs.process.Statement.{statement}
 use Rattle.reading.proofs.process.Tie as tie
 
@@ -27,8 +27,11 @@ abbrev μ-loop : tie.MeasureT-loop
 abbrev loop-at : tie.After-read-fast Inv-loop μ-loop → tie.At-loop Inv-loop μ-loop
 loop-at c = c .before .before .before .before
 
+abbrev entered : tie.After-read-fast Inv-loop μ-loop → tie.After-renewed Inv-loop μ-loop
+entered c = loop-at c .before
+
 abbrev start : tie.After-read-fast Inv-loop μ-loop → tie.Start Inv-loop μ-loop
-start c = loop-at c .before .before .before
+start c = entered c .before .before .before
 
 -- the invariant holds there, with the frame that is resumed
 abbrev read : tie.After-resume Inv-loop μ-loop → tie.After-read-fast Inv-loop μ-loop
@@ -36,7 +39,7 @@ read c = c .before .before .before
 
 advanced : (c : tie.After-resume Inv-loop μ-loop)
     → Going (start (read c) .args .ground) (start (read c) .args .allowance) (now (start (read c) .args .bytes))
-    (feedFrom (start (read c) .args .ground) (start (read c) .args .allowance) (now (start (read c) .args .bytes)) 0 0 (start (read c) .args .frame)
+    (feedFrom (start (read c) .args .ground) (start (read c) .args .allowance) (now (start (read c) .args .bytes)) 0 0 (entered (read c) .renewed .result)
     (ofTable (now (start (read c) .args .colors)))
     (now (start (read c) .args .canvas)))
     (length (now (start (read c) .args .canvas)))
@@ -48,8 +51,11 @@ advanced : (c : tie.After-resume Inv-loop μ-loop)
 advanced c =
     going-advanced (loop-at (read c) .loop .inv) (read c .read-fast .ensures) (c .resume .ensures) (read c .read-fast .kept .1 .1 .1 .0)
 
+renewed-requires : tie.Need-renewed-requires Inv-loop μ-loop
+renewed-requires c κs = search needs
+
 loop-holds : tie.Need-loop-holds Inv-loop μ-loop
-loop-holds c = search (needs, looping)
+loop-holds c = search (needs, looping, fits-anew)
 
 sub-read-fast : tie.Need-sub-read-fast Inv-loop μ-loop
 sub-read-fast c = c .before .before .before .loop .inv .spent
@@ -74,7 +80,8 @@ same-length c = advanced (c .before .before .before) .long
 returns : tie.Need-returns Inv-loop μ-loop
 returns c =
     let all = c .before in
-    going-done (advanced (all .before .before)) (omega (arith, all .if1 .taken)) (c .reached .ensures)
+    let done = going-done (advanced (all .before .before)) (omega (arith, all .if1 .taken)) (c .reached .ensures) in
+    search (needs, read-anew, done, entered (read (all .before .before)) .renewed .ensures)
 
 -- the frame that is resumed, where a byte is left after it
 abbrev resumed : tie.Else1 Inv-loop μ-loop → tie.After-resume Inv-loop μ-loop
@@ -139,7 +146,8 @@ returns-2 : tie.Need-returns-2 Inv-loop μ-loop
 returns-2 c =
     let byte = c .before .before .before .before .before in
     let e = left byte in
-    step-stops (advanced (resumed e)) (byte .read-byte .ensures) (more e) (c .before .match .keys2) (c .reached2 .ensures)
+    let stops = step-stops (advanced (resumed e)) (byte .read-byte .ensures) (more e) (c .before .match .keys2) (c .reached2 .ensures) in
+    search (needs, read-anew, stops, entered (read (resumed e)) .renewed .ensures)
 
 reached-requires-3 : tie.Need-reached-requires-3 Inv-loop μ-loop
 reached-requires-3 c κs = search needs
@@ -148,7 +156,7 @@ same-length-3 : tie.Need-same-length-3 Inv-loop μ-loop
 same-length-3 c = search (needs, looping)
 
 returns-3 : tie.Need-returns-3 Inv-loop μ-loop
-returns-3 c = search (needs, looping)
+returns-3 c = search (needs, looping, read-anew)
 
 pub process-spec : {M : Type 1} → statement M
 process-spec =
@@ -156,6 +164,7 @@ process-spec =
     (tie.spec
     Inv-loop
     μ-loop
+    renewed-requires
     loop-holds
     sub-read-fast
     read-fast-requires

@@ -21,6 +21,9 @@ frame-from-requires c κs = search needs
 feed-requires : tie.Need-feed-requires
 feed-requires c κs = search needs
 
+setup-from-requires-2 : tie.Need-setup-from-requires-2
+setup-from-requires-2 c κs = search needs
+
 numbers-of-requires : tie.Need-numbers-of-requires
 numbers-of-requires c κs = search needs
 
@@ -36,11 +39,13 @@ same-length c = search needs
 returns : tie.Need-returns
 returns c =
     let stored = c .before .before in
-    let fed = stored .before .before .before in
+    let kept = stored .before in
+    let fed = kept .before .before .before .before in
     let framed = fed .before .before .before in
     let lived = framed .before .before in
     payload-fed _ _ _ _ _ _ _ _ (lived .before .before .setup-from .ensures) (lived .life-from .ensures) (framed .frame-from .ensures)
-    (fed .feed .ensures) (stored .numbers-of .ensures) (c .before .payload-report .ensures) (c .payload-number .ensures)
+    (fed .feed .ensures) (kept .setup-from2 .ensures) (stored .numbers-of .ensures) (c .before .payload-report .ensures)
+    (c .payload-number .ensures)
 
 pub owlgantry-raw-payload-feed-spec : {M : Type 1} → statement M
 owlgantry-raw-payload-feed-spec =
@@ -51,6 +56,7 @@ owlgantry-raw-payload-feed-spec =
     life-from-requires
     frame-from-requires
     feed-requires
+    setup-from-requires-2
     numbers-of-requires
     payload-report-requires
     payload-number-requires
