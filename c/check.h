@@ -50,6 +50,7 @@ void test_examples(void);
 void test_refusals(void);
 void test_calls(void);
 void test_marks(void);
+void test_held(void);
 void test_damage(void);
 void test_tellings(void);
 

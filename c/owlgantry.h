@@ -28,7 +28,7 @@
 #include <stdint.h>
 
 /* The version that the file VERSION names; CHANGELOG.md says what it brings. */
-#define OWLGANTRY_VERSION "0.8.1"
+#define OWLGANTRY_VERSION "0.9.0"
 
 #if SIZE_MAX != UINT64_MAX
 #error "the reader is made for machines whose size_t has 64 bits"
@@ -113,11 +113,11 @@ void owlgantry_raw_standard_palette(uint32_t out[OWLGANTRY_REGISTERS]);
 /* Reads all at once (docs/RULES.md, section 8): the part after the first introducer and its header, or the whole where
  * there is no introducer. The palette becomes the picture's where there is one. Reports width, height, right, bottom,
  * the ratio's kind and number, 1 for a transparent background, how many registers the picture defined, the declared
- * width and height, and the place and the length of the payload among the bytes. On a refusal the first ten are 0; on
- * 2, 3, 8 and 11 the payload is empty, at the end of the bytes. */
+ * width and height, how many definitions had a held value, and the place and the length of the payload among the bytes.
+ * On a refusal the first eleven are 0; on 2, 3, 8 and 11 the payload is empty, at the end of the bytes. */
 uint64_t owlgantry_raw_read(size_t width, size_t height, size_t repeats, size_t pixels, size_t stride, uint8_t *canvas,
                             size_t canvas_length, const uint8_t *bytes, size_t bytes_length,
-                            uint32_t palette[OWLGANTRY_REGISTERS], uint64_t report[12]);
+                            uint32_t palette[OWLGANTRY_REGISTERS], uint64_t report[13]);
 
 /* Copies a picture's rows, tightly packed, to the front of `out`, whose later bytes stay. Answers 0, 12 or 14
  * (docs/RULES.md, section 10). */
@@ -139,12 +139,12 @@ uint64_t owlgantry_raw_payload_feed(uint64_t session[OWLGANTRY_SESSION_NUMBERS],
                                     uint32_t registers[OWLGANTRY_REGISTERS], uint8_t *canvas, size_t canvas_length,
                                     const uint8_t *bytes, size_t bytes_length, size_t allowance, uint64_t report[4]);
 
-/* Carries a pending command out and reports the ten numbers that owlgantry_raw_read reports first. The palette gets
- * the session's colours and marks; on a refusal it stays as it was, the canvas too, and the report is ten zeros. The
+/* Carries a pending command out and reports the eleven numbers that owlgantry_raw_read reports first. The palette gets
+ * the session's colours and marks; on a refusal it stays as it was, the canvas too, and the report is eleven zeros. The
  * session's numbers are zeros afterwards. */
 uint64_t owlgantry_raw_payload_finish(uint64_t session[OWLGANTRY_SESSION_NUMBERS],
                                       const uint32_t registers[OWLGANTRY_REGISTERS], uint8_t *canvas,
-                                      size_t canvas_length, uint32_t palette[OWLGANTRY_REGISTERS], uint64_t report[10]);
+                                      size_t canvas_length, uint32_t palette[OWLGANTRY_REGISTERS], uint64_t report[11]);
 
 /* The same for a whole DCS sequence: introducer, header, payload and its end. Opening takes the length of the canvas
  * and writes nothing to it; pixel (0, 0) gets the background at `q`. Before an end, a finish answers 8. */
@@ -160,7 +160,7 @@ uint64_t owlgantry_raw_dcs_feed(uint64_t session[OWLGANTRY_SESSION_NUMBERS], uin
 
 uint64_t owlgantry_raw_dcs_finish(uint64_t session[OWLGANTRY_SESSION_NUMBERS],
                                   const uint32_t registers[OWLGANTRY_REGISTERS], uint8_t *canvas, size_t canvas_length,
-                                  uint32_t palette[OWLGANTRY_REGISTERS], uint64_t report[10]);
+                                  uint32_t palette[OWLGANTRY_REGISTERS], uint64_t report[11]);
 
 /* What a call is refused with (rules 5.9 and 5.10): each answers what the call answers that it is named after, on a
  * canvas of that length, and tells seven numbers, those of owlgantry_telling. They are zeros where the answer is 0. No
@@ -219,9 +219,13 @@ typedef struct {
  * Declared width and height are the size that the sender declared, by raster commands, each 0 where it declared none
  * (rule 4.7). A sixel is six rows, so that a picture may be up to five rows taller than it was drawn: these say how
  * tall it was meant to be. They are below width and height also where more was drawn than was declared, and never above
- * them, unless a caller has changed a session's numbers. */
+ * them, unless a caller has changed a session's numbers.
+ *
+ * Held is how many of the picture's colour definitions had at least one value outside 0 to 100, which was held to 0 or
+ * 100 (rule 9.10). A sender that takes bytes for percents is told by it. Nothing is refused for it. */
 typedef struct {
-    uint64_t width, height, right, bottom, ratio_kind, ratio, transparent, defined, declared_width, declared_height;
+    uint64_t width, height, right, bottom, ratio_kind, ratio, transparent, defined, declared_width, declared_height,
+        held;
 } owlgantry_picture;
 
 /* The payload among the bytes. */
@@ -280,7 +284,7 @@ static inline owlgantry_fed owlgantry_fed_of(const uint64_t report[4]) {
     return fed;
 }
 
-static inline owlgantry_picture owlgantry_picture_of(const uint64_t report[10]) {
+static inline owlgantry_picture owlgantry_picture_of(const uint64_t report[11]) {
     owlgantry_picture picture;
     picture.width = report[0];
     picture.height = report[1];
@@ -292,6 +296,7 @@ static inline owlgantry_picture owlgantry_picture_of(const uint64_t report[10]) 
     picture.defined = report[7];
     picture.declared_width = report[8];
     picture.declared_height = report[9];
+    picture.held = report[10];
     return picture;
 }
 
@@ -337,12 +342,12 @@ static inline void owlgantry_set_color(uint32_t palette[OWLGANTRY_REGISTERS], si
 static inline uint64_t owlgantry_read(owlgantry_limits limits, owlgantry_canvas canvas, const void *bytes, size_t count,
                                       uint32_t palette[OWLGANTRY_REGISTERS], owlgantry_picture *picture,
                                       owlgantry_part *part) {
-    uint64_t report[12];
+    uint64_t report[13];
     uint64_t refusal = owlgantry_raw_read(limits.width, limits.height, limits.repeats, limits.pixels, canvas.stride,
                                           canvas.bytes, canvas.length, (const uint8_t *)bytes, count, palette, report);
     *picture = owlgantry_picture_of(report);
-    part->place = report[10];
-    part->length = report[11];
+    part->place = report[11];
+    part->length = report[12];
     return refusal;
 }
 
@@ -369,7 +374,7 @@ static inline uint64_t owlgantry_payload_feed(owlgantry_session *session, owlgan
 
 static inline uint64_t owlgantry_payload_finish(owlgantry_session *session, owlgantry_canvas canvas,
                                                 uint32_t palette[OWLGANTRY_REGISTERS], owlgantry_picture *picture) {
-    uint64_t report[10];
+    uint64_t report[11];
     uint64_t refusal = owlgantry_raw_payload_finish(session->numbers, session->registers, canvas.bytes, canvas.length,
                                                     palette, report);
     *picture = owlgantry_picture_of(report);
@@ -393,7 +398,7 @@ static inline uint64_t owlgantry_dcs_feed(owlgantry_session *session, owlgantry_
 
 static inline uint64_t owlgantry_dcs_finish(owlgantry_session *session, owlgantry_canvas canvas,
                                             uint32_t palette[OWLGANTRY_REGISTERS], owlgantry_picture *picture) {
-    uint64_t report[10];
+    uint64_t report[11];
     uint64_t refusal =
         owlgantry_raw_dcs_finish(session->numbers, session->registers, canvas.bytes, canvas.length, palette, report);
     *picture = owlgantry_picture_of(report);

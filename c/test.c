@@ -6,6 +6,7 @@ int main(void) {
     test_refusals();
     test_calls();
     test_marks();
+    test_held();
     test_damage();
     test_tellings();
     summary();

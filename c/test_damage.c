@@ -99,7 +99,7 @@ static void check_feeds(const char *name, kind which) {
 }
 
 static void check_finish(const char *name, kind which) {
-    static const uint64_t nothing[10];
+    static const uint64_t nothing[11];
     uint32_t owner[OWLGANTRY_REGISTERS];
     memcpy(owner, palette, sizeof owner);
     uint64_t told = explain_one(which, NULL, 0);
@@ -202,11 +202,32 @@ static void lower_the_limit(kind which, const char *text) {
     holds(name, "nothing else is written", untouched_outside(eight, 8, 6));
 }
 
+/* Number 44 is the count of definitions that had a held value. It stays at the largest number of 64 bits. */
+static void count_to_the_largest(kind which, const char *start, const char *end) {
+    const char *name = which == DCS ? "a DCS session's held values" : "a payload session's held values";
+    owlgantry_session *session = lend(sizeof *session);
+    owlgantry_canvas eight = fresh_canvas(8, 12);
+    owlgantry_limits limits = owlgantry_limits_of(8, 12, 1024, 768);
+    owlgantry_fed fed;
+    owlgantry_picture picture;
+    for (uint64_t below = 0; below < 4; below++) {
+        same(name, "the opening", open_session(which, session, limits, eight, palette), 0);
+        same(name, "a first feed", feed_session(which, session, eight, start, strlen(start), SIZE_MAX, &fed), 0);
+        same(name, "the count", session->numbers[44], 1);
+        session->numbers[44] = UINT64_MAX - below;
+        same(name, "a second feed", feed_session(which, session, eight, end, strlen(end), SIZE_MAX, &fed), 0);
+        same(name, "the finish", finish_session(which, session, eight, palette, &picture), 0);
+        same(name, "held", picture.held, below < 2 ? UINT64_MAX : UINT64_MAX - below + 2);
+        same(name, "width", picture.width, 1);
+        same(name, "defined", picture.defined, 2);
+    }
+}
+
 void test_damage(void) {
     numbers = lend(8 * OWLGANTRY_SESSION_NUMBERS);
     registers = lend(4 * OWLGANTRY_REGISTERS);
     palette = lend(4 * OWLGANTRY_REGISTERS);
-    report = lend(8 * 10);
+    report = lend(8 * 11);
     telling = lend(8 * 7);
     canvas = lend(LENGTH);
     stream = lend(64);
@@ -214,6 +235,7 @@ void test_damage(void) {
     flip_each_bit(PAYLOAD, "");
     flip_each_bit(PAYLOAD, "#1;2;3~-!4");
     flip_each_bit(PAYLOAD, "!20~-!20~-\"1;1;21");
+    flip_each_bit(PAYLOAD, "#1;2;101;0;0~#2;1;0;50;101");
     flip_each_bit(DCS, "");
     flip_each_bit(DCS, "\033P1;");
     flip_each_bit(DCS, "\x90q\"1;1;3~#2;");
@@ -225,4 +247,6 @@ void test_damage(void) {
     mistake_the_kind();
     lower_the_limit(PAYLOAD, "#1;2;100;0;0!8~");
     lower_the_limit(DCS, "\x90q#1;2;100;0;0!8~\x9c");
+    count_to_the_largest(PAYLOAD, "#1;2;101;0;0~", "#1;1;0;0;101$#2;2;0;0;255");
+    count_to_the_largest(DCS, "\x90q#1;2;101;0;0~", "#1;1;0;0;101$#2;2;0;0;255\x9c");
 }

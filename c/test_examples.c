@@ -108,6 +108,7 @@ static void check_picture(const example *it, const char *name, owlgantry_canvas 
     same(name, "transparent", picture.transparent, 0);
     same(name, "the declared width", picture.declared_width, it->declared_width);
     same(name, "the declared height", picture.declared_height, it->declared_height);
+    same(name, "held", picture.held, 0); /* every value is a percent, or a hue */
     if (it->refusal == 0) {
         check_pixels(it, name, canvas);
     }

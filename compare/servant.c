@@ -14,7 +14,7 @@ static struct {
     uint64_t framed, w, h, r, m, stride, p1, p2, size;
 } opening;
 static uint32_t palette[OWLGANTRY_REGISTERS], registers[OWLGANTRY_REGISTERS];
-static uint64_t session[OWLGANTRY_SESSION_NUMBERS + 16], answer[13]; /* the last 16 are a guard: nobody is lent them */
+static uint64_t session[OWLGANTRY_SESSION_NUMBERS + 16], answer[14]; /* the last 16 are a guard: nobody is lent them */
 static uint8_t *buffer, *bytes;
 static size_t room_of_bytes;
 
@@ -112,8 +112,8 @@ int main(void) {
         switch (command) {
         case 'o': answer[0] = open_session(); break;
         case 'f': answer[0] = feed(); numbers = 5; break;
-        case 'x': answer[0] = finish(); numbers = 11; break;
-        case 'r': answer[0] = read_all(); numbers = 13; break;
+        case 'x': answer[0] = finish(); numbers = 12; break;
+        case 'r': answer[0] = read_all(); numbers = 14; break;
         case 'c': copy(); numbers = 0; break;
         case 'p': standard_palette(); numbers = 0; break;
         case 'm': give_memory(); numbers = 0; break;

@@ -65,7 +65,7 @@ impl Lent {
         let Limits { width: w, height: h, repeats: r, pixels: m } = self.limits;
         let (canvas, length) = (self.canvas.as_mut_ptr(), self.canvas.len());
         let (bytes, count) = (sequence.as_ptr(), sequence.len());
-        let (mut palette, mut report) = (standard_palette(), [0; 12]);
+        let (mut palette, mut report) = (standard_palette(), [0; 13]);
         let (stride, registers, numbers) = (self.stride, &mut palette, &mut report);
         // SAFETY: canvas and bytes have their slices' lengths, palette and report those of their types; all but the bytes are
         // exclusive.

@@ -13,7 +13,7 @@ type Feed =
     unsafe extern "C" fn(*mut Numbers, *mut Registers, *mut u8, usize, *const u8, usize, usize, *mut [u64; 4]) -> u64;
 
 type Finish =
-    unsafe extern "C" fn(*mut Numbers, *const Registers, *mut u8, usize, *mut Registers, *mut [u64; 10]) -> u64;
+    unsafe extern "C" fn(*mut Numbers, *const Registers, *mut u8, usize, *mut Registers, *mut [u64; 11]) -> u64;
 
 struct Session {
     numbers: Numbers,
@@ -65,7 +65,7 @@ impl Session {
     }
 
     fn finish(mut self, canvas: &mut [u8], mut palette: Registers) -> Size {
-        let (numbers, registers, mut report) = (&mut self.numbers, &self.registers, [0; 10]);
+        let (numbers, registers, mut report) = (&mut self.numbers, &self.registers, [0; 11]);
         // SAFETY: as in `feed`; the registers are only read.
         let answer =
             unsafe { (self.finish)(numbers, registers, canvas.as_mut_ptr(), canvas.len(), &mut palette, &mut report) };

@@ -83,7 +83,7 @@ fn session(
     if calls.refused != 0 {
         same("refusal", (calls.refused, false), (u64::from(answer.refusal), answer.at_finish))?;
         same("feed after a refusal", reader.feed(b"~", LEAST, 0), (9, [0; 4]))?;
-        same("finish after a refusal", reader.finish(), (9, [0; 10]))?;
+        same("finish after a refusal", reader.finish(), (9, [0; 11]))?;
         return Ok(model.defined);
     }
     same("refusal in a feed", false, answer.refusal != 0 && !answer.at_finish)?;
@@ -192,7 +192,7 @@ fn status(entry: Entry, [how, _, _, byte]: [u64; 4]) -> Status {
 ///
 /// The Rust has no extent to compare with: its reach counts blank columns and whole bands. But where the background is
 /// clear, the opaque pixels of its picture are just the painted ones.
-fn finished(expected: &Expected, ours: (u64, [u64; 10]), counted: Result<[u64; 10], u64>) -> Same {
+fn finished(expected: &Expected, ours: (u64, [u64; 11]), counted: Result<[u64; 11], u64>) -> Same {
     let (number, report) = ours;
     if number == 0 {
         let [width, height, right, bottom, kind, ratio, transparent, ..] = report;
@@ -209,10 +209,11 @@ fn finished(expected: &Expected, ours: (u64, [u64; 10]), counted: Result<[u64; 1
         same("ratio", vertical, u16::from(answer.ratio))?;
         same("background", transparent, u64::from(!answer.opaque))?;
     }
-    let counted = counted.map_or_else(|number| (number, [0; 10]), |report| (0, report));
+    let counted = counted.map_or_else(|number| (number, [0; 11]), |report| (0, report));
     same("extent", &report[2..4], &counted.1[2..4])?;
     same("registers defined", report[7], counted.1[7])?;
-    same("declared size", &report[8..], &counted.1[8..])?;
+    same("declared size", &report[8..10], &counted.1[8..10])?;
+    same("definitions held", report[10], counted.1[10])?;
     same("finish's numbers", (number, report), counted)
 }
 

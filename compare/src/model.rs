@@ -1,7 +1,7 @@
 //! The rules of reading (docs/RULES.md), without pixels and colours: what each call has to answer, and the ink of every draw.
 //!
 //! Written from the document and not from either reader, so that calls, stops, ink, extent, the registers that are
-//! defined and the declared size are counted by a third party.
+//! defined, the declared size and the definitions with a held value are counted by a third party.
 use crate::values::{ends, header_byte, skipped, Settings, Values};
 
 /// What a session is opened with: W, H, R, M, and the canvas's stride and rows.
@@ -85,6 +85,8 @@ pub struct Model {
     kept: [u64; 2],
     /// The registers that a colour command has defined, in this frame.
     pub defined: Marks,
+    /// The definitions that had a value above 100.
+    held: u64,
     /// The ink of all draws, those of a refused call too.
     pub ink: u128,
 }
@@ -112,6 +114,7 @@ impl Model {
             ratio: None,
             kept: [0, 0],
             defined: [false; 256],
+            held: 0,
             ink: 0,
         }
     }
@@ -269,8 +272,11 @@ impl Model {
             Command::Repeat(number) => self.repeat = (number as u64).max(1),
             Command::Colour(values) => {
                 let values = values.all();
-                if let [register, 1 | 2, _, _, _] = values[..] {
+                if let [register, space @ (1 | 2), first, second, third] = values[..] {
                     self.defined[register.min(255) as usize] = true;
+                    // Of HLS the first is a hue, and any hue is within.
+                    let largest = if space == 1 { second.max(third) } else { first.max(second).max(third) };
+                    self.held += u64::from(largest > 100);
                 }
                 effects(Effect::Colour { values });
             }
@@ -298,8 +304,8 @@ impl Model {
         Ok(())
     }
 
-    /// The ten numbers of a finish.
-    pub fn finish(&mut self, effects: Effects) -> Result<[u64; 10], u64> {
+    /// The eleven numbers of a finish.
+    pub fn finish(&mut self, effects: Effects) -> Result<[u64; 11], u64> {
         match self.phase {
             Phase::Failed => return Err(9),
             Phase::End(..) => {}
@@ -315,7 +321,7 @@ impl Model {
         let transparent = u64::from(self.settings[1] == Some(1));
         let defined = self.defined.iter().filter(|&&defined| defined).count() as u64;
         let ([width, height], [right, bottom], [columns, rows]) = (self.area, self.extent, self.kept);
-        Ok([width, height, right, bottom, kind, number, transparent, defined, columns, rows])
+        Ok([width, height, right, bottom, kind, number, transparent, defined, columns, rows, self.held])
     }
 }
 

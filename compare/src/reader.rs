@@ -63,8 +63,8 @@ pub trait Reader {
     fn open(&mut self, opening: &Opening) -> u64;
     /// `short` bytes at the canvas's end are not lent.
     fn feed(&mut self, bytes: &[u8], allowance: usize, short: usize) -> (u64, [u64; 4]);
-    fn finish(&mut self) -> (u64, [u64; 10]);
-    fn read(&mut self, opening: &Opening, bytes: &[u8]) -> (u64, [u64; 12]);
+    fn finish(&mut self) -> (u64, [u64; 11]);
+    fn read(&mut self, opening: &Opening, bytes: &[u8]) -> (u64, [u64; 13]);
     /// Copies a picture from the canvas to a buffer that holds `out`, and hands that buffer back.
     fn copy(&mut self, size: [usize; 2], out: Vec<u8>) -> (u64, Vec<u8>);
     fn standard_palette(&mut self) -> Registers;
@@ -129,8 +129,8 @@ mod linked {
             (number, report)
         }
 
-        fn finish(&mut self) -> (u64, [u64; 10]) {
-            let mut report = [UNWRITTEN; 10];
+        fn finish(&mut self) -> (u64, [u64; 11]) {
+            let mut report = [UNWRITTEN; 11];
             let call = if self.framed { ffi::owlgantry_raw_dcs_finish } else { ffi::owlgantry_raw_payload_finish };
             let (canvas, len, own) = self.parts();
             let session = own.session.as_mut_ptr().cast();
@@ -138,10 +138,10 @@ mod linked {
             (number, report)
         }
 
-        fn read(&mut self, opening: &Opening, bytes: &[u8]) -> (u64, [u64; 12]) {
+        fn read(&mut self, opening: &Opening, bytes: &[u8]) -> (u64, [u64; 13]) {
             self.memory = Memory::of(opening);
             self.stride = opening.stride;
-            let mut report = [UNWRITTEN; 12];
+            let mut report = [UNWRITTEN; 13];
             let ([w, h, r, m], stride) = (opening.limits, opening.stride);
             let (canvas, len, own) = self.parts();
             let (start, size, owner) = (bytes.as_ptr(), bytes.len(), &mut own.palette);

@@ -25,13 +25,13 @@ impl Reader for Recorded<'_> {
         answer
     }
 
-    fn finish(&mut self) -> (u64, [u64; 10]) {
+    fn finish(&mut self) -> (u64, [u64; 11]) {
         let answer = self.inner.finish();
         self.note("finish", answer);
         answer
     }
 
-    fn read(&mut self, opening: &Opening, bytes: &[u8]) -> (u64, [u64; 12]) {
+    fn read(&mut self, opening: &Opening, bytes: &[u8]) -> (u64, [u64; 13]) {
         let answer = self.inner.read(opening, bytes);
         self.note(&format!("read {} bytes", bytes.len()), answer);
         answer

@@ -86,17 +86,17 @@ impl Reader for Servant {
         (number, report)
     }
 
-    fn finish(&mut self) -> (u64, [u64; 10]) {
+    fn finish(&mut self) -> (u64, [u64; 11]) {
         self.give(b"x");
-        let [number, report @ ..] = self.take_numbers::<11>();
+        let [number, report @ ..] = self.take_numbers::<12>();
         (number, report)
     }
 
-    fn read(&mut self, opening: &Opening, bytes: &[u8]) -> (u64, [u64; 12]) {
+    fn read(&mut self, opening: &Opening, bytes: &[u8]) -> (u64, [u64; 13]) {
         self.give(b"r");
         self.give_opening(opening);
         self.give_bytes(bytes);
-        let [number, report @ ..] = self.take_numbers::<13>();
+        let [number, report @ ..] = self.take_numbers::<14>();
         (number, report)
     }
 

@@ -12,17 +12,23 @@ pub struct StandIn {
 }
 
 /// What effects change; the canvas's bytes and the registers are those of the memory.
-#[derive(Clone, Copy, Default)]
+#[derive(Default)]
 struct Canvas {
     stride: usize,
     area: [usize; 2],
     background: [u8; 4],
     colour: [u8; 4],
+    definitions: Vec<[u64; 5]>,
 }
 
 impl StandIn {
     pub fn new() -> Self {
         Self { memory: Memory::empty(), model: None, canvas: Canvas::default() }
+    }
+
+    /// The values of each definition that the picture has carried out.
+    pub fn definitions(&self) -> &[[u64; 5]] {
+        &self.canvas.definitions
     }
 
     fn start(&mut self, opening: &Opening) -> Bounds {
@@ -53,7 +59,8 @@ impl Canvas {
             }
             Effect::Colour { values } => {
                 let register = values.first().map_or(0, |&value| value.min(255) as usize);
-                if let [_, space @ (1 | 2), a, b, c] = values[..] {
+                if let [given, space @ (1 | 2), a, b, c] = values[..] {
+                    self.definitions.push([given, space, a, b, c]);
                     let [a, b, c] = [a, b, c].map(|value| value as i32);
                     let [r, g, b] = if space == 1 { peek_hls(a, b, c) } else { [a, b, c].map(peek_percent) };
                     registers[register] = FRAME + MARK + u32::from_be_bytes([0, r, g, b]);
@@ -122,7 +129,7 @@ impl Reader for StandIn {
         numbered(fed)
     }
 
-    fn finish(&mut self) -> (u64, [u64; 10]) {
+    fn finish(&mut self) -> (u64, [u64; 11]) {
         let Self { memory, canvas, model } = self;
         let mut registers = memory.registers;
         let lent = memory.canvas();
@@ -135,12 +142,12 @@ impl Reader for StandIn {
         numbered(finished)
     }
 
-    fn read(&mut self, opening: &Opening, bytes: &[u8]) -> (u64, [u64; 12]) {
+    fn read(&mut self, opening: &Opening, bytes: &[u8]) -> (u64, [u64; 13]) {
         let bounds = self.start(opening);
         let end = bytes.len() as u64;
         let (settings, place) = match values::part(bytes) {
             Ok(found) => found,
-            Err(number) => return (number, [0, 0, 0, 0, 0, 0, 0, 0, 0, 0, end, 0]),
+            Err(number) => return (number, [0, 0, 0, 0, 0, 0, 0, 0, 0, 0, 0, end, 0]),
         };
         let Self { memory, canvas, .. } = self;
         let mut registers = memory.registers;
@@ -153,9 +160,9 @@ impl Reader for StandIn {
             memory.palette = lasting(registers);
         }
         let (number, picture) = numbered(finished);
-        let mut report = [0; 12];
-        report[..10].copy_from_slice(&picture);
-        report[10..].copy_from_slice(&[place as u64, end - place as u64]);
+        let mut report = [0; 13];
+        report[..11].copy_from_slice(&picture);
+        report[11..].copy_from_slice(&[place as u64, end - place as u64]);
         (number, report)
     }
 

@@ -199,7 +199,7 @@ fn long_number(random: &mut Random) -> String {
     format!("{lead}{}", if random.below(2) == 0 { digits } else { none + "3" })
 }
 
-/// A value of a colour command: mostly a percent, else an odd number or none.
+/// A value of a colour command: mostly a percent, now and then the last or one above it, else an odd number or none.
 fn value(random: &mut Random) -> Vec<u8> {
     match random.below(14) {
         0 => String::new(),
@@ -207,6 +207,7 @@ fn value(random: &mut Random) -> Vec<u8> {
         2 => format!("0{}", random.below(800)),
         3 if random.below(4) == 0 => long_number(random),
         4..=6 => random.below(4).to_string(),
+        7 => random.pick(&["100", "101"]).into(),
         _ => random.below(101).to_string(),
     }
     .into_bytes()

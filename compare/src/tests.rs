@@ -1,7 +1,7 @@
 //! Mutation testing: that the comparison can fail, at each thing it compares, and that shrinking works.
 use crate::expected::Expected;
 use crate::judge::judge;
-use crate::model::{Bounds, Model};
+use crate::model::{Bounds, Effect, Model};
 use crate::reader::{Memory, Opening, Reader, Registers, FRAME, GUARD, MARK, SESSION};
 use crate::run::{difference, smallest};
 use crate::shrink::shrink;
@@ -37,6 +37,20 @@ enum Damage {
     DeclaredOfOne,
     /// Width and height exchanged.
     DeclaredTurned,
+    /// A count of the values that were held, and not of their definitions.
+    HeldOfValues,
+    /// One that counts a register once.
+    HeldOfRegisters,
+    /// One that has 100 outside.
+    HeldOfHundred,
+    /// One that counts a hue.
+    HeldOfHue,
+    /// One that leaves greys out.
+    HeldOfColours,
+    /// One that leaves the last value out.
+    HeldOfTwo,
+    /// One that leaves out what the finish carries out.
+    HeldOfEnded,
     Palette,
     /// A picture that marks one register too many.
     MarkTooMany,
@@ -88,9 +102,14 @@ impl Damaged {
         self.damage == damage
     }
 
-    /// Puts a wrong extent, count or declared size into the report of a picture.
-    fn stretch(&mut self, number: u64, report: &mut [u64]) {
+    /// Puts a wrong extent, count or declared size into the report of a picture, of which so many definitions had ended before.
+    fn stretch(&mut self, number: u64, report: &mut [u64], ended: usize) {
+        use Damage::*;
         match self.damage {
+            HeldOfValues | HeldOfRegisters | HeldOfHundred | HeldOfHue | HeldOfColours | HeldOfTwo if number == 0 => {
+                report[10] = miscounted(self.damage, self.inner.definitions());
+            }
+            HeldOfEnded if number == 0 => report[10] = miscounted(self.damage, &self.inner.definitions()[..ended]),
             Damage::DefinedOfMarked if number == 0 => {
                 let marked = self.inner.memory().palette.iter().filter(|&&number| number & MARK != 0);
                 report[7] = marked.count() as u64;
@@ -104,6 +123,25 @@ impl Damaged {
             _ => {}
         }
     }
+}
+
+/// How many of these definitions a reader with such a damage takes for held.
+fn miscounted(damage: Damage, definitions: &[[u64; 5]]) -> u64 {
+    let mut registers = std::collections::HashSet::new();
+    let mut count = 0;
+    for &[register, space, a, b, c] in definitions {
+        let hue = space == 1 && damage != Damage::HeldOfHue;
+        let values = [if hue { 0 } else { a }, b, if damage == Damage::HeldOfTwo { 0 } else { c }];
+        let most = if damage == Damage::HeldOfHundred { 99 } else { 100 };
+        let outside = values.iter().filter(|&&value| value > most).count() as u64;
+        count += match damage {
+            Damage::HeldOfValues => outside,
+            Damage::HeldOfRegisters => u64::from(outside > 0 && registers.insert(register.min(255))),
+            Damage::HeldOfColours if space == 1 && c == 0 => 0,
+            _ => outside.min(1),
+        };
+    }
+    count
 }
 
 impl Reader for Damaged {
@@ -130,22 +168,23 @@ impl Reader for Damaged {
         (if self.is(Damage::FeedNumber) && number != 0 { number + 1 } else { number }, report)
     }
 
-    fn finish(&mut self) -> (u64, [u64; 10]) {
+    fn finish(&mut self) -> (u64, [u64; 11]) {
         self.ended = true;
+        let ended = self.inner.definitions().len();
         let (number, mut report) = self.inner.finish();
         self.committed = number == 0;
-        self.stretch(number, &mut report);
+        self.stretch(number, &mut report, ended);
         if let Damage::Finish(place) = self.damage {
             report[place] += 1;
         }
         (if self.is(Damage::FinishNumber) && number != 0 { number + 1 } else { number }, report)
     }
 
-    fn read(&mut self, opening: &Opening, bytes: &[u8]) -> (u64, [u64; 12]) {
+    fn read(&mut self, opening: &Opening, bytes: &[u8]) -> (u64, [u64; 13]) {
         self.owner = opening.palette;
         let (number, mut report) = self.inner.read(opening, bytes);
         self.committed = number == 0;
-        self.stretch(number, &mut report);
+        self.stretch(number, &mut report, self.inner.definitions().len());
         if let Damage::Read(place) = self.damage {
             report[place] += 1;
         }
@@ -232,6 +271,7 @@ fn every_damage_is_noticed() {
         Finish(7),
         Finish(8),
         Finish(9),
+        Finish(10),
         FinishNumber,
         Read(0),
         Read(1),
@@ -245,6 +285,7 @@ fn every_damage_is_noticed() {
         Read(9),
         Read(10),
         Read(11),
+        Read(12),
         ReadNumber,
         ExtentNotEmpty,
         ExtentInBands,
@@ -253,6 +294,13 @@ fn every_damage_is_noticed() {
         DeclaredOfSize,
         DeclaredOfOne,
         DeclaredTurned,
+        HeldOfValues,
+        HeldOfRegisters,
+        HeldOfHundred,
+        HeldOfHue,
+        HeldOfColours,
+        HeldOfTwo,
+        HeldOfEnded,
         Palette,
         MarkTooMany,
         MarksOfBefore,
@@ -336,6 +384,7 @@ fn each_field_is_named() {
     assert!(found(Damage::Palette).is_some_and(|what| what.starts_with("palette")));
     assert!(found(Damage::DefinedOfMarked).is_some_and(|what| what == "registers defined"));
     assert!(found(Damage::DeclaredOfSize).is_some_and(|what| what == "declared size"));
+    assert!(found(Damage::HeldOfValues).is_some_and(|what| what == "definitions held"));
     assert!(found(Damage::MarkTooMany).is_some_and(|what| what == "mark of register 77"));
     assert!(found(Damage::Before).is_some_and(|what| what.contains("outside the picture")));
 }
@@ -415,7 +464,7 @@ fn a_side_is_declared_by_a_raster_that_is_above_0() {
     let mut counted = |payload: &str| {
         let mut model = Model::payload(bounds, [None; 2], nothing);
         let fed = model.feed(payload.as_bytes(), u64::MAX, nothing);
-        let [.., width, height] = fed.and_then(|_| model.finish(nothing)).expect("a picture");
+        let [.., width, height, _] = fed.and_then(|_| model.finish(nothing)).expect("a picture");
         [width, height]
     };
     let pictures = [
@@ -435,6 +484,79 @@ fn a_side_is_declared_by_a_raster_that_is_above_0() {
     for (payload, declared) in pictures {
         assert_eq!(counted(payload), declared, "{payload}");
     }
+}
+
+/// The count by itself, of definitions with a value above 100 that is no hue.
+#[test]
+fn a_definition_is_held_once_by_a_value_above_100() {
+    let bounds = Bounds { limits: [64, 64, 64, 4_096], stride: 64, rows: 64 };
+    let nothing = &mut |_| ();
+    let mut counted = |payload: &str| {
+        let mut model = Model::payload(bounds, [None; 2], nothing);
+        let fed = model.feed(payload.as_bytes(), u64::MAX, nothing);
+        let [.., held] = fed.and_then(|_| model.finish(nothing)).expect("a picture");
+        held
+    };
+    for none in [
+        "",
+        "#101~",
+        "#1;2;101;101~",
+        "#1;0;101;101;101~",
+        "#1;3;101;101;101~",
+        "#1;;101;101;101~",
+        "#1;2;100;100;100~",
+        "#1;2;0;0;~",
+        "#1;2;0;0;0;101~",
+        "#1;1;101;100;100~",
+        "#1;1;99999999999;0;0",
+        "\"1;2;9;9;101~",
+        "~\x1b#1;2;101;0;0",
+    ] {
+        assert_eq!(counted(none), 0, "{none}");
+    }
+    let others = [
+        ("#1;2;101;0;0~", 1),
+        ("#1;2;0;101;0~", 1),
+        ("#1;2;0;0;101", 1),
+        ("#1;2;101;0;", 1),
+        ("#1;2;0;0;101;7;8~", 1),
+        ("#1;2;101;255;99999999999~", 1),
+        ("#1;1;0;101;0~", 1),
+        ("#1;1;0;0;101~", 1),
+        ("#1;1;361;101;101~", 1),
+        ("#1;2;101;0;0#1;2;101;0;0#300;1;0;101;0", 3),
+        ("#1;2;101;0;0~#1~#1;2;100;0;0~#1;2;0;0;101\x1b#1;2;101;0;0", 2),
+    ];
+    for (payload, held) in others {
+        assert_eq!(counted(payload), held, "{payload}");
+    }
+}
+
+/// Streams have definitions on either side of what is held.
+#[test]
+fn values_at_the_end_of_a_percent_come_up() {
+    let bounds = Bounds { limits: oracle::LIMITS.map(|limit| limit as u64), stride: u64::MAX, rows: u64::MAX };
+    let mut counts = std::collections::BTreeMap::new();
+    let effects = &mut |effect| {
+        let Effect::Colour { values } = effect else { return };
+        let [_, space @ (1 | 2), a, b, c] = values[..] else { return };
+        let kind = match if space == 1 { b.max(c) } else { a.max(b).max(c) } {
+            0..=99 => "below 100",
+            100 => "at 100",
+            101 => "at 101",
+            _ if space == 1 && c == 0 => "above 101, grey",
+            _ => "above 101",
+        };
+        *counts.entry((space, kind)).or_insert(0) += 1;
+    };
+    for trial in (0..20_000).map(|number| Trial::new(SEED, number)) {
+        if let Entry::Payload(_) = trial.entry {
+            let mut model = Model::payload(bounds, [None; 2], effects);
+            let _ = model.feed(&trial.stream(), u64::MAX, effects).and_then(|_| model.finish(effects).map(|_| [0; 4]));
+        }
+    }
+    println!("{counts:?}");
+    assert!(counts.len() == 9 && counts.values().all(|&count| count >= 10), "{counts:?}");
 }
 
 #[test]

@@ -41,12 +41,12 @@ pub fn read(
     canvas: &mut [u8],
     bytes: &[u8],
     palette: &mut Registers,
-) -> (u64, [u64; 12]) {
+) -> (u64, [u64; 13]) {
     let Limits { width: w, height: h, repeats: r, pixels: m } = limits;
-    let mut report = [0; 12];
+    let mut report = [0; 13];
     let (at, length) = (canvas.as_mut_ptr(), canvas.len());
     let (given, count) = (bytes.as_ptr(), bytes.len());
-    // SAFETY: canvas and bytes have their slices' lengths, the palette 256 numbers and the report 12; all but bytes are exclusive.
+    // SAFETY: canvas and bytes have their slices' lengths, the palette 256 numbers and the report 13; all but bytes are exclusive.
     let answer = unsafe { ffi::owlgantry_raw_read(w, h, r, m, stride, at, length, given, count, palette, &mut report) };
     (answer, report)
 }
@@ -118,18 +118,18 @@ pub fn dcs_feed(memory: &mut Memory, canvas: &mut [u8], bytes: &[u8], allowance:
     (answer, report)
 }
 
-pub fn payload_finish(memory: &mut Memory, canvas: &mut [u8], palette: &mut Registers) -> (u64, [u64; 10]) {
-    let mut report = [0; 10];
+pub fn payload_finish(memory: &mut Memory, canvas: &mut [u8], palette: &mut Registers) -> (u64, [u64; 11]) {
+    let mut report = [0; 11];
     let (numbers, registers) = (&mut memory.numbers, &memory.registers);
     let (at, length) = (canvas.as_mut_ptr(), canvas.len());
-    // SAFETY: the session has 48 numbers and 256 registers, the canvas its slice's length, the palette 256 numbers and the report 10;
+    // SAFETY: the session has 48 numbers and 256 registers, the canvas its slice's length, the palette 256 numbers and the report 11;
     // all but the registers are exclusive.
     let answer = unsafe { ffi::owlgantry_raw_payload_finish(numbers, registers, at, length, palette, &mut report) };
     (answer, report)
 }
 
-pub fn dcs_finish(memory: &mut Memory, canvas: &mut [u8], palette: &mut Registers) -> (u64, [u64; 10]) {
-    let mut report = [0; 10];
+pub fn dcs_finish(memory: &mut Memory, canvas: &mut [u8], palette: &mut Registers) -> (u64, [u64; 11]) {
+    let mut report = [0; 11];
     let (numbers, registers) = (&mut memory.numbers, &memory.registers);
     let (at, length) = (canvas.as_mut_ptr(), canvas.len());
     // SAFETY: as in `payload_finish`.

@@ -28,7 +28,7 @@ extern "C" {
         bytes: *const u8,
         bytes_length: usize,
         palette: *mut Registers,
-        report: *mut [u64; 12],
+        report: *mut [u64; 13],
     ) -> u64;
     pub fn owlgantry_raw_copy(
         canvas: *const u8,
@@ -69,7 +69,7 @@ extern "C" {
         canvas: *mut u8,
         canvas_length: usize,
         palette: *mut Registers,
-        report: *mut [u64; 10],
+        report: *mut [u64; 11],
     ) -> u64;
     pub fn owlgantry_raw_dcs_open(
         width: usize,
@@ -98,7 +98,7 @@ extern "C" {
         canvas: *mut u8,
         canvas_length: usize,
         palette: *mut Registers,
-        report: *mut [u64; 10],
+        report: *mut [u64; 11],
     ) -> u64;
     pub fn owlgantry_raw_payload_explain(
         session: *const Numbers,

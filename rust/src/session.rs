@@ -72,21 +72,23 @@ pub struct Picture {
     /// The height that it declared, or 0. A sixel is six rows, so that a picture may be up to five rows taller than it was drawn:
     /// this says how tall it was meant to be.
     pub declared_height: usize,
+    /// How many of its colour definitions had at least one value outside 0 to 100, which was held to 0 or 100 (rule 9.10). A sender
+    /// that takes bytes for percents is told by it; nothing is refused for it.
+    pub held: u64,
 }
 
 impl Picture {
-    fn of_report(report: [u64; 10]) -> Self {
-        let [width, height, right, bottom, kind, number, transparent, defined, declared @ ..] = report;
+    fn of_report(report: [u64; 11]) -> Self {
+        let [width, height, right, bottom, kind, number, transparent, defined, wide, high, held] = report;
         let ratio = match kind {
             0 => Ratio::LeftToP1(None),
             1 => Ratio::LeftToP1(Some(number as u16)),
             _ => Ratio::Raster(number as u8),
         };
         let background_mode = if transparent == 1 { BackgroundMode::Transparent } else { BackgroundMode::Opaque };
-        let [width, height, right, bottom, defined] =
-            [width, height, right, bottom, defined].map(|number| number as usize);
-        let [declared_width, declared_height] = declared.map(|number| number as usize);
-        Self { width, height, right, bottom, ratio, background_mode, defined, declared_width, declared_height }
+        let [width, height, right, bottom, defined, declared_width, declared_height] =
+            [width, height, right, bottom, defined, wide, high].map(|number| number as usize);
+        Self { width, height, right, bottom, ratio, background_mode, defined, declared_width, declared_height, held }
     }
 
     /// The ratio: the raster's, else what P1 means, else square.

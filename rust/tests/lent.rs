@@ -179,11 +179,13 @@ fn a_report_in_full() {
     let mut canvas = fresh_canvas([8, 6]);
     let mut palette = Palette::standard();
     palette.set_color(1, [1, 2, 3]);
-    let reading = read(Limits::HOUSE, 8, &mut canvas, b"\x1bP2;1q#1@", &mut palette);
+    let reading = read(Limits::HOUSE, 8, &mut canvas, b"\x1bP2;1q#2;2;101;0;0#1@", &mut palette);
     let picture = reading.picture.unwrap();
     assert_eq!(picture.ratio, Ratio::LeftToP1(Some(2)));
     assert!(picture.background_mode.is_transparent());
     assert_eq!([picture.width, picture.height, picture.right, picture.bottom], [1, 6, 1, 1]);
+    assert_eq!([picture.defined, picture.declared_width, picture.declared_height], [1, 0, 0]);
+    assert_eq!(picture.held, 1);
     assert_eq!(canvas[..4], [1, 2, 3, 255]);
     assert_eq!(canvas[32..36], [0, 0, 0, 0]);
 }

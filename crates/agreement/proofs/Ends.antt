@@ -1,5 +1,5 @@
 -- A command that ends does in the code what it does in the definition.
-use Prim.Native.Nat.{ℕ, _+_, _*_, max}
+use Prim.Native.Nat.{ℕ, _+_, _*_, min, max}
 use native.Mathlib.Omega.{arith}
 use mathlib.Core.Path.{_≡_, refl, sym, ap, ap₂, _∙_, subst}
 use mathlib.Core.Bool.{Bool, true, false, cond, _&&_}
@@ -27,11 +27,15 @@ use Rattle.frame.specs.declared.Refusal.the-variants as refusals
 use Rattle.frame.specs.declared.sizes.Needed.{Needed}
 use Rattle.frame.specs.Numbers.{numberOf}
 use Rattle.frame.specs.Sizes.{rasterArea}
+use Rattle.frame.specs.Commands as coded
+use Rattle.frame.specs.Commands.{heldBy, moreHeld}
 use Rattle.frame.specs.Commands.{noCommand, settledAs, unreadAs, refusedAs, withRepeat, definedBy, redefinedBy, registerIn, withColor, quotientOf, ratioBy, keptSize, rasterBy, rasterGrown, rasterEndedBy, Ended, endedIn, ended}
 use Rattle.meaning.specs.Commands.{Kind, repeat, colour, raster, argued}
+use Rattle.meaning.specs.Drawing.{holds, heldIn}
+use Rattle.meaning.specs.Payload.{largestCount}
 use Rattle.meaning.specs.Drawing.{Setting, Raster, Drawing, Drawn, drawn, refused, withPen, withRepeats, repeated, selected, redefined, coloured, unless, quotient, ratioAfter, kept, rasterAfter, withRaster, stretched, rastered, drawCommand}
 use Rattle.meaning.proofs.AreaLaws.{Sound}
-use Rattle.agreement.specs.Same.{groundOf, penOf, codeArea, codeExtent, ratioNumber, rasterOf, frameOf, Bounded, SameBegun}
+use Rattle.agreement.specs.Same.{groundOf, penOf, codeArea, codeExtent, ratioNumber, rasterOf, codeHeld, frameOf, Bounded, SameBegun}
 use Rattle.agreement.proofs.Sizes.{Sized, allows, turns, raster-sized}
 
 -- no command is pending any more, and the frame is that of a drawing
@@ -57,7 +61,7 @@ module _ {s : Setting} (bounded : Bounded s) (d : Drawing) (background : List �
           (record {
             progress =
                 cond t (refusedAs (frameOf d c) refusals.Repeat)
-                (settledAs (withRepeat (penOf (d .palette) (d .pen)) (max 1 (c .number))) (codeArea d) (codeExtent d) (rasterOf (d .raster)));
+                (settledAs (withRepeat (penOf (d .palette) (d .pen)) (max 1 (c .number))) (codeArea d) (codeExtent d) (rasterOf (d .raster)) (codeHeld d));
             palette = d .palette;
           })
       go true e = turned refusals.Repeat refl
@@ -76,20 +80,36 @@ selects : {bs : List ℕ} {v : Parameters} → Read 5 bs v → registerIn (numbe
 unfolding registerIn selected
 selects h = rw (read-value 0 (lit≤ tt) h)
 
+-- and holds the same values
+holds-same : {bs : List ℕ} {v : Parameters} → Read 5 bs v → coded.heldIn (numbers.finished v) ≡ holds (values 5 bs)
+unfolding coded.heldIn heldBy holds
+holds-same h =
+    simp (read-count (lit≤ tt) h, read-value 1 (lit≤ tt) h, read-value 2 (lit≤ tt) h, read-value 3 (lit≤ tt) h, read-value 4 (lit≤ tt) h)
+
+-- one more, as large as a number gets
+counts-on : (n : ℕ) (t : Bool) → moreHeld (min n largestCount) t ≡ min (n + cond t 1 0) largestCount
+unfolding moreHeld
+counts-on n true = omega arith
+counts-on n false = omega arith
+
 color-ends : (d : Drawing) (g : Ground) (c : Command) {bs : List ℕ} → Read 5 bs (c .parameters)
     → Ends d c (drawn (coloured (values 5 bs) d)) (endedIn kinds.Color (frameOf d c) g (d .palette))
-unfolding endedIn coloured frameOf settledTo noCommand
+unfolding endedIn coloured frameOf settledTo noCommand codeHeld heldIn
 color-ends d g c {bs} h =
     let p : Palette = d .palette in
     let n : ℕ = selected (values 5 bs) in
+    let counted : moreHeld (codeHeld d) (coded.heldIn (numbers.finished (c .parameters))) ≡ min (d .held + heldIn (values 5 bs)) largestCount =
+    ap (moreHeld (codeHeld d)) (holds-same h) ∙ counts-on (d .held) (holds (values 5 bs)) in
     subst (Ends d c (drawn (coloured (values 5 bs) d)))
-    (sym (ap₂ coloredTo (selects h) (ap (λ (m : ℕ). redefinedBy p m (numbers.finished (c .parameters))) (selects h) ∙ redefines p n h)))
+    (sym (ap₂ (λ (m : ℕ) (q : Palette). coloredTo m q (moreHeld (codeHeld d) (coded.heldIn (numbers.finished (c .parameters))))) (selects h)
+    (ap (λ (m : ℕ). redefinedBy p m (numbers.finished (c .parameters))) (selects h) ∙ redefines p n h)
+    ∙ ap (coloredTo n (redefined p n (values 5 bs))) counted))
     (gives (coloured (values 5 bs) d))
   where
-    coloredTo : ℕ → Palette → Ended
-    coloredTo n after =
+    coloredTo : ℕ → Palette → ℕ → Ended
+    coloredTo n after held =
         record {
-          progress = settledAs (withColor (penOf (d .palette) (d .pen)) n (registerOf after n)) (codeArea d) (codeExtent d) (rasterOf (d .raster));
+          progress = settledAs (withColor (penOf (d .palette) (d .pen)) n (registerOf after n)) (codeArea d) (codeExtent d) (rasterOf (d .raster)) held;
           palette = after;
         }
 
@@ -173,7 +193,7 @@ module _ {s : Setting} {d : Drawing} (sound : Sound s d) (background : List ℕ)
           → Ends d c (cond t (drawn (withRaster d r (d .area))) (stretched s r d))
           (record {
             progress =
-                cond t (settledAs (penOf (d .palette) (d .pen)) (codeArea d) (codeExtent d) (rasterOf r))
+                cond t (settledAs (penOf (d .palette) (d .pen)) (codeArea d) (codeExtent d) (rasterOf r) (codeHeld d))
                 (rasterGrown (frameOf d c) (rasterOf r) (rasterArea (codeArea d) (groundOf s background) (max 1 (r .width)) (max 1 (r .height))));
             palette = d .palette;
           })

@@ -24,7 +24,7 @@ use Rattle.meaning.specs.Payload.{Parameters, Ratio, ratioOf, declaredOf, Repor
 use Rattle.meaning.specs.Sessions.{Reading, opened, settled, rested, finishReading}
 use Rattle.meaning.specs.Calls.{ranges, limitsHold, opens, settingFor}
 use Rattle.meaning.proofs.AreaLaws.{both, blank-opens, outcome-reports}
-use Rattle.agreement.specs.Same.{groundOf, ratioNumber, Rated, frameOf, blankFrame, canvasOf, Bounded, SameDrawing, Same, ratioFrom, reportFrom}
+use Rattle.agreement.specs.Same.{groundOf, ratioNumber, Rated, codeHeld, frameOf, blankFrame, canvasOf, Bounded, SameDrawing, Same, ratioFrom, reportFrom}
 use Rattle.agreement.proofs.Settle.{same-fact, Settling, settling, refusing, settle-agrees}
 
 -- ---- opening
@@ -82,7 +82,7 @@ ratio-same p1 (some n) h = rw (ne-eqb n 0 (λ e. omega arith))
 -- and so is its report
 pub report-same : {s : Setting} {opening : List ℕ} {d : Drawing} {g : Ground} {f : Frame} {p : Palette} {l : List ℕ} (o : Parameters)
     → SameDrawing s opening d g f p l → reportOf o d ≡ reportFrom o f p
-unfolding reportOf declaredOf reportFrom frameOf
+unfolding reportOf declaredOf reportFrom frameOf codeHeld
 report-same {d = d} {f = f} o same =
     same-fact (λ g f p l. reportOf o d ≡ reportFrom o f p) same (ap rated (ratio-same (o .p1) (d .raster .ratio) (same .rated)))
   where
@@ -95,6 +95,7 @@ report-same {d = d} {f = f} o same =
           extent = extentOf (d .strokes);
           defined = definedCount (d .palette);
           declared = declaredOf (d .raster);
+          held = codeHeld d;
           palette = lasting (d .palette);
         }
 

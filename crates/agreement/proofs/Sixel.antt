@@ -19,7 +19,7 @@ use Rattle.reference.specs.Step.{penAfter, paintedTo, rightAfter, bottomAfter, 
 use Rattle.meaning.specs.Commands.{draw}
 use Rattle.meaning.specs.Drawing.{Setting, Drawing, unless, strokeOf, stroked, drawCommand, rightOf, bottomOf, columnsPainted, rowsPainted, extentOf}
 use Rattle.meaning.proofs.AreaLaws.{Allowed, Sound, Follows, command-drawn}
-use Rattle.agreement.specs.Same.{groundOf, penOf, codeArea, codeExtent, rasterOf, frameOf, canvasOf, Rated, Bounded, SameDrawing}
+use Rattle.agreement.specs.Same.{groundOf, penOf, codeArea, codeExtent, rasterOf, codeHeld, frameOf, canvasOf, Rated, Bounded, SameDrawing}
 use Rattle.agreement.proofs.Sizes.{allowed-none}
 
 -- ---- the extent of one stroke more
@@ -104,6 +104,7 @@ module _ {s : Setting} (bounded : Bounded s) (opening : List ℕ) {d : Drawing} 
             area = record { width = w; height = h };
             extent = e;
             raster = rasterOf (d .raster);
+            held = codeHeld d;
             command = c;
           }
 

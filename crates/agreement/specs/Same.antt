@@ -21,7 +21,7 @@ use Rattle.frame.specs.declared.VisibleArea.{VisibleArea}
 use Rattle.reference.specs.Step.{rowCeiling}
 use Rattle.meaning.specs.Commands.{repeat, colour, raster, Begun}
 use Rattle.meaning.specs.Drawing.{Setting, Pen, Raster, Drawing, transparent, extentOf}
-use Rattle.meaning.specs.Payload.{Parameters, Ratio, byRaster, leftToP1, Report}
+use Rattle.meaning.specs.Payload.{Parameters, Ratio, byRaster, leftToP1, largestCount, Report}
 use Rattle.meaning.specs.Sessions.{Reading}
 use Rattle.meaning.proofs.AreaLaws.{Sound}
 
@@ -66,15 +66,20 @@ unfoldable pub rasterOf : Raster → codeRaster.Raster
 unfolding ratioNumber
 rasterOf d = record { ratio = ratioNumber (d .ratio); width = d .width; height = d .height }
 
+-- the count of definitions with a held value, as large as a number gets
+unfoldable pub codeHeld : Drawing → ℕ
+codeHeld d = min (d .held) largestCount
+
 -- the whole frame, with a command that has begun or not
 unfoldable pub frameOf : Drawing → Command → Frame
-unfolding penOf codeArea codeExtent rasterOf
+unfolding penOf codeArea codeExtent rasterOf codeHeld
 frameOf d c =
     record {
       pen = penOf (d .palette) (d .pen);
       area = codeArea d;
       extent = codeExtent d;
       raster = rasterOf (d .raster);
+      held = codeHeld d;
       command = c;
     }
 
@@ -86,6 +91,7 @@ blankFrame p c =
       area = record { width = 1; height = 1 };
       extent = record { right = 0; bottom = 0 };
       raster = record { ratio = 0; width = 0; height = 0 };
+      held = 0;
       command = c;
     }
 
@@ -150,5 +156,6 @@ reportFrom o f p =
       extent = areaOf (f .extent .right) (f .extent .bottom);
       defined = definedCount p;
       declared = areaOf (f .raster .width) (f .raster .height);
+      held = f .held;
       palette = lasting p;
     }

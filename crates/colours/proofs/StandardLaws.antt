@@ -6,15 +6,16 @@ use Prim.Native.Nat.{ℕ, _*_, _/_, _%_, _^_, _<_}
 use lib.IntN.{pos}
 use lib.ListN.{replicate}
 use lib.Seq.{sets}
-use Rattle.hls.specs.Percent.{percentByte}
+use Rattle.hls.specs.declared.Percent.{Percent}
+use Rattle.hls.specs.Percent.{percentByte, percentOf}
 use Rattle.colours.specs.Packing.{packed}
 use Rattle.colours.specs.Standard.{percents, base, cube, grey, standardAt, listed}
 use Rattle.colours.proofs.Laws.{passed, packs}
 
 -- what the bytes of three percents pack to is the colour of these percents
-pub packs-percents : {color red green blue : ℕ} (r g b : ℕ) → r < 2 ^ 31 → g < 2 ^ 31 → b < 2 ^ 31
-    → red ≡ percentByte (passed (pos r)) → green ≡ percentByte (passed (pos g)) → blue ≡ percentByte (passed (pos b))
-    → color ≡ packed red green blue → color ≡ percents r g b
+pub packs-percents : {color : ℕ} {red green blue : Percent} (r g b : ℕ) → r < 2 ^ 31 → g < 2 ^ 31 → b < 2 ^ 31
+    → red ≡ percentOf (passed (pos r)) → green ≡ percentOf (passed (pos g)) → blue ≡ percentOf (passed (pos b))
+    → color ≡ packed (red .byte) (green .byte) (blue .byte) → color ≡ percents r g b
 unfolding percents
 packs-percents r g b hr hg hb er eg eb ec =
     packs (pos r) (pos g) (pos b) (record { sfits = hr }) (record { sfits = hg }) (record { sfits = hb }) er eg eb ec

@@ -10,7 +10,7 @@ use lib.ListN.{getD, set}
 use Rattle.hls.specs.Hls.{pick}
 use Rattle.colours.specs.declared.Palette.{Palette}
 use Rattle.colours.specs.Standard.{listed}
-use Rattle.colours.specs.Palette.{registerCount, colourUnit, ofTable, rgbColour, hlsColour}
+use Rattle.colours.specs.Palette.{registerCount, colourUnit, ofTable, rgbColour, hlsColour, rgbHeld, hlsHeld}
 
 -- rule 9.8: the number's next bit above its colour is the mark
 abbrev pub markUnit : ℕ
@@ -39,6 +39,16 @@ definedRgb p n r g b = defined p n (rgbColour r g b)
 -- rules 9.4, 9.8: defined by hue, lightness and saturation
 unfoldable pub definedHls : Palette → ℕ → ℤ → ℤ → ℤ → Palette
 definedHls p n h l s = defined p n (hlsColour h l s)
+
+-- rule 9.10: what a definition answers, whether one of its values was held, and the palette after it
+unfoldable pub definingRgb : Palette → ℕ → ℤ → ℤ → ℤ → Bool × Palette
+unfolding rgbHeld definedRgb
+definingRgb p n r g b = (rgbHeld r g b, definedRgb p n r g b)
+
+-- rule 9.10: the same by hue, lightness and saturation
+unfoldable pub definingHls : Palette → ℕ → ℤ → ℤ → ℤ → Bool × Palette
+unfolding hlsHeld definedHls
+definingHls p n h l s = (hlsHeld l s, definedHls p n h l s)
 
 -- rule 9.9: what lasts from frame to frame: each register's colour and mark
 unfoldable pub lasting : Palette → Palette

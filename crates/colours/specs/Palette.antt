@@ -1,13 +1,16 @@
 -- A palette, read and set by register (docs/RULES.md, section 9). Only `ofTable`, `registerOf` and `stored` look inside one, and marks.
 -- Assumes nothing.
 use Prim.Native.Nat.{ℕ, _+_, _*_, _/_, _%_, min}
+use mathlib.Core.Bool.{Bool, _||_}
 use mathlib.Core.List.{List}
 use lib.Dec.{ltb}
 use lib.IntN.{ℤ}
 use lib.ListN.{getD, set}
-use Rattle.hls.specs.Percent.{percentByte}
+use Rattle.hls.specs.Percent.{outside, percentByte}
 use Rattle.hls.specs.Hls.{pick, hlsBytes}
+use Rattle.colours.specs.declared.Mixed.{Mixed}
 use Rattle.colours.specs.declared.Palette.{Palette}
+use Rattle.colours.specs.declared.Set.{Set}
 use Rattle.colours.specs.Packing.{packed, pixelOf}
 use Rattle.colours.specs.Standard.{standardAt, listed}
 
@@ -58,3 +61,32 @@ hlsColour h l s = packedBytes (hlsBytes h l s)
 -- rule 9.4: register n set by them
 unfoldable pub setHls : Palette → ℕ → ℤ → ℤ → ℤ → Palette
 setHls p n h l s = stored p n (hlsColour h l s)
+
+-- ---- values that were held
+
+-- rule 9.10: one of three percents was held
+unfoldable pub rgbHeld : ℤ → ℤ → ℤ → Bool
+rgbHeld r g b = outside r || (outside g || outside b)
+
+-- rule 9.10: the lightness or the saturation was; a hue never is
+unfoldable pub hlsHeld : ℤ → ℤ → Bool
+hlsHeld l s = outside l || outside s
+
+-- a colour, and whether one of its values was held
+unfoldable pub rgbMixed : ℤ → ℤ → ℤ → Mixed
+unfolding rgbColour rgbHeld
+rgbMixed r g b = record { color = rgbColour r g b; held = rgbHeld r g b }
+
+unfoldable pub hlsMixed : ℤ → ℤ → ℤ → Mixed
+unfolding hlsColour hlsHeld
+hlsMixed h l s = record { color = hlsColour h l s; held = hlsHeld l s }
+
+-- rules 9.3, 9.10: what the owner's setting of a register answers
+unfoldable pub rgbSet : Palette → ℕ → ℤ → ℤ → ℤ → Set
+unfolding setRgb rgbHeld
+rgbSet p n r g b = record { palette = setRgb p n r g b; held = rgbHeld r g b }
+
+-- rules 9.4, 9.10: the same by hue, lightness and saturation
+unfoldable pub hlsSet : Palette → ℕ → ℤ → ℤ → ℤ → Set
+unfolding setHls hlsHeld
+hlsSet p n h l s = record { palette = setHls p n h l s; held = hlsHeld l s }

@@ -4,9 +4,10 @@ pub mod marks;
 mod standard;
 
 ghost use mathlib.Core.Path.{_≡_};
+ghost use mathlib.Core.Bool.{_||_};
 ghost use Rattle.colours.specs.Packing.{packed, pixelOf};
-ghost use Rattle.colours.specs.Palette.{ofTable, standard, registerOf, stored, rgbColour, setRgb, hlsColour, setHls};
-ghost use Rattle.colours.specs.Marks.{isMarked, definedRgb, definedHls, lasting};
+ghost use Rattle.colours.specs.Palette.{ofTable, standard, registerOf, stored, rgbMixed, rgbSet, hlsMixed, hlsSet};
+ghost use Rattle.colours.specs.Marks.{isMarked, definingRgb, definingHls, lasting};
 
 pub struct Palette {
     colors: [u32; 256],
@@ -42,22 +43,43 @@ pub fn rgb_bytes(colors: &[u32; 256], index: usize) -> [u8; 4]
     pixel(colors[255])
 }
 
-// The colour of percents of red, green and blue.
-fn rgb_color(r: i32, g: i32, b: i32) -> u32
-    ensures { λ color. ⌜ color ≡ rgbColour r g b ⌝ }
+// A colour, and whether at least one of the values that it was mixed of was held.
+struct Mixed {
+    color: u32,
+    held: bool,
+}
+
+fn either(a: bool, b: bool) -> bool
+    ensures { λ r. ⌜ r ≡ (a || b) ⌝ }
+{
+    if a {
+        return true;
+    }
+    b
+}
+
+// Of percents of red, green and blue.
+fn mix_rgb(r: i32, g: i32, b: i32) -> Mixed
+    ensures { λ m. ⌜ m ≡ rgbMixed r g b ⌝ }
 {
     let red = hls::percent_to_byte(r);
     let green = hls::percent_to_byte(g);
     let blue = hls::percent_to_byte(b);
-    pack_rgb(red, green, blue)
+    Mixed {
+        color: pack_rgb(red.byte, green.byte, blue.byte),
+        held: either(red.held, either(green.held, blue.held)),
+    }
 }
 
-// The colour of a hue, a lightness and a saturation.
-fn hls_color(h: i32, l: i32, s: i32) -> u32
-    ensures { λ color. ⌜ color ≡ hlsColour h l s ⌝ }
+// Of a hue, which is never held, a lightness and a saturation.
+fn mix_hls(h: i32, l: i32, s: i32) -> Mixed
+    ensures { λ m. ⌜ m ≡ hlsMixed h l s ⌝ }
 {
     let rgb = hls::hls_to_rgb(h, l, s);
-    pack_rgb(rgb[0], rgb[1], rgb[2])
+    Mixed {
+        color: pack_rgb(rgb[0], rgb[1], rgb[2]),
+        held: either(hls::is_outside(l), hls::is_outside(s)),
+    }
 }
 
 // Register `index` gets a colour and keeps its mark. There is none above 255, and nothing changes.
@@ -70,18 +92,28 @@ fn store(colors: &mut [u32; 256], index: usize, color: u32)
     colors[index] = colors[index] / COLOR % 2 * COLOR + color % COLOR;
 }
 
-// A colour command defines register `index` by percents of red, green and blue.
-pub fn define_rgb(colors: &mut [u32; 256], index: usize, r: i32, g: i32, b: i32)
-    ensures { λ _. ⌜ ofTable (now (colors .exit)) ≡ definedRgb (ofTable (now (colors .entry))) index r g b ⌝ }
+// A colour command defines register `index` by percents of red, green and blue. Answers whether one of them was held.
+pub fn define_rgb(colors: &mut [u32; 256], index: usize, r: i32, g: i32, b: i32) -> bool
+    ensures { λ held. ⌜ (held, ofTable (now (colors .exit))) ≡ definingRgb (ofTable (now (colors .entry))) index r g b ⌝ }
 {
-    marks::define(colors, index, rgb_color(r, g, b));
+    let mixed = mix_rgb(r, g, b);
+    marks::define(colors, index, mixed.color);
+    mixed.held
 }
 
-// A colour command defines register `index` by hue, lightness and saturation.
-pub fn define_hls(colors: &mut [u32; 256], index: usize, h: i32, l: i32, s: i32)
-    ensures { λ _. ⌜ ofTable (now (colors .exit)) ≡ definedHls (ofTable (now (colors .entry))) index h l s ⌝ }
+// A colour command defines register `index` by hue, lightness and saturation. Answers whether one of the last two was held.
+pub fn define_hls(colors: &mut [u32; 256], index: usize, h: i32, l: i32, s: i32) -> bool
+    ensures { λ held. ⌜ (held, ofTable (now (colors .exit))) ≡ definingHls (ofTable (now (colors .entry))) index h l s ⌝ }
 {
-    marks::define(colors, index, hls_color(h, l, s));
+    let mixed = mix_hls(h, l, s);
+    marks::define(colors, index, mixed.color);
+    mixed.held
+}
+
+// A palette with a register set, and whether one of the values was held.
+pub struct Set {
+    pub palette: Palette,
+    pub held: bool,
 }
 
 impl Palette {
@@ -104,20 +136,29 @@ impl Palette {
         rgb_bytes(&colors, index)
     }
 
-    pub fn set_rgb_percent(self, index: usize, r: i32, g: i32, b: i32) -> Palette
-        ensures { λ p. ⌜ p ≡ setRgb self index r g b ⌝ }
+    // By the owner. There is no register above 255, and nothing is set; the answer on the values is given all the same.
+    pub fn set_rgb_percent(self, index: usize, r: i32, g: i32, b: i32) -> Set
+        ensures { λ s. ⌜ s ≡ rgbSet self index r g b ⌝ }
     {
         let mut colors = self.table();
-        store(&mut colors, index, rgb_color(r, g, b));
-        Palette::of_table(colors)
+        let mixed = mix_rgb(r, g, b);
+        store(&mut colors, index, mixed.color);
+        Set {
+            palette: Palette::of_table(colors),
+            held: mixed.held,
+        }
     }
 
-    pub fn set_hls(self, index: usize, h: i32, l: i32, s: i32) -> Palette
-        ensures { λ p. ⌜ p ≡ setHls self index h l s ⌝ }
+    pub fn set_hls(self, index: usize, h: i32, l: i32, s: i32) -> Set
+        ensures { λ r. ⌜ r ≡ hlsSet self index h l s ⌝ }
     {
         let mut colors = self.table();
-        store(&mut colors, index, hls_color(h, l, s));
-        Palette::of_table(colors)
+        let mixed = mix_hls(h, l, s);
+        store(&mut colors, index, mixed.color);
+        Set {
+            palette: Palette::of_table(colors),
+            held: mixed.held,
+        }
     }
 
     // Whether a colour command has defined register `index`, in a frame that was finished.

@@ -14,7 +14,7 @@ fn percents(r: u16, g: u16, b: u16) -> u32
     let red = hls::percent_to_byte(r as i32);
     let green = hls::percent_to_byte(g as i32);
     let blue = hls::percent_to_byte(b as i32);
-    pack_rgb(red, green, blue)
+    pack_rgb(red.byte, green.byte, blue.byte)
 }
 
 // Registers 0 to 15: BASE of the Rust.

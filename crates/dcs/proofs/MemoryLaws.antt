@@ -109,4 +109,4 @@ phase-back (phases.Over e) h = over-back e h
 pub from-memory : (s : Session) → Ranged s → sessionFrom (numbersOf s) (tableOf s) ≡ s
 unfolding sessionFrom numbersOf payload.nineFrom payload.ownNumbers payload.groundNumbers payload.frameNumbers
     payload.penNumbers payload.areaNumbers payload.extentNumbers payload.rasterNumbers payload.commandNumbers parameters.numbersOf
-from-memory s h = rw (session-back (s .payload) _ (h .payload), from-numbers (s .header) (h .header), phase-back (s .phase) (h .phase)) refl
+from-memory s h = rw (session-back (s .payload) _ refl (h .payload), from-numbers (s .header) (h .header), phase-back (s .phase) (h .phase)) refl

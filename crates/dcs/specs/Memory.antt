@@ -57,7 +57,7 @@ nineWritten ns i vs =
 unfoldable pub numbersOf : Session → List ℕ
 unfolding phaseNumber
 numbersOf s =
-    payload.ownNumbers (s .payload) ++ (phaseNumber (s .phase) ∷ (parameters.numbersOf (s .header) ++ 0 ∷ 0 ∷ 0 ∷ 0 ∷ []))
+    payload.ownNumbers (s .payload) ++ (phaseNumber (s .phase) ∷ (parameters.numbersOf (s .header) ++ s .payload .frame .held ∷ 0 ∷ 0 ∷ 0 ∷ []))
 
 abbrev pub tableOf : Session → List ℕ
 tableOf s = payload.tableOf (s .payload)

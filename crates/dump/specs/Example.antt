@@ -24,6 +24,7 @@ report =
       defined = 1;
       «declared_width» = 0;
       «declared_height» = 0;
+      held = 0;
     }
 
 -- a row of each colour, and what lies beside it

@@ -31,6 +31,7 @@ use Rattle.fast.specs.declared.drawn.Drawn.{Drawn}
 use Rattle.frame.specs.declared.sizes.Needed.the-variants.{Area}
 use Rattle.frame.specs.Sizes.{sixelArea}
 use Rattle.frame.specs.Commands.{withCommand, begun, noCommand, settledAs, withRepeat, repeatEnded, definedBy, redefinedBy, registerIn, withColor, paletteAfter, colorEndedBy, finishedOf, Ended, endedIn, ended}
+use Rattle.frame.specs.Commands.{heldBy, heldIn, definingBy, moreHeld}
 use Rattle.reference.specs.Step.{Reached, Fits, Holds, readAs, areaGrown, penAfter, extentAfter, inked, canvasAfter, movedTo, rowCeiling, ownOf, takesSemicolon, settledStep, argumentStep, stepIn, stepOf}
 use Rattle.fast.specs.Run.{planned}
 use Rattle.fast.specs.Argument.{onwards, Passes, coloring, counting, holding, closing, Written, Last, defining, Defined}
@@ -127,11 +128,11 @@ argument-settles f g b p l e =
 
 module _ (f : Frame) (g : Ground) (b left : ℕ) (p : Palette) (l : List ℕ) (closes : closing b ≡ true) where
   -- a command that changes the pen alone
-  pen-step : (c : Command) (q : Palette) (pen : Pen) → withCommand f c .command .kind ≡ c .kind
-      → ended (withCommand f c) g p ≡ record { progress = settledAs pen (f .area) (f .extent) (f .raster); palette = q }
-      → settledStep (withCommand f c) g p l ≡ record { progress = settledAs pen (f .area) (f .extent) (f .raster); palette = q; canvas = l }
+  pen-step : (c : Command) (q : Palette) (pen : Pen) (h : ℕ) → withCommand f c .command .kind ≡ c .kind
+      → ended (withCommand f c) g p ≡ record { progress = settledAs pen (f .area) (f .extent) (f .raster) h; palette = q }
+      → settledStep (withCommand f c) g p l ≡ record { progress = settledAs pen (f .area) (f .extent) (f .raster) h; palette = q; canvas = l }
   unfolding settledStep withCommand settledAs
-  pen-step c q pen k e =
+  pen-step c q pen h k e =
       ap
       (λ (x : Ended).
       record {
@@ -140,15 +141,15 @@ module _ (f : Frame) (g : Ground) (b left : ℕ) (p : Palette) (l : List ℕ) (c
         canvas = areaGrown (withCommand f c) g (x .progress .frame .area .width) (x .progress .frame .area .height) l;
       })
       e
-      ∙ ap (λ (m : List ℕ). record { progress = settledAs pen (f .area) (f .extent) (f .raster); palette = q; canvas = m }) (still-grown (withCommand f c) g l)
+      ∙ ap (λ (m : List ℕ). record { progress = settledAs pen (f .area) (f .extent) (f .raster) h; palette = q; canvas = m }) (still-grown (withCommand f c) g l)
 
   repeat-step : (n : ℕ) → n ≤ g .limits .repeats
       → stepOf (withCommand f (counting n)) g b left p l
-      ≡ record { progress = settledAs (withRepeat (f .pen) (max 1 n)) (f .area) (f .extent) (f .raster); palette = p; canvas = l }
+      ≡ record { progress = settledAs (withRepeat (f .pen) (max 1 n)) (f .area) (f .extent) (f .raster) (f .held); palette = p; canvas = l }
   unfolding stepOf stepIn counting withCommand ended endedIn repeatEnded
   repeat-step n few =
       argument-settles (withCommand f (counting n)) g b p l closes
-      ∙ pen-step (counting n) p (withRepeat (f .pen) (max 1 n)) refl
+      ∙ pen-step (counting n) p (withRepeat (f .pen) (max 1 n)) (f .held) refl
       (ap (λ (x : Progress). record { progress = x; palette = p }) (cond-no _ _ (le-ltb _ _ few)))
 
   color-step : (v : Parameters)
@@ -161,17 +162,17 @@ module _ (f : Frame) (g : Ground) (b left : ℕ) (p : Palette) (l : List ℕ) (c
   unfolding stepOf stepIn coloring withCommand ended endedIn colorEndedBy finishedOf
   color-step v =
       argument-settles (withCommand f (coloring v)) g b p l closes
-      ∙ pen-step (coloring v) (paletteAfter p (finished v)) _ refl refl
+      ∙ pen-step (coloring v) (paletteAfter p (finished v)) _ _ refl refl
 
 module _ (f : Frame) (g : Ground) (bytes : List ℕ) (i left : ℕ) (p : Palette) (l : List ℕ) (fits : Fits f g (length l))
     (none : f .command .kind ≡ kinds.Data) (more : i < length bytes) where
-  command-advances : (c d : Command) (end : ℕ) (q : Palette) (pen : Pen) → sixel (getD bytes i 0) ≡ false → ends (getD bytes i 0) ≡ false
+  command-advances : (c d : Command) (end : ℕ) (q : Palette) (pen : Pen) (h : ℕ) → sixel (getD bytes i 0) ≡ false → ends (getD bytes i 0) ≡ false
       → withCommand f c ≡ ownOf f (getD bytes i 0) → Passes bytes (i + 1) end c d → end < length bytes
       → ((room : ℕ) → stepOf (withCommand f d) g (getD bytes end 0) room p l
-      ≡ record { progress = settledAs pen (f .area) (f .extent) (f .raster); palette = q; canvas = l })
-      → Advances g bytes i left f p l (record { pen = pen; area = f .area; extent = f .extent; settled = true; end = end; ink = 0 }) q l
+      ≡ record { progress = settledAs pen (f .area) (f .extent) (f .raster) h; palette = q; canvas = l })
+      → Advances g bytes i left f p l (record { pen = pen; area = f .area; extent = f .extent; held = h; settled = true; end = end; ink = 0 }) q l
   unfolding afterAdvance withCommand settledAs
-  command-advances c d end q pen still quiet begins passes after settles =
+  command-advances c d end q pen h still quiet begins passes after settles =
       let same-room : Fits (withCommand f d) g (length l) = record { rows = fits .rows; width = fits .width; height = fits .height } in
       record {
         onward = omega (arith, passes .onward);
@@ -180,7 +181,7 @@ module _ (f : Frame) (g : Ground) (bytes : List ℕ) (i left : ℕ) (p : Palette
         fits = record { rows = fits .rows; width = fits .width; height = fits .height };
         same = λ allowance spent few.
             let here = going-here g allowance bytes p l (withCommand f d) end spent (omega arith) (omega arith) same-room in
-            ap (λ (n : ℕ). onwards g allowance bytes end n (settledAs pen (f .area) (f .extent) (f .raster) .frame) q l) (add-zero spent)
+            ap (λ (n : ℕ). onwards g allowance bytes end n (settledAs pen (f .area) (f .extent) (f .raster) h .frame) q l) (add-zero spent)
             ∙ going-settled here (sym (settles (allowance - spent))) after refl refl refl .same
             ∙ passes .same g allowance spent f p l
             ∙ ap (λ (n : ℕ). onwards g allowance bytes (i + 1) n (withCommand f c) p l) (sym (add-zero spent))
@@ -194,7 +195,7 @@ module _ (f : Frame) (g : Ground) (bytes : List ℕ) (i left : ℕ) (p : Palette
   unfolding sixel ends between ownOf begun counting withRepeat planned advanceTo
   repeat-advances {n = n} e last few k x y =
       rw (y, x, k)
-      (command-advances (counting 0) (counting (n .value)) (n .end) p (withRepeat (f .pen) (max 1 (n .value))) (ap sixel e) (ap ends e)
+      (command-advances (counting 0) (counting (n .value)) (n .end) p (withRepeat (f .pen) (max 1 (n .value))) (f .held) (ap sixel e) (ap ends e)
       (sym (ap (ownOf f) e))
       (last .written .repeat)
       (last .more)
@@ -207,6 +208,7 @@ module _ (f : Frame) (g : Ground) (bytes : List ℕ) (i left : ℕ) (p : Palette
         pen = withColor (f .pen) (registerIn (finished v)) (registerOf (paletteAfter p (finished v)) (registerIn (finished v)));
         area = f .area;
         extent = f .extent;
+        held = moreHeld (f .held) (heldIn (finished v));
         settled = true;
         end = end;
         ink = 0;
@@ -216,30 +218,34 @@ module _ (f : Frame) (g : Ground) (bytes : List ℕ) (i left : ℕ) (p : Palette
       → closing (getD bytes end 0) ≡ true → Advances g bytes i left f p l (colored v end) (paletteAfter p (finished v)) l
   unfolding sixel ends between ownOf begun coloring colorEndedBy colored
   color-advances v end e passes after closes =
-      command-advances (coloring (opened 5)) (coloring v) end _ _ (ap sixel e) (ap ends e) (sym (ap (ownOf f) e)) passes after
+      command-advances (coloring (opened 5)) (coloring v) end _ _ _ (ap sixel e) (ap ends e) (sym (ap (ownOf f) e)) passes after
       (λ room. color-step f g (getD bytes end 0) room p l closes v)
 
   -- one number selects
   pub select-advances : {r : Advance} {n : Number} → getD bytes i 0 ≡ hash → Last bytes (i + 1) n → r ≡ selectedTo f p (n .value) (n .end)
       → Advances g bytes i left f p l r p l
-  unfolding selectedTo registerIn paletteAfter redefinedBy finished stored room valueAt kept held holding opened colored
+  unfolding selectedTo registerIn paletteAfter redefinedBy heldIn moreHeld finished stored room valueAt kept held holding opened colored
   select-advances {n = n} e last q =
       let first : min (min (n .value) 2147483647) 255 ≡ min (n .value) 255 = omega (arith, last .written .small) in
       let whole = color-advances (holding (opened 5) (n .value)) (n .end) e (last .written .color (opened 5) refl) (last .more) (last .closes) in
       rw (q, ← first) whole
 
-  -- five numbers define and select
-  pub define-advances : {r : Advance} {d : Definition} {k : ℕ} {q : Palette} → getD bytes i 0 ≡ hash → Defined bytes (i + 1) d → k ≡ min (d .first) 255
-      → q ≡ definedBy p k (d .space) (d .x) (d .y) (d .z) → r ≡ selectedTo f q (d .first) (d .end) → Advances g bytes i left f p l r q l
-  unfolding selectedTo registerIn paletteAfter redefinedBy finished stored room valueAt kept held defining colored
-  define-advances {d = d} {k = k} {q = q} e defined first palette done =
+  -- five numbers define and select, and count where one was held
+  pub define-advances : {r : Advance} {d : Definition} {k n : ℕ} {q : Palette} {t : Bool} → getD bytes i 0 ≡ hash → Defined bytes (i + 1) d
+      → k ≡ min (d .first) 255 → (t, q) ≡ definingBy p k (d .space) (d .x) (d .y) (d .z) → n ≡ moreHeld (f .held) t
+      → r ≡ selectedTo (record { pen = f .pen; area = f .area; extent = f .extent; raster = f .raster; held = n; command = f .command }) q (d .first) (d .end)
+      → Advances g bytes i left f p l r q l
+  unfolding selectedTo registerIn paletteAfter redefinedBy heldIn finished stored room valueAt kept held defining colored definingBy
+  define-advances {d = d} {k = k} {q = q} {t = t} e defined first makes counts done =
       let v₀ : min (min (d .first) 2147483647) 255 ≡ min (d .first) 255 = omega (arith, defined .first) in
       let v₁ : min (d .space) 2147483647 ≡ d .space = omega (arith, defined .space) in
       let v₂ : min (d .x) 2147483647 ≡ d .x = omega (arith, defined .x) in
       let v₃ : min (d .y) 2147483647 ≡ d .y = omega (arith, defined .y) in
       let v₄ : min (d .z) 2147483647 ≡ d .z = omega (arith, defined .z) in
+      let palette : q ≡ definedBy p k (d .space) (d .x) (d .y) (d .z) = ap (λ (x : Bool × Palette). x .1) makes in
+      let told : t ≡ heldBy (d .space) (d .x) (d .y) (d .z) = ap (λ (x : Bool × Palette). x .0) makes in
       let whole = color-advances (defining d) (d .end) e (defined .passes) (defined .more) (defined .closes) in
-      rw (done, palette, first) (rw (v₀, v₁, v₂, v₃, v₄) at whole)
+      rw (done, counts, told, palette, first) (rw (v₀, v₁, v₂, v₃, v₄) at whole)
 
 -- ---- a sixel by itself, and a repeat and its sixel
 
@@ -249,8 +255,8 @@ settled-frame f next b e = rw e (go (b .settled))
   where
     go : (t : Bool)
         → _≡_ {A = Frame}
-        (record { pen = b .pen; area = b .area; extent = b .extent; raster = next .raster; command = cond t noCommand noCommand })
-        (record { pen = b .pen; area = b .area; extent = b .extent; raster = next .raster; command = noCommand })
+        (record { pen = b .pen; area = b .area; extent = b .extent; raster = next .raster; held = b .held; command = cond t noCommand noCommand })
+        (record { pen = b .pen; area = b .area; extent = b .extent; raster = next .raster; held = b .held; command = noCommand })
     go true = refl
     go false = refl
 

@@ -111,6 +111,7 @@ frame-same : (f : Frame) {c c′ w w′ h h′ r r′ b b′ : ℕ} → c ≡ c�
       area = record { width = w; height = h };
       extent = record { right = r; bottom = b };
       raster = f .raster;
+      held = f .held;
       command = f .command;
     })
     (record {
@@ -118,6 +119,7 @@ frame-same : (f : Frame) {c c′ w w′ h h′ r r′ b b′ : ℕ} → c ≡ c�
       area = record { width = w′; height = h′ };
       extent = record { right = r′; bottom = b′ };
       raster = f .raster;
+      held = f .held;
       command = f .command;
     })
 frame-same f e₁ e₂ e₃ e₄ e₅ = rw (e₁, e₂, e₃, e₄, e₅)

@@ -20,7 +20,7 @@ use Rattle.fast.specs.Argument.{onwards, Before}
 -- to a frame, whose command was read or not
 unfoldable pub advanceTo : Frame → Bool → ℕ → ℕ → Advance
 advanceTo f settled end ink =
-    record { pen = f .pen; area = f .area; extent = f .extent; settled = settled; end = end; ink = ink }
+    record { pen = f .pen; area = f .area; extent = f .extent; held = f .held; settled = settled; end = end; ink = ink }
 
 -- the frame after an advance: no command is pending where one was read
 unfoldable pub afterAdvance : Frame → Advance → Frame
@@ -30,12 +30,13 @@ afterAdvance f r =
       area = r .area;
       extent = r .extent;
       raster = f .raster;
+      held = r .held;
       command = cond (r .settled) noCommand (f .command);
     }
 
 -- the same, after a command that was read before it
 unfoldable pub settledTo : Advance → Advance
-settledTo r = record { pen = r .pen; area = r .area; extent = r .extent; settled = true; end = r .end; ink = r .ink }
+settledTo r = record { pen = r .pen; area = r .area; extent = r .extent; held = r .held; settled = true; end = r .end; ink = r .ink }
 
 -- where one was
 unfoldable pub settledIf : Bool → Advance → Advance
@@ -61,7 +62,7 @@ unfoldable pub drawingOf : Frame → Drawn → Frame
 drawingOf f d =
     cond (d .said)
     (withCommand
-    (record { pen = withRepeat (f .pen) (d .repeat); area = f .area; extent = f .extent; raster = f .raster; command = f .command }) noCommand)
+    (record { pen = withRepeat (f .pen) (d .repeat); area = f .area; extent = f .extent; raster = f .raster; held = f .held; command = f .command }) noCommand)
     f
 
 -- the pen has the colour of a register, by its number, and a command is done
@@ -71,6 +72,7 @@ selectedTo f p n end =
       pen = withColor (f .pen) (min n 255) (registerOf p (min n 255));
       area = f .area;
       extent = f .extent;
+      held = f .held;
       settled = true;
       end = end;
       ink = 0;

@@ -25,7 +25,7 @@ pub record Sixels (bytes : List ℕ) (from to : ℕ) : Type 0 where
 unfoldable pub planned : Frame → ℕ → Frame
 unfolding withRepeat
 planned f n =
-    record { pen = withRepeat (f .pen) n; area = f .area; extent = f .extent; raster = f .raster; command = f .command }
+    record { pen = withRepeat (f .pen) n; area = f .area; extent = f .extent; raster = f .raster; held = f .held; command = f .command }
 
 -- the ink of so many sixels from a place on
 unfoldable pub runInk : List ℕ → ℕ → ℕ → ℕ

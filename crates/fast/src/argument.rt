@@ -1,7 +1,8 @@
 // A command's argument, read whole where it stands among the bytes with the byte that ends it. Only the ordinary forms are read
 // so: numbers of some digits, with nothing skipped between. Any other is left to the reference machine.
 ghost use mathlib.Core.Path.{_≡_};
-ghost use Prim.Native.Nat.{_≤_};
+ghost use mathlib.Core.Bool.{true};
+ghost use Prim.Native.Nat.{ℕ, _≤_};
 ghost use lib.ListN.{length};
 ghost use Rattle.fast.specs.Argument.{closing, Written, Last, Before, Parted, Defined};
 
@@ -31,7 +32,7 @@ fn nothing() -> Number
 }
 
 // The number whose first digit stands at a place.
-fn number_at(bytes: &[u8], from: usize) -> Number
+pub fn number_at(bytes: &[u8], from: usize) -> Number
     ensures { λ r. ⌜ (1 ≤ r .end → Written (now (bytes .entry)) from r) ⌝ }
 {
     if bytes.len() <= from {
@@ -73,19 +74,26 @@ fn ends_argument(byte: u8) -> bool
     true
 }
 
+// Whether the argument ends after a number.
+pub fn is_last(bytes: &[u8], number: Number) -> bool
+    ensures { λ r. ⌜ (r ≡ true → (from : ℕ) → (1 ≤ number .end → Written (now (bytes .entry)) from number) → Last (now (bytes .entry)) from number) ⌝ }
+{
+    let end = number.end;
+    if end == 0 {
+        return false;
+    }
+    if bytes.len() <= end {
+        return false;
+    }
+    ends_argument(bytes[end])
+}
+
 // A number that is the argument's last.
-pub fn last_number(bytes: &[u8], from: usize) -> Number
+fn last_number(bytes: &[u8], from: usize) -> Number
     ensures { λ r. ⌜ (1 ≤ r .end → Last (now (bytes .entry)) from r) ⌝ }
 {
     let number = number_at(bytes, from);
-    let end = number.end;
-    if end == 0 {
-        return nothing();
-    }
-    if bytes.len() <= end {
-        return nothing();
-    }
-    if ends_argument(bytes[end]) {
+    if is_last(bytes, number) {
         return number;
     }
     nothing()
@@ -109,11 +117,10 @@ pub fn number_before(bytes: &[u8], from: usize) -> Number
     nothing()
 }
 
-// A number and the `;` after it.
-fn parted_number(bytes: &[u8], from: usize) -> Number
-    ensures { λ r. ⌜ (1 ≤ r .end → Parted (now (bytes .entry)) from r) ⌝ }
+// A number with the `;` after it.
+pub fn after_semicolon(bytes: &[u8], number: Number) -> Number
+    ensures { λ r. ⌜ ((from : ℕ) → (1 ≤ number .end → Written (now (bytes .entry)) from number) → 1 ≤ r .end → Parted (now (bytes .entry)) from r) ⌝ }
 {
-    let number = number_at(bytes, from);
     let end = number.end;
     if end == 0 {
         return nothing();
@@ -130,6 +137,12 @@ fn parted_number(bytes: &[u8], from: usize) -> Number
     nothing()
 }
 
+fn parted_number(bytes: &[u8], from: usize) -> Number
+    ensures { λ r. ⌜ (1 ≤ r .end → Parted (now (bytes .entry)) from r) ⌝ }
+{
+    after_semicolon(bytes, number_at(bytes, from))
+}
+
 fn undefined() -> Definition
     ensures { λ r. ⌜ r ≡ record { first = 0; space = 0; x = 0; y = 0; z = 0; end = 0 } ⌝ }
 {
@@ -143,11 +156,10 @@ fn undefined() -> Definition
     }
 }
 
-// Five numbers and no more.
-pub fn read_definition(bytes: &[u8], from: usize) -> Definition
-    ensures { λ r. ⌜ (1 ≤ r .end → Defined (now (bytes .entry)) from r) ⌝ }
+// Five numbers and no more, the first of which was read.
+pub fn read_definition(bytes: &[u8], first: Number) -> Definition
+    ensures { λ r. ⌜ ((from : ℕ) → (1 ≤ first .end → Parted (now (bytes .entry)) from first) → 1 ≤ r .end → Defined (now (bytes .entry)) from r) ⌝ }
 {
-    let first = parted_number(bytes, from);
     if first.end == 0 {
         return undefined();
     }

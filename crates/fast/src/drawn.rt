@@ -170,6 +170,7 @@ fn settled(advance: Advance) -> Advance
         pen,
         area,
         extent,
+        held: advance.held,
         settled: true,
         end: advance.end,
         ink: advance.ink,

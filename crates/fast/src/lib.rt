@@ -20,7 +20,9 @@ ghost use Rattle.frame.specs.declared.Ground.{Ground};
 ghost use Rattle.frame.specs.declared.Kind.the-variants as kinds;
 ghost use Rattle.reference.specs.Step.{Fits, Holds, movedTo};
 ghost use Rattle.fast.specs.Advance.{advanceTo, selectedTo, Advances};
-use argument::last_number;
+use argument::after_semicolon;
+use argument::is_last;
+use argument::number_at;
 use argument::read_definition;
 use drawn::read_drawn;
 use frame::Extent;
@@ -29,6 +31,7 @@ use frame::Ground;
 use frame::Pen;
 use frame::VisibleArea;
 use frame::commands::define;
+use frame::commands::more_held;
 use frame::commands::register_at;
 use reference::row_below;
 use run::read_run;
@@ -39,6 +42,7 @@ pub struct Advance {
     pub pen: Pen,
     pub area: VisibleArea,
     pub extent: Extent,
+    pub held: u64,
     pub settled: bool,
     pub end: usize,
     pub ink: usize,
@@ -55,6 +59,7 @@ fn advance_to(frame: Frame, settled: bool, end: usize, ink: usize) -> Advance
         pen,
         area,
         extent,
+        held: frame.held,
         settled,
         end,
         ink,
@@ -87,13 +92,13 @@ fn read_color(frame: Frame, colors: &mut [u32; 256], bytes: &[u8], from: usize) 
     ensures { λ r. ⌜ ((g : Ground) (l : List ℕ) (left : ℕ) → Fits frame g (length l)
         → Advances g (now (bytes .entry)) from left frame (ofTable (now (colors .entry))) l r (ofTable (now (colors .exit))) l) ⌝ }
 {
-    let only = last_number(bytes, from + 1);
-    if 0 < only.end {
+    let only = number_at(bytes, from + 1);
+    if is_last(bytes, only) {
         return selected(frame, colors, only.value, only.end);
     }
-    let whole = read_definition(bytes, from + 1);
+    let whole = read_definition(bytes, after_semicolon(bytes, only));
     if 0 < whole.end {
-        define(
+        let held = define(
             colors,
             register_at(whole.first),
             whole.space,
@@ -101,7 +106,9 @@ fn read_color(frame: Frame, colors: &mut [u32; 256], bytes: &[u8], from: usize) 
             whole.y,
             whole.z,
         );
-        return selected(frame, colors, whole.first, whole.end);
+        let mut next = frame;
+        next.held = more_held(frame.held, held);
+        return selected(next, colors, whole.first, whole.end);
     }
     nothing(frame, from)
 }

@@ -1,5 +1,5 @@
 -- Laws of commands: one for each path through a function of `commands`.
-use Prim.Native.Nat.{ℕ, _*_, _≤_, _<_, min, max}
+use Prim.Native.Nat.{ℕ, _+_, _*_, _≤_, _<_, min, max}
 use mathlib.Core.Bool.{Bool, true, false, _&&_}
 use mathlib.Core.List.{List, [], _∷_}
 use mathlib.Core.Path.{_≡_, refl, sym, ap, ap₂, _∙_}
@@ -17,7 +17,7 @@ use Rattle.numbers.proofs.Laws.{cond-yes, cond-no}
 use Rattle.numbers.proofs.Reading.{value-small}
 use Rattle.colours.specs.declared.Palette.{Palette}
 use Rattle.colours.specs.Palette.{registerOf}
-use Rattle.colours.specs.Marks.{definedRgb, definedHls}
+use Rattle.colours.specs.Marks.{definedRgb, definedHls, definingRgb, definingHls}
 use Rattle.colours.proofs.Laws.{passed, passed-pos}
 use Rattle.canvas.proofs.Covers.{by-test}
 use Rattle.frame.specs.declared.Command.{Command}
@@ -25,6 +25,8 @@ use Rattle.frame.specs.declared.Frame.{Frame}
 use Rattle.frame.specs.declared.Ground.{Ground}
 use Rattle.frame.specs.declared.Kind.{Kind}
 use Rattle.frame.specs.declared.Kind.the-variants as kinds
+use Rattle.frame.specs.declared.Pen.{Pen}
+use Rattle.frame.specs.declared.Extent.{Extent}
 use Rattle.frame.specs.declared.Progress.{Progress}
 use Rattle.frame.specs.declared.Raster.{Raster}
 use Rattle.frame.specs.declared.Refusal.{Refusal}
@@ -36,7 +38,7 @@ use Rattle.frame.specs.declared.commands.Selected.{Selected}
 use Rattle.frame.specs.declared.sizes.Needed.{Needed}
 use Rattle.frame.specs.declared.sizes.Needed.the-variants.{Area, Refused}
 use Rattle.frame.specs.Sizes.{rasterArea}
-use Rattle.frame.specs.Commands.{withCommand, begun, valuesLonger, numberLonger, byDigitIn, byDigit, bySemicolon, settledAs, refusedAs, withRepeat, repeatEnded, definedBy, redefinedBy, registerIn, withColor, paletteAfter, selectedIn, colorEndedBy, finishedOf, quotientOf, ratioBy, keptSize, rasterBy, rasterGrown, measuredIn, measuredBy, rasterEndedIn, rasterEndedBy, Ended, endedIn, ended}
+use Rattle.frame.specs.Commands.{withCommand, begun, valuesLonger, numberLonger, byDigitIn, byDigit, bySemicolon, settledAs, refusedAs, withRepeat, repeatEnded, definedBy, redefinedBy, heldBy, heldIn, definingBy, redefiningBy, moreHeld, registerIn, withColor, paletteAfter, selectedIn, colorEndedBy, finishedOf, quotientOf, ratioBy, keptSize, rasterBy, rasterGrown, measuredIn, measuredBy, rasterEndedIn, rasterEndedBy, Ended, endedIn, ended}
 use Rattle.frame.proofs.Kind as KindType
 
 -- ---- a command begins and goes on
@@ -48,6 +50,7 @@ pub begun-as : {q : Parameters} (f : Frame) (k : Kind) (n : ℕ) → q ≡ numbe
       area = f .area;
       extent = f .extent;
       raster = f .raster;
+      held = f .held;
       command = record { kind = k; number = 0; parameters = q };
     })
     (begun f k n)
@@ -56,7 +59,7 @@ begun-as f k n e = ap (λ (q : Parameters). withCommand f (record { kind = k; nu
 
 -- the frame with the pending command changed
 abbrev framed : Frame → Command → Frame
-framed f c = record { pen = f .pen; area = f .area; extent = f .extent; raster = f .raster; command = c }
+framed f c = record { pen = f .pen; area = f .area; extent = f .extent; raster = f .raster; held = f .held; command = c }
 
 pub digit-number : {n : ℕ} (f : Frame) (b : ℕ) → f .command .kind ≡ kinds.Repeat → n ≡ numbers.repeated (f .command .number) b
     → framed f (record { kind = f .command .kind; number = n; parameters = f .command .parameters }) ≡ withCommand f (byDigit (f .command) b)
@@ -96,11 +99,12 @@ pub repeat-settled : {r : Progress} {n : ℕ} (f : Frame) (g : Ground) → f .co
     ≡ settledAs (record { column = f .pen .column; row = f .pen .row; repeat = n; register = f .pen .register; color = f .pen .color }) (f .area)
     (f .extent)
     (f .raster)
+    (f .held)
     → r ≡ repeatEnded f g
 unfolding repeatEnded withRepeat
 repeat-settled f g h e k =
     k
-    ∙ ap (λ (m : ℕ). settledAs (withRepeat (f .pen) m) (f .area) (f .extent) (f .raster)) e
+    ∙ ap (λ (m : ℕ). settledAs (withRepeat (f .pen) m) (f .area) (f .extent) (f .raster) (f .held)) e
     ∙ sym (cond-no _ _ (le-ltb _ _ h))
 
 -- ---- a colour ends
@@ -115,50 +119,66 @@ small-signed h = record { sfits = omega arith }
 small-passed : (n : ℕ) → n ≤ 2147483647 → passed (pos n) ≡ pos n
 small-passed n h = passed-pos n (omega arith)
 
--- a space defines
+-- a space defines, and says whether a value was held
 module _ (p : Palette) (k s x y z : ℕ) where
-  pub defined-none : (s ≡ 1 → ⊥) → (s ≡ 2 → ⊥) → p ≡ definedBy p k s x y z
-  unfolding definedBy
-  defined-none h l = sym (cond-no _ _ (ne-eqb _ _ h) ∙ cond-no _ _ (ne-eqb _ _ l))
+  pub defined-none : (s ≡ 1 → ⊥) → (s ≡ 2 → ⊥) → (false, p) ≡ definingBy p k s x y z
+  unfolding definingBy heldBy definedBy
+  defined-none h l = rw (ne-eqb _ _ h, ne-eqb _ _ l) refl
 
-  module _ {q : Palette} (few : (x ≤ 2147483647) × (y ≤ 2147483647) × (z ≤ 2147483647)) where
-    pub defined-hls : s ≡ 1 → q ≡ definedHls p k (passed (pos x)) (passed (pos y)) (passed (pos z)) → q ≡ definedBy p k s x y z
-    unfolding definedBy
+  module _ {q : Palette} {t : Bool} (few : (x ≤ 2147483647) × (y ≤ 2147483647) × (z ≤ 2147483647)) where
+    pub defined-hls : s ≡ 1 → (t, q) ≡ definingHls p k (passed (pos x)) (passed (pos y)) (passed (pos z)) → (t, q) ≡ definingBy p k s x y z
+    unfolding definingBy heldBy definedBy definingHls
     defined-hls h e =
-        e ∙ rw (small-passed x (few .0), small-passed y (few .1), small-passed z (few .2)) (sym (cond-yes _ _ (eq-eqb _ _ h)))
+        e ∙ rw (small-passed x (few .0), small-passed y (few .1), small-passed z (few .2), eq-eqb _ _ h) refl
 
-    pub defined-rgb : (s ≡ 1 → ⊥) → s ≡ 2 → q ≡ definedRgb p k (passed (pos x)) (passed (pos y)) (passed (pos z)) → q ≡ definedBy p k s x y z
-    unfolding definedBy
+    pub defined-rgb : (s ≡ 1 → ⊥) → s ≡ 2 → (t, q) ≡ definingRgb p k (passed (pos x)) (passed (pos y)) (passed (pos z))
+        → (t, q) ≡ definingBy p k s x y z
+    unfolding definingBy heldBy definedBy definingRgb
     defined-rgb h l e =
-        e
-        ∙ rw (small-passed x (few .0), small-passed y (few .1), small-passed z (few .2))
-        (sym (cond-no _ _ (ne-eqb _ _ h) ∙ cond-yes _ _ (eq-eqb _ _ l)))
+        e ∙ rw (small-passed x (few .0), small-passed y (few .1), small-passed z (few .2), ne-eqb _ _ h, eq-eqb _ _ l) refl
 
 -- five values do
 module _ (p : Palette) (k : ℕ) (v : Parameters) {n : ℕ} (count : n ≡ v .count) where
-  pub redefined-few : (n ≡ 5 → ⊥) → p ≡ redefinedBy p k v
-  unfolding redefinedBy
-  redefined-few h = sym (cond-no _ _ (ne-eqb _ _ (λ e. h (count ∙ e))))
+  pub redefined-few : (n ≡ 5 → ⊥) → (false, p) ≡ redefiningBy p k v
+  unfolding redefiningBy heldIn redefinedBy
+  redefined-few h = rw (ne-eqb _ _ (λ (e : v .count ≡ 5). h (count ∙ e))) refl
 
-  pub redefined-five : {s x y z : ℕ} {q : Palette} → n ≡ 5 → s ≡ numbers.valueAt v 1 → x ≡ numbers.valueAt v 2 → y ≡ numbers.valueAt v 3
+  pub redefined-five : {s x y z : ℕ} {q : Palette} {t : Bool} → n ≡ 5 → s ≡ numbers.valueAt v 1 → x ≡ numbers.valueAt v 2 → y ≡ numbers.valueAt v 3
       → z ≡ numbers.valueAt v 4
-      → q ≡ definedBy p k s x y z → q ≡ redefinedBy p k v
-  unfolding redefinedBy
-  redefined-five five es ex ey ez e = e ∙ rw (es, ex, ey, ez) (sym (cond-yes _ _ (eq-eqb _ _ (sym count ∙ five))))
+      → (t, q) ≡ definingBy p k s x y z → (t, q) ≡ redefiningBy p k v
+  unfolding redefiningBy heldIn redefinedBy definingBy
+  redefined-five five es ex ey ez e = e ∙ rw (es, ex, ey, ez, eq-eqb _ _ (sym count ∙ five)) refl
 
 pub register-as : {x n : ℕ} (v : Parameters) → x ≡ numbers.valueAt v 0 → n ≡ min x 255 → n ≡ registerIn v
 unfolding registerIn
 register-as v e h = h ∙ ap (λ (y : ℕ). min y 255) e
 
 module _ (begun : Parameters) {v : Parameters} {n : ℕ} (finish : v ≡ numbers.finished begun) (register : n ≡ registerIn v) where
-  pub selected-palette : {q : Palette} (p : Palette) → q ≡ redefinedBy p n v → q ≡ paletteAfter p (numbers.finished begun)
-  unfolding paletteAfter
-  selected-palette p e = e ∙ rw (register, finish) refl
+  pub selected-palette : {q : Palette} {t : Bool} (p : Palette) → (t, q) ≡ redefiningBy p n v → q ≡ paletteAfter p (numbers.finished begun)
+  unfolding paletteAfter redefiningBy
+  selected-palette p e = ap (λ (x : Bool × Palette). x .1) e ∙ rw (register, finish) refl
 
-  pub selected-as : {px : List ℕ} (q : Palette) → px ≡ registerOf q n
-      → _≡_ {A = Selected} (record { register = n; color = px }) (selectedIn q (numbers.finished begun))
-  unfolding selectedIn
-  selected-as q e = rw (e, register, finish) refl
+  pub selected-as : {px : List ℕ} {t : Bool} (p q : Palette) → (t, q) ≡ redefiningBy p n v → px ≡ registerOf q n
+      → _≡_ {A = Selected} (record { register = n; color = px; held = t }) (selectedIn q (numbers.finished begun))
+  unfolding selectedIn redefiningBy
+  selected-as p q h e = rw (ap (λ (x : Bool × Palette). x .0) h, e, register, finish) refl
+
+pub colored-held : {r : Progress} {n : ℕ} (pen : Pen) (a : VisibleArea) (e : Extent) (raster : Raster) (h : ℕ) (t : Bool) → n ≡ moreHeld h t
+    → r ≡ settledAs pen a e raster n → r ≡ settledAs pen a e raster (moreHeld h t)
+colored-held pen a e raster h t more is = is ∙ ap (settledAs pen a e raster) more
+
+pub held-more : (n : ℕ) (t : Bool) → t ≡ false → n ≡ moreHeld n t
+unfolding moreHeld
+held-more n t e = rw e refl
+
+pub held-full : (n : ℕ) (t : Bool) → n ≡ 18446744073709551615 → n ≡ moreHeld n t
+unfolding moreHeld
+held-full n true full = omega arith
+held-full n false full = refl
+
+pub held-next : (n : ℕ) (t : Bool) → t ≡ true → n < 18446744073709551616 → (n ≡ 18446744073709551615 → ⊥) → n + 1 ≡ moreHeld n t
+unfolding moreHeld
+held-next n t e small less = rw e (omega arith)
 
 -- ---- a raster ends
 
@@ -241,12 +261,12 @@ module _ (begun : Parameters) (old : Raster) (a : VisibleArea) (g : Ground) {v :
     measured-refused e = ap (measuredIn r) (sym e) ∙ measured-in
 
 module _ (f : Frame) {m : Measured} {s : Progress} where
-  pub raster-none : {r : Raster} → m ≡ measures.Sizeless r → s ≡ settledAs (f .pen) (f .area) (f .extent) r → s ≡ rasterEndedIn m f
+  pub raster-none : {r : Raster} → m ≡ measures.Sizeless r → s ≡ settledAs (f .pen) (f .area) (f .extent) r (f .held) → s ≡ rasterEndedIn m f
   unfolding rasterEndedIn
   raster-none e k = k ∙ ap (λ (x : Measured). rasterEndedIn x f) (sym e)
 
   pub raster-area : {r : Raster} {w h : ℕ} → m ≡ measures.Area r w h
-      → s ≡ settledAs (f .pen) (record { width = w; height = h }) (f .extent) r → s ≡ rasterEndedIn m f
+      → s ≡ settledAs (f .pen) (record { width = w; height = h }) (f .extent) r (f .held) → s ≡ rasterEndedIn m f
   unfolding rasterEndedIn
   raster-area e k = k ∙ ap (λ (x : Measured). rasterEndedIn x f) (sym e)
 
@@ -269,7 +289,7 @@ raster-by f g r =
 -- ---- whichever is pending
 
 module _ (f : Frame) (g : Ground) (p : Palette) {s : Progress} where
-  pub ended-data : f .command .kind ≡ kinds.Data → s ≡ settledAs (f .pen) (f .area) (f .extent) (f .raster)
+  pub ended-data : f .command .kind ≡ kinds.Data → s ≡ settledAs (f .pen) (f .area) (f .extent) (f .raster) (f .held)
       → _≡_ {A = Ended} (record { progress = s; palette = p }) (ended f g p)
   unfolding ended endedIn
   ended-data k e = ap (λ (x : Progress). record { progress = x; palette = p }) e ∙ sym (ap (λ (j : Kind). endedIn j f g p) k)
@@ -280,11 +300,12 @@ module _ (f : Frame) (g : Ground) (p : Palette) {s : Progress} where
 
   pub ended-color : {q : Palette} {x : Selected} → f .command .kind ≡ kinds.Color
       → (q ≡ paletteAfter p (numbers.finished (f .command .parameters))) × (x ≡ selectedIn q (numbers.finished (f .command .parameters)))
-      → s ≡ settledAs (withColor (f .pen) (x .register) (x .color)) (f .area) (f .extent) (f .raster)
+      → s ≡ settledAs (withColor (f .pen) (x .register) (x .color)) (f .area) (f .extent) (f .raster) (moreHeld (f .held) (x .held))
       → _≡_ {A = Ended} (record { progress = s; palette = q }) (ended f g p)
   unfolding ended endedIn colorEndedBy selectedIn finishedOf
   ended-color {q} k e h =
-      let settles : Selected → Progress = λ y. settledAs (withColor (f .pen) (y .register) (y .color)) (f .area) (f .extent) (f .raster) in
+      let settles : Selected → Progress =
+      λ y. settledAs (withColor (f .pen) (y .register) (y .color)) (f .area) (f .extent) (f .raster) (moreHeld (f .held) (y .held)) in
       let same : s ≡ colorEndedBy f q (finishedOf f) = h ∙ ap settles (e .1) in
       ap₂ (λ (y : Progress) (z : Palette). record { progress = y; palette = z }) (same ∙ ap (λ (z : Palette). colorEndedBy f z (finishedOf f)) (e .0)) (e .0)
       ∙ sym (ap (λ (j : Kind). endedIn j f g p) k)
@@ -302,6 +323,8 @@ pub ruleset begins = (begun-as, digit-number, digit-value, semicolon-as)
 
 pub ruleset colored =
     (value-within, small-signed, defined-none, defined-hls, defined-rgb, redefined-few, redefined-five, register-as, selected-palette, selected-as)
+
+pub ruleset counted = (held-more, held-full, held-next)
 
 pub ruleset rastered = (
   quotient-one,

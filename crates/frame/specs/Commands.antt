@@ -1,13 +1,13 @@
 -- What the code does with a command's argument, on its own records.
 use Prim.Native.Nat.{ℕ, _+_, _*_, min, max}
-use mathlib.Core.Bool.{Bool, cond, _&&_}
+use mathlib.Core.Bool.{Bool, false, cond, _&&_}
 use mathlib.Core.List.{List}
 use lib.Dec.{leb, ltb, eqb}
 use lib.IntN.{pos}
 use Rattle.numbers.specs.declared.Parameters.{Parameters}
 use Rattle.numbers.specs.Step as numbers
 use Rattle.colours.specs.declared.Palette.{Palette}
-use Rattle.colours.specs.Palette.{registerOf}
+use Rattle.colours.specs.Palette.{registerOf, rgbHeld, hlsHeld}
 use Rattle.colours.specs.Marks.{definedRgb, definedHls}
 use Rattle.frame.specs.declared.Command.{Command}
 use Rattle.frame.specs.declared.Extent.{Extent}
@@ -33,7 +33,7 @@ use Rattle.frame.specs.Sizes.{rasterArea}
 -- ---- a command begins and goes on
 
 unfoldable pub withCommand : Frame → Command → Frame
-withCommand f c = record { pen = f .pen; area = f .area; extent = f .extent; raster = f .raster; command = c }
+withCommand f c = record { pen = f .pen; area = f .area; extent = f .extent; raster = f .raster; held = f .held; command = c }
 
 unfoldable pub begun : Frame → Kind → ℕ → Frame
 unfolding withCommand
@@ -67,11 +67,11 @@ unfoldable pub noCommand : Command
 noCommand = record { kind = kinds.Data; number = 0; parameters = numbers.opened 0 }
 
 -- none is pending any more, and the byte that ended it is still to be read
-unfoldable pub settledAs : Pen → VisibleArea → Extent → Raster → Progress
+unfoldable pub settledAs : Pen → VisibleArea → Extent → Raster → ℕ → Progress
 unfolding noCommand
-settledAs p a e r =
+settledAs p a e r h =
     record {
-      frame = record { pen = p; area = a; extent = e; raster = r; command = noCommand };
+      frame = record { pen = p; area = a; extent = e; raster = r; held = h; command = noCommand };
       consumed = 0;
       ink = 0;
       outcome = outcomes.Read;
@@ -93,7 +93,7 @@ unfoldable pub repeatEnded : Frame → Ground → Progress
 unfolding withRepeat settledAs refusedAs
 repeatEnded f g =
     cond (ltb (g .limits .repeats) (f .command .number)) (refusedAs f refusals.Repeat)
-    (settledAs (withRepeat (f .pen) (max 1 (f .command .number))) (f .area) (f .extent) (f .raster))
+    (settledAs (withRepeat (f .pen) (max 1 (f .command .number))) (f .area) (f .extent) (f .raster) (f .held))
 
 -- colour: space 1 or 2 redefines the register
 unfoldable pub definedBy : Palette → ℕ → ℕ → ℕ → ℕ → ℕ → Palette
@@ -105,6 +105,28 @@ unfoldable pub redefinedBy : Palette → ℕ → Parameters → Palette
 unfolding definedBy
 redefinedBy p n v =
     cond (eqb (v .count) 5) (definedBy p n (numbers.valueAt v 1) (numbers.valueAt v 2) (numbers.valueAt v 3) (numbers.valueAt v 4)) p
+
+-- rule 9.10: whether one of a definition's values is held; in another space there is no definition
+unfoldable pub heldBy : ℕ → ℕ → ℕ → ℕ → Bool
+heldBy space x y z = cond (eqb space 1) (hlsHeld (pos y) (pos z)) (cond (eqb space 2) (rgbHeld (pos x) (pos y) (pos z)) false)
+
+-- of a colour command's values
+unfoldable pub heldIn : Parameters → Bool
+unfolding heldBy
+heldIn v = cond (eqb (v .count) 5) (heldBy (numbers.valueAt v 1) (numbers.valueAt v 2) (numbers.valueAt v 3) (numbers.valueAt v 4)) false
+
+-- what a definition answers, and the palette after it
+unfoldable pub definingBy : Palette → ℕ → ℕ → ℕ → ℕ → ℕ → Bool × Palette
+unfolding heldBy definedBy
+definingBy p n space x y z = (heldBy space x y z, definedBy p n space x y z)
+
+unfoldable pub redefiningBy : Palette → ℕ → Parameters → Bool × Palette
+unfolding heldIn redefinedBy
+redefiningBy p n v = (heldIn v, redefinedBy p n v)
+
+-- one definition more where its values were held, up to the largest number of 64 bits
+unfoldable pub moreHeld : ℕ → Bool → ℕ
+moreHeld n t = cond t (min (n + 1) 18446744073709551615) n
 
 -- the register that the first value selects
 unfoldable pub registerIn : Parameters → ℕ
@@ -120,13 +142,14 @@ paletteAfter p v = redefinedBy p (registerIn v) v
 
 -- what a colour command's values select of a palette
 unfoldable pub selectedIn : Palette → Parameters → Selected
-unfolding registerIn
-selectedIn p v = record { register = registerIn v; color = registerOf p (registerIn v) }
+unfolding registerIn heldIn
+selectedIn p v = record { register = registerIn v; color = registerOf p (registerIn v); held = heldIn v }
 
 unfoldable pub colorEndedBy : Frame → Palette → Parameters → Progress
-unfolding settledAs withColor registerIn
+unfolding settledAs withColor registerIn moreHeld heldIn
 colorEndedBy f after v =
     settledAs (withColor (f .pen) (registerIn v) (registerOf after (registerIn v))) (f .area) (f .extent) (f .raster)
+    (moreHeld (f .held) (heldIn v))
 
 -- raster
 unfoldable pub quotientOf : ℕ → ℕ → ℕ
@@ -147,7 +170,7 @@ rasterBy r v =
 -- the visible area grows to the size that a raster needs
 unfoldable pub rasterGrown : Frame → Raster → Needed → Progress
 unfolding settledAs refusedAs
-rasterGrown f r (Area w h) = settledAs (f .pen) (record { width = w; height = h }) (f .extent) r
+rasterGrown f r (Area w h) = settledAs (f .pen) (record { width = w; height = h }) (f .extent) r (f .held)
 rasterGrown f r (Refused n) = refusedAs f n
 
 -- what a raster comes to: it has no size, or needs an area, or is refused
@@ -164,14 +187,14 @@ measuredBy r a g =
 -- the step that ends it
 unfoldable pub rasterEndedIn : Measured → Frame → Progress
 unfolding settledAs refusedAs
-rasterEndedIn (measures.Sizeless r) f = settledAs (f .pen) (f .area) (f .extent) r
-rasterEndedIn (measures.Area r w h) f = settledAs (f .pen) (record { width = w; height = h }) (f .extent) r
+rasterEndedIn (measures.Sizeless r) f = settledAs (f .pen) (f .area) (f .extent) r (f .held)
+rasterEndedIn (measures.Area r w h) f = settledAs (f .pen) (record { width = w; height = h }) (f .extent) r (f .held)
 rasterEndedIn (measures.Refused n) f = refusedAs f n
 
 unfoldable pub rasterEndedBy : Frame → Ground → Raster → Progress
 unfolding settledAs rasterGrown
 rasterEndedBy f g r =
-    cond (eqb (r .width) 0 && eqb (r .height) 0) (settledAs (f .pen) (f .area) (f .extent) r)
+    cond (eqb (r .width) 0 && eqb (r .height) 0) (settledAs (f .pen) (f .area) (f .extent) r (f .held))
     (rasterGrown f r (rasterArea (f .area) g (max 1 (r .width)) (max 1 (r .height))))
 
 -- ---- whichever is pending
@@ -186,7 +209,7 @@ finishedOf f = numbers.finished (f .command .parameters)
 
 unfoldable pub endedIn : Kind → Frame → Ground → Palette → Ended
 unfolding settledAs repeatEnded colorEndedBy paletteAfter rasterEndedBy rasterBy finishedOf
-endedIn kinds.Data f g p = record { progress = settledAs (f .pen) (f .area) (f .extent) (f .raster); palette = p }
+endedIn kinds.Data f g p = record { progress = settledAs (f .pen) (f .area) (f .extent) (f .raster) (f .held); palette = p }
 endedIn kinds.Repeat f g p = record { progress = repeatEnded f g; palette = p }
 endedIn kinds.Color f g p =
     record { progress = colorEndedBy f (paletteAfter p (finishedOf f)) (finishedOf f); palette = paletteAfter p (finishedOf f) }

@@ -3,7 +3,7 @@ ghost use mathlib.Core.Path.{_≡_};
 ghost use Prim.Native.Nat.{_≤_, min};
 ghost use Rattle.numbers.specs.Step.{finished};
 ghost use Rattle.colours.specs.Palette.{ofTable};
-ghost use Rattle.frame.specs.Commands.{withCommand, begun, byDigit, bySemicolon, noCommand, settledAs, refusedAs, repeatEnded, definedBy, redefinedBy, paletteAfter, withColor, selectedIn, rasterEndedIn, Ended, ended};
+ghost use Rattle.frame.specs.Commands.{withCommand, begun, byDigit, bySemicolon, noCommand, settledAs, refusedAs, repeatEnded, definingBy, redefiningBy, moreHeld, paletteAfter, withColor, selectedIn, rasterEndedIn, Ended, ended};
 use crate::Command;
 use crate::Frame;
 use crate::Ground;
@@ -76,7 +76,7 @@ pub fn without_command(frame: Frame) -> Frame
 
 // No command is pending any more.
 pub fn settled(frame: Frame) -> Progress
-    ensures { λ r. ⌜ r ≡ settledAs (frame .pen) (frame .area) (frame .extent) (frame .raster) ⌝ }
+    ensures { λ r. ⌜ r ≡ settledAs (frame .pen) (frame .area) (frame .extent) (frame .raster) (frame .held) ⌝ }
 {
     Progress {
         frame: without_command(frame),
@@ -111,32 +111,33 @@ pub fn end_repeat(frame: Frame, ground: Ground) -> Progress
     settled(next)
 }
 
-// Space 1 or 2 redefines the register.
+// Space 1 or 2 redefines the register. Answers whether one of the values was held.
 // Inner: asks for values that a signed number can hold.
-pub fn define(colors: &mut [u32; 256], register: usize, space: u32, x: u32, y: u32, z: u32)
+pub fn define(colors: &mut [u32; 256], register: usize, space: u32, x: u32, y: u32, z: u32) -> bool
     requires { ⌜ (x ≤ 2147483647) × (y ≤ 2147483647) × (z ≤ 2147483647) ⌝ }
-    ensures { λ _. ⌜ ofTable (now (colors .exit)) ≡ definedBy (ofTable (now (colors .entry))) register space x y z ⌝ }
+    ensures { λ r. ⌜ (r, ofTable (now (colors .exit))) ≡ definingBy (ofTable (now (colors .entry))) register space x y z ⌝ }
 {
     if space == 1 {
-        colours::define_hls(colors, register, x as i32, y as i32, z as i32);
-        return;
+        return colours::define_hls(colors, register, x as i32, y as i32, z as i32);
     }
     if space == 2 {
-        colours::define_rgb(colors, register, x as i32, y as i32, z as i32);
+        return colours::define_rgb(colors, register, x as i32, y as i32, z as i32);
     }
+    false
 }
 
 // Five values may redefine the register.
-fn redefine(colors: &mut [u32; 256], register: usize, parameters: Parameters)
-    ensures { λ _. ⌜ ofTable (now (colors .exit)) ≡ redefinedBy (ofTable (now (colors .entry))) register parameters ⌝ }
+fn redefine(colors: &mut [u32; 256], register: usize, parameters: Parameters) -> bool
+    ensures { λ r. ⌜ (r, ofTable (now (colors .exit))) ≡ redefiningBy (ofTable (now (colors .entry))) register parameters ⌝ }
 {
     if parameters.count() == 5 {
         let space = parameters.value(1);
         let x = parameters.value(2);
         let y = parameters.value(3);
         let z = parameters.value(4);
-        define(colors, register, space, x, y, z);
+        return define(colors, register, space, x, y, z);
     }
+    false
 }
 
 // The register that a value selects.
@@ -149,10 +150,11 @@ pub fn register_at(value: u32) -> usize
     255
 }
 
-// The register that a colour command selects, and its colour then.
+// The register that a colour command selects, its colour then, and whether the command defined it with a held value.
 pub struct Selected {
     pub register: usize,
     pub color: [u8; 4],
+    pub held: bool,
 }
 
 // Redefines and selects the register. Whoever ends a command calls this and `measure` with the few numbers
@@ -163,13 +165,31 @@ pub fn select(begun: Parameters, colors: &mut [u32; 256]) -> Selected
 {
     let parameters = begun.finish();
     let register = register_at(parameters.value(0));
-    redefine(colors, register, parameters);
+    let held = redefine(colors, register, parameters);
     let color = colours::rgb_bytes(colors, register);
-    Selected { register, color }
+    Selected {
+        register,
+        color,
+        held,
+    }
+}
+
+// One definition more where it was held, up to what a number can hold.
+pub fn more_held(count: u64, held: bool) -> u64
+    ensures { λ r. ⌜ r ≡ moreHeld count held ⌝ }
+{
+    if count == u64::MAX {
+        return count;
+    }
+    if held {
+        return count + 1;
+    }
+    count
 }
 
 pub fn colored(frame: Frame, selected: Selected) -> Progress
-    ensures { λ r. ⌜ r ≡ settledAs (withColor (frame .pen) (selected .register) (selected .color)) (frame .area) (frame .extent) (frame .raster) ⌝ }
+    ensures { λ r. ⌜ r ≡ settledAs (withColor (frame .pen) (selected .register) (selected .color)) (frame .area) (frame .extent) (frame .raster)
+        (moreHeld (frame .held) (selected .held)) ⌝ }
 {
     let color = selected.color;
     let mut pen = frame.pen;
@@ -177,6 +197,7 @@ pub fn colored(frame: Frame, selected: Selected) -> Progress
     pen.color = color;
     let mut next = frame;
     next.pen = pen;
+    next.held = more_held(frame.held, selected.held);
     settled(next)
 }
 

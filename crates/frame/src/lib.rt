@@ -112,6 +112,8 @@ pub struct Frame {
     pub area: VisibleArea,
     pub extent: Extent,
     pub raster: Raster,
+    // How many definitions had a held value (rule 9.10).
+    pub held: u64,
     pub command: Command,
 }
 

@@ -1,6 +1,6 @@
 -- Laws of the two functions on i32: the clamp to a percent and the remainder that is never negative. Assumes nothing.
 use mathlib.Core.Path.{_≡_, refl, sym, ap, _∙_, subst}
-use mathlib.Core.Bool.{true, false}
+use mathlib.Core.Bool.{Bool, true, false}
 use Prim.Native.Nat.{ℕ, zero, suc, _+_, _*_, _-_, _/_, _%_, _≤_, _<_, min}
 use native.Mathlib.Nat.{lt-trans}
 use native.Mathlib.Omega.{arith}
@@ -10,8 +10,9 @@ use lib.Dec.{T, lit<}
 use mir.Syntax.{w32}
 use mir.Val.{Fits, SFits, ofZ, toZ}
 use mir.ValLaws.{toZ-ofZ, sfits-le}
-use borrow.Author.Tests.{ltb-true, ltb-false, le-ltb}
-use Rattle.hls.specs.Percent.{held, percentByte}
+use borrow.Author.Tests.{ltb-true, ltb-false, lt-ltb, le-ltb}
+use Rattle.hls.specs.declared.Percent.{Percent}
+use Rattle.hls.specs.Percent.{held, outside, percentByte, percentOf}
 use Rattle.hls.specs.Turn.{modulo360, turned}
 
 -- ---- a number that the machine holds: z is what is read back from its bits
@@ -62,6 +63,26 @@ clamp-within {z} v e t u = go v (subst (λ (x : ℤ). ltZ x (pos 0) ≡ false) e
         kept : (n : ℕ) → n ≤ 100 → n ≡ min n 100
         kept n h = omega arith
     go (negsuc n) t u = cc t
+
+-- ---- outside 0 to 100
+
+pub outside-low : {z : ℤ} (v : ℤ) → z ≡ v → ltZ z (pos 0) ≡ true → true ≡ outside v
+outside-low {z} v e t = go v (subst (λ (x : ℤ). ltZ x (pos 0) ≡ true) e t)
+  where
+    go : (v : ℤ) → ltZ v (pos 0) ≡ true → true ≡ outside v
+    go (pos n) t = absurd (omega (arith, ltb-true n 0 t))
+    go (negsuc n) t = unfold outside in refl
+
+pub outside-high : {z : ℤ} (v : ℤ) → z ≡ v → ltZ z (pos 0) ≡ false → ltZ (pos 100) z ≡ outside v
+outside-high v e t = ap (ltZ (pos 100)) e ∙ go v (subst (λ (x : ℤ). ltZ x (pos 0) ≡ false) e t)
+  where
+    go : (v : ℤ) → ltZ v (pos 0) ≡ false → ltZ (pos 100) v ≡ outside v
+    go (pos n) t = unfold outside in refl
+    go (negsuc n) t = cc t
+
+pub percent-made : (v : ℤ) {b : ℕ} {h : Bool} → b ≡ percentByte v → h ≡ outside v → _≡_ {A = Percent} (record { byte = b; held = h }) (percentOf v)
+unfolding percentOf
+percent-made v eb eh = rw (eb, eh) refl
 
 pub percent-is : {n : ℕ} (v : ℤ) → n ≡ held v → (n * 255 + 50) / 100 ≡ percentByte v
 unfolding percentByte

@@ -1,7 +1,7 @@
 // Percents, and HLS colours as the Rust works them out in f64, bit for bit.
 ghost use mathlib.Core.Path.{_≡_};
 ghost use lib.Ieee.{toUnsigned};
-ghost use Rattle.hls.specs.Percent.{held, percentByte};
+ghost use Rattle.hls.specs.Percent.{held, outside, percentByte, percentOf};
 ghost use Rattle.hls.specs.Turn.{modulo360};
 ghost use Rattle.hls.specs.Hls.{raised, lowered, hueToRgb, upper, hlsBytes};
 ghost use Rattle.hls.specs.Exact.{exactHls, AllBeside};
@@ -19,11 +19,36 @@ fn clamp_percent(v: i32) -> u32
     v as u32
 }
 
-// Any number is a percent: it is clamped to 0 to 100.
-pub fn percent_to_byte(value: i32) -> u8
+fn percent_byte(value: i32) -> u8
     ensures { λ r. ⌜ r ≡ percentByte value ⌝ }
 {
     ((clamp_percent(value) * 255 + 50) / 100) as u8
+}
+
+// Whether a number is no percent, so that it is held to 0 to 100. Of HLS the lightness and the saturation are percents, the hue is none.
+pub fn is_outside(value: i32) -> bool
+    ensures { λ r. ⌜ r ≡ outside value ⌝ }
+{
+    if value < 0 {
+        return true;
+    }
+    100 < value
+}
+
+// A percent's byte, and whether the number had to be held.
+pub struct Percent {
+    pub byte: u8,
+    pub held: bool,
+}
+
+// Any number is a percent: it is held to 0 to 100.
+pub fn percent_to_byte(value: i32) -> Percent
+    ensures { λ r. ⌜ r ≡ percentOf value ⌝ }
+{
+    Percent {
+        byte: percent_byte(value),
+        held: is_outside(value),
+    }
 }
 
 // The Rust's `h.rem_euclid(360)`.
@@ -103,7 +128,7 @@ pub fn hls_to_rgb(h: i32, l: i32, s: i32) -> [u8; 3]
     ensures { λ r. ⌜ AllBeside (exactHls h l s) r ⌝ }
 {
     if s <= 0 {
-        let gray = percent_to_byte(l);
+        let gray = percent_byte(l);
         return [gray, gray, gray];
     }
     // The remainder comes before SIXEL's offset, since the sum could overflow.

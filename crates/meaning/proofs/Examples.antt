@@ -7,7 +7,7 @@ use mathlib.Core.List.{List, [], _∷_, _++_, map}
 use Rattle.meaning.specs.Payload.{byRaster, leftToP1}
 use Rattle.meaning.specs.Sessions.{complete, cancelled, interrupted}
 use Rattle.meaning.specs.Calls.{needsMore, stoppedForInk, ended, told, refused}
-use Rattle.meaning.proofs.Trials.{Row, limited, onCanvas, row, under, partly, dcs, once, size, extent, upTo, ink, shows, ratio, transparent, opaque, defines, declares, marked, unmarked, refusal, ends, goesOn, leaves, rowsHold, Calls, houseCalls, calls, feeding, finishing, fed, sized, declined, heard, computed}
+use Rattle.meaning.proofs.Trials.{Row, limited, onCanvas, row, under, partly, dcs, once, size, extent, upTo, ink, shows, ratio, transparent, opaque, defines, holding, declares, marked, unmarked, refusal, ends, goesOn, leaves, rowsHold, Calls, houseCalls, calls, feeding, finishing, fed, sized, declined, heard, computed}
 
 -- the bench examples, and the program's
 bench : List Row
@@ -175,6 +175,37 @@ declarations =
     ∷ once "text\u{90}q\"1;1;3;20!2~" (declares 3 20 ∷ size 3 20 ∷ [])
     ∷ []
 
+-- definitions with a held value: each percent by itself, never the hue, and once however many are; each definition, and no other command; a
+-- pending one at the end alone
+heldValues : List Row
+heldValues =
+    row "" (holding 0 ∷ [])
+    ∷ row "#1;2;100;100;100" (holding 0 ∷ defines 1 ∷ [])
+    ∷ row "#1;2;101;0;0" (holding 1 ∷ defines 1 ∷ [])
+    ∷ row "#1;2;0;101;0" (holding 1 ∷ [])
+    ∷ row "#1;2;0;0;101@" (holding 1 ∷ shows 0 0 0x0000FFFF ∷ [])
+    ∷ row "#1;2;255;255;255" (holding 1 ∷ defines 1 ∷ [])
+    ∷ row "#1;2;99999999999;0;0" (holding 1 ∷ [])
+    ∷ row "#1;1;361;50;100" (holding 0 ∷ defines 1 ∷ [])
+    ∷ row "#1;1;0;100;100" (holding 0 ∷ [])
+    ∷ row "#1;1;0;101;50" (holding 1 ∷ [])
+    ∷ row "#1;1;0;50;101" (holding 1 ∷ [])
+    ∷ row "#1;1;0;101;0@" (holding 1 ∷ shows 0 0 0xFFFFFFFF ∷ [])
+    ∷ row "#1;2;101;0;0#1;2;101;0;0" (holding 2 ∷ defines 1 ∷ [])
+    ∷ row "#1;2;101;0;0#1;2;100;0;0#2;1;0;0;200" (holding 2 ∷ defines 2 ∷ [])
+    ∷ row "#300;2;101;0;0#255;2;101;0;0" (holding 2 ∷ defines 1 ∷ [])
+    ∷ row "#1;2;101;101" (holding 0 ∷ defines 0 ∷ [])
+    ∷ row "#1;3;101;101;101" (holding 0 ∷ defines 0 ∷ [])
+    ∷ row "#1;0;101;101;101" (holding 0 ∷ [])
+    ∷ row "#1;2;0;0;0;101" (holding 0 ∷ [])
+    ∷ row "#101!101~\"101;101;101;101" (holding 0 ∷ [])
+    ∷ partly "#1;2;101;0;0" (holding 0 ∷ [])
+    ∷ partly "#1;2;101;0;0$" (holding 1 ∷ [])
+    ∷ row "#1;2;101;0;0!1025~" (refusal 4 ∷ [])
+    ∷ dcs "\u{90}q#1;2;101;0;0\u{9c}#1;2;101;0;0" (holding 1 ∷ ends complete ∷ [])
+    ∷ once "#1;2;101;0;0\u{90}q#1;2;0;0;0#2;2;0;0;256" (holding 1 ∷ defines 2 ∷ [])
+    ∷ []
+
 -- what has been drawn once the bytes are read: a pending command is not yet carried out, and neither is its refusal; the byte that
 -- ends it, or the payload, does both
 pending : List Row
@@ -248,8 +279,10 @@ shots =
 
 -- rules 12.1, 12.2: all of them
 pub table : List Row
-unfolding bench slips commands extents colours definitions rasters declarations pending sequences shots
-table = bench ++ (slips ++ (commands ++ (extents ++ (colours ++ (definitions ++ (rasters ++ (declarations ++ (pending ++ (sequences ++ shots)))))))))
+unfolding bench slips commands extents colours definitions rasters declarations heldValues pending sequences shots
+table =
+    bench
+    ++ (slips ++ (commands ++ (extents ++ (colours ++ (definitions ++ (rasters ++ (declarations ++ (heldValues ++ (pending ++ (sequences ++ shots))))))))))
 
 -- the bench examples and all the others are read as their rows say
 pub table-holds : rowsHold table ≡ true

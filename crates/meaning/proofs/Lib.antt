@@ -19,6 +19,8 @@ pub mod SixelLaws
 pub mod ExtentLaws
 pub mod MarkLaws
 pub mod DeclaredLaws
+pub mod HeldLaws
+pub mod ReportLaws
 pub mod InkLaws
 pub mod PayloadLaws
 pub mod WholeLaws

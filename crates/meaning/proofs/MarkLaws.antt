@@ -193,7 +193,7 @@ reader-marks {feed = feed} {canvas} {finish} {meant} {h} {ts} p said marks two t
 -- a drawing with another palette
 unfoldable swapped : Drawing → Palette → Drawing
 swapped d q =
-    record { pen = d .pen; strokes = d .strokes; area = d .area; raster = d .raster; palette = q; background = d .background }
+    record { pen = d .pen; strokes = d .strokes; area = d .area; raster = d .raster; held = d .held; palette = q; background = d .background }
 
 -- two drawings that differ in marks alone
 record Alike (d e : Drawing) : Type 0 where
@@ -327,7 +327,7 @@ blank-alike p q p2 h =
 
     on : List ℕ → Drawing
     on background =
-        record { pen = first .pen; strokes = []; area = first .area; raster = first .raster; palette = lasting q; background = background }
+        record { pen = first .pen; strokes = []; area = first .area; raster = first .raster; held = first .held; palette = lasting q; background = background }
 
 -- drawings that differ in marks alone, told part by part
 parts : {x y : Outcome} → OutcomesAlike x y → SameDrawn x y
@@ -340,6 +340,7 @@ parts {x} {y} a =
       strokes = sym (ap (λ (d : Drawing). d .strokes) same);
       area = sym (ap (λ (d : Drawing). d .area) same);
       raster = sym (ap (λ (d : Drawing). d .raster) same);
+      held = sym (ap (λ (d : Drawing). d .held) same);
       background = sym (ap (λ (d : Drawing). d .background) same);
       palette = a .drawing .colours;
     }
@@ -357,6 +358,7 @@ finishes-alike o p q cs x y same = go (x .refusal) (y .refusal) (same .refusal)
     go none none e f g =
         record {
           size = same .area;
+          held = rw (same .held) refl;
           ratio = rw (same .raster) refl;
           clear = refl;
           extent = rw (same .strokes) refl;

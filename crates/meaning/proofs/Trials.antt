@@ -44,16 +44,16 @@ pub data Way : Type 0 where
   asPayload soFar asDcs atOnce : Way
 
 -- what a row says: the size's or the extent's width and height, or those of the extent of what was drawn up to a refusal; ink; the pixel at
--- a column and a row, as RRGGBBAA; the ratio; the background; how many registers were defined; the declared width and height; a register
--- that is marked, or is not; a refusal's number; that a DCS sequence has come to an end, or has not; and what stays unread, or is the part
--- handed back
+-- a column and a row, as RRGGBBAA; the ratio; the background; how many registers were defined, and how many definitions had a held value; the
+-- declared width and height; a register that is marked, or is not; a refusal's number; that a DCS sequence has come to an end, or has not; and
+-- what stays unread, or is the part handed back
 pub data Says : Type 0 where
   size extent upTo : ℕ → ℕ → Says
   ink : ℕ → Says
   shows : ℕ → ℕ → ℕ → Says
   ratio : Ratio → Says
   transparent opaque : Says
-  defines marked unmarked : ℕ → Says
+  defines holding marked unmarked : ℕ → Says
   declares : ℕ → ℕ → Says
   refusal : ℕ → Says
   ends : End → Says
@@ -274,6 +274,7 @@ isSo r (ratio q) = reports (r .answer) (λ a. sameRatio (a .ratio) q)
 isSo r transparent = reports (r .answer) (λ a. a .clear)
 isSo r opaque = reports (r .answer) (λ a. not (a .clear))
 isSo r (defines n) = reports (r .answer) (λ a. eqb (a .defined) n)
+isSo r (holding n) = reports (r .answer) (λ a. eqb (a .held) n)
 isSo r (declares w h) = reports (r .answer) (λ a. sameArea (a .declared) w h)
 isSo r (marked n) = reports (r .answer) (λ a. isMarked (a .palette) n)
 isSo r (unmarked n) = reports (r .answer) (λ a. not (isMarked (a .palette) n))
@@ -375,10 +376,10 @@ unfolding payload finish finishDcs oneShot findPayload partOf readFrom call payl
     Picture.reach Picture.grownTo Picture.rowsOf Picture.fits Picture.colourAt Picture.lastStroke Picture.orHere Picture.covers Picture.inSixel
     Picture.span Picture.bit Picture.depth
     Registers.ofTable Registers.registerOf Registers.rgbColour Registers.hlsColour Registers.packedBytes
-    Registers.recoloured Registers.stored Registers.setRgb Registers.setHls
+    Registers.recoloured Registers.stored Registers.setRgb Registers.setHls Registers.rgbHeld Registers.hlsHeld
     Marks.isMarked Marks.isDefined Marks.defined Marks.definedRgb Marks.definedHls Marks.lasting Marks.counted Marks.definedCount
     Standard.listed Standard.standardAt Standard.base Standard.cube Standard.grey Standard.percents
-    Packing.packed Packing.pixelOf Percent.percentByte Percent.held Turn.turned Turn.modulo360
+    Packing.packed Packing.pixelOf Percent.percentByte Percent.held Percent.outside Turn.turned Turn.modulo360
     Hls.hlsBytes Hls.grey Hls.coloured Hls.between Hls.channelByte Hls.hueToRgb Hls.placed Hls.channel Hls.lowered Hls.raised Hls.over Hls.upper
     Hls.upperBy Ieee.toUnsigned Ieee.add Ieee.sub Ieee.mul Ieee.div Ieee.lt Ieee.ofInt ones
 computed = true

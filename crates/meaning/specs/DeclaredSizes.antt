@@ -1,19 +1,14 @@
 -- What size the commands of a payload declare (docs/RULES.md, rule 4.7), said of the commands alone. That a finish reports it is proved
--- (proofs/DeclaredLaws).
+-- (proofs/DeclaredLaws, proofs/ReportLaws).
 use Prim.Native.Nat.{ℕ, _≤_}
 use mathlib.Core.List.{List, [], _∷_}
 use mathlib.Core.Path.{_≡_}
 use lib.ListN.{getD}
 use Rattle.numbers.specs.Values.{values}
-use Rattle.colours.specs.declared.Palette.{Palette}
 use Rattle.canvas.specs.Picture.{Area, areaOf}
 use Rattle.meaning.specs.Commands.{repeat, colour, raster, Command, argued, return, line, draw, Placed}
 use Rattle.meaning.specs.Drawing.{kept}
-use Rattle.meaning.specs.Payload.{Report, Finished, finished, turnedDown}
-use Rattle.meaning.specs.Reader.{Turn, stream}
-use Rattle.meaning.specs.Calls.{Answer}
-use Rattle.meaning.specs.Callers.{Feed}
-use Rattle.meaning.specs.Demands.{Concluded, now, Through}
+use Rattle.meaning.specs.Payload.{Report}
 
 -- rule 4.7: the side that is declared after a command: a raster's value at place k where that is above 0, else what it was before
 unfoldable pub sideAfter : ℕ → ℕ → Command → ℕ
@@ -40,14 +35,3 @@ pub record Declares (cs : List Placed) (r : Report) : Type 0 where
   pub told : r .declared ≡ declaredBy cs
   pub width : r .declared .width ≤ r .size .width
   pub height : r .declared .height ≤ r .size .height
-
--- so it is where a finish reports anything
-abbrev pub ReportDeclares : List Placed → Finished → Type 0
-ReportDeclares cs (finished r) = Declares cs r
-ReportDeclares cs (turnedDown n) = Unit {0}
-
--- Of any reader, as its caller meets it (Demands): so it is once all has been read and nothing refused, however the stream is split.
--- `said` are the commands of a stream.
-abbrev pub DeclaredTold : {H E : Type 0} → Feed H (Answer E) → (H → Palette → Concluded) → (List ℕ → List Placed) → H → List Turn → Type 0
-DeclaredTold feed finish said h ts =
-    Through feed h ts → (owner : Palette) → ReportDeclares (said (stream ts)) (finish (now feed h ts .state) owner .answer)

@@ -84,6 +84,7 @@ pub record SameDrawn (x y : Outcome) : Type 0 where
   pub strokes : x .drawing .strokes ≡ y .drawing .strokes
   pub area : x .drawing .area ≡ y .drawing .area
   pub raster : x .drawing .raster ≡ y .drawing .raster
+  pub held : x .drawing .held ≡ y .drawing .held
   pub background : x .drawing .background ≡ y .drawing .background
   pub palette : SameColours (x .drawing .palette) (y .drawing .palette)
 
@@ -95,6 +96,7 @@ pub record SameReports (r t : Report) : Type 0 where
   pub extent : r .extent ≡ t .extent
   pub defined : r .defined ≡ t .defined
   pub declared : r .declared ≡ t .declared
+  pub held : r .held ≡ t .held
   pub palette : SameColours (r .palette) (t .palette)
 
 -- two finishes: both report, or both are refused with one number

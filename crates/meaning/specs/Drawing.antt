@@ -6,11 +6,11 @@ use mathlib.Core.Option.{Option, none, some}
 use mathlib.Core.List.{List, [], _∷_, _++_}
 use lib.Dec.{leb, ltb, eqb}
 use lib.Count.{ones}
-use lib.IntN.{pos}
+use lib.IntN.{ℤ, pos}
 use lib.ListN.{length, getD, drop}
 use Rattle.numbers.specs.Values.{decimal, values}
 use Rattle.colours.specs.declared.Palette.{Palette}
-use Rattle.colours.specs.Palette.{registerOf}
+use Rattle.colours.specs.Palette.{registerOf, rgbHeld, hlsHeld}
 use Rattle.colours.specs.Marks.{definedRgb, definedHls, lasting}
 use Rattle.canvas.specs.Picture.{Stroke, Area, depth, grownTo, reach}
 use Rattle.meaning.specs.Commands.{repeat, colour, raster, Command, argued, return, line, draw, Placed}
@@ -49,12 +49,13 @@ pub record Raster : Type 0 where
   pub width : ℕ
   pub height : ℕ
 
--- all that a payload has made so far; a blank sixel is a stroke of no bits
+-- all that a payload has made so far; a blank sixel is a stroke of no bits, and `held` is how many definitions had a held value (rule 9.10)
 pub record Drawing : Type 0 where
   pub pen : Pen
   pub strokes : List Stroke
   pub area : Area
   pub raster : Raster
+  pub held : ℕ
   pub palette : Palette
   pub background : List ℕ
 
@@ -77,6 +78,7 @@ blank owner p2 =
       strokes = [];
       area = record { width = 1; height = 1 };
       raster = record { ratio = none; width = 0; height = 0 };
+      held = 0;
       palette = lasting owner;
       background = backgroundOf (lasting owner) p2;
     }
@@ -90,7 +92,7 @@ pub data Drawn : Type 0 where
 
 unfoldable pub withPen : Drawing → Pen → Drawing
 withPen d p =
-    record { pen = p; strokes = d .strokes; area = d .area; raster = d .raster; palette = d .palette; background = d .background }
+    record { pen = p; strokes = d .strokes; area = d .area; raster = d .raster; held = d .held; palette = d .palette; background = d .background }
 
 unfoldable pub withRegister : Pen → ℕ → Pen
 withRegister p n = record { column = p .column; row = p .row; repeats = p .repeats; register = n }
@@ -124,15 +126,30 @@ redefined p n vs =
     p))
     p
 
+-- rule 9.10: in a space, one of a definition's percents lies outside 0 to 100; of HLS the hue is no percent
+unfoldable pub holdsIn : ℕ → ℤ → ℤ → ℤ → Bool
+holdsIn space x y z = cond (eqb space 1) (hlsHeld y z) (cond (eqb space 2) (rgbHeld x y z) false)
+
+-- rule 9.10: a definition, which has five values, has a held one
+unfoldable pub holds : List ℕ → Bool
+unfolding holdsIn
+holds vs = cond (eqb (length vs) 5) (holdsIn (getD vs 1 0) (pos (getD vs 2 0)) (pos (getD vs 3 0)) (pos (getD vs 4 0))) false
+
+-- rule 9.10: it counts once
+unfoldable pub heldIn : List ℕ → ℕ
+unfolding holds
+heldIn vs = cond (holds vs) 1 0
+
 -- rule 3.5: a colour command selects its register, and redefines it where its values say so
 unfoldable pub coloured : List ℕ → Drawing → Drawing
-unfolding withRegister selected redefined
+unfolding withRegister selected redefined heldIn
 coloured vs d =
     record {
       pen = withRegister (d .pen) (selected vs);
       strokes = d .strokes;
       area = d .area;
       raster = d .raster;
+      held = d .held + heldIn vs;
       palette = redefined (d .palette) (selected vs) vs;
       background = d .background;
     }
@@ -183,7 +200,7 @@ rasterAfter r vs =
 -- the drawing with a raster and an area
 unfoldable pub withRaster : Drawing → Raster → Area → Drawing
 withRaster d r a =
-    record { pen = d .pen; strokes = d .strokes; area = a; raster = r; palette = d .palette; background = d .background }
+    record { pen = d .pen; strokes = d .strokes; area = a; raster = r; held = d .held; palette = d .palette; background = d .background }
 
 -- rule 3.8: the visible area grows to a raster's size, a missing width or height counting 1
 unfoldable pub stretched : Setting → Raster → Drawing → Drawn
@@ -220,6 +237,7 @@ stroked d k =
       strokes = d .strokes ++ (k ∷ []);
       area = reach (d .area) k;
       raster = d .raster;
+      held = d .held;
       palette = d .palette;
       background = d .background;
     }

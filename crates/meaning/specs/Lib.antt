@@ -11,5 +11,7 @@ pub mod Callers
 pub mod Demands
 pub mod Sizes
 pub mod DeclaredSizes
+pub mod HeldDefinitions
+pub mod Reported
 pub mod Definitions
 pub mod Tellings

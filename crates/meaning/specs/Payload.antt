@@ -1,5 +1,5 @@
 -- What a payload means, whole: the drawing of its commands, and what finishing it answers (docs/RULES.md, sections 3 and 4).
-use Prim.Native.Nat.{ℕ}
+use Prim.Native.Nat.{ℕ, min}
 use mathlib.Core.Bool.{Bool}
 use mathlib.Core.Option.{Option, none, some}
 use mathlib.Core.List.{List}
@@ -46,6 +46,10 @@ ratioOf p1 (some n) = byRaster n
 unfoldable pub declaredOf : Raster → Area
 declaredOf r = areaOf (r .width) (r .height)
 
+-- rule 9.10: no count is reported larger than this
+abbrev pub largestCount : ℕ
+largestCount = 18446744073709551615
+
 -- rule 4.6: what finishing reports
 pub record Report : Type 0 where
   pub size : Area
@@ -54,6 +58,7 @@ pub record Report : Type 0 where
   pub extent : Area
   pub defined : ℕ
   pub declared : Area
+  pub held : ℕ
   pub palette : Palette
 
 -- rule 4.6: what is reported of a drawing
@@ -67,6 +72,7 @@ reportOf o d =
       extent = extentOf (d .strokes);
       defined = definedCount (d .palette);
       declared = declaredOf (d .raster);
+      held = min (d .held) largestCount;
       palette = lasting (d .palette);
     }
 

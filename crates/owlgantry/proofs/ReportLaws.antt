@@ -59,6 +59,7 @@ picture-numbers x kind number clear place part =
     ∷ x .defined
     ∷ x .«declared_width»
     ∷ x .«declared_height»
+    ∷ x .held
     ∷ place
     ∷ part
     ∷ []

@@ -74,6 +74,7 @@ partless l =
     ∷ getD l 7 0
     ∷ getD l 8 0
     ∷ getD l 9 0
+    ∷ getD l 10 0
     ∷ []
 
 partless-first : (x : meant.Finished) → partless (reportNumbers x 0 0) ≡ finishReport x

@@ -30,8 +30,8 @@ unfolding givenNumber
 ratioNumber (byRaster n) = n
 ratioNumber (leftToP1 p1) = givenNumber p1
 
--- the twelve numbers of a report: size, extent, ratio, 1 for a transparent background, how many registers were defined, the declared size,
--- and the part's place and length; a refusal has the last two alone
+-- the thirteen numbers of a report: size, extent, ratio, 1 for a transparent background, how many registers were defined, the declared size,
+-- how many definitions had a held value, and the part's place and length; a refusal has the last two alone
 unfoldable pub reportNumbers : Finished → ℕ → ℕ → List ℕ
 unfolding ratioKind ratioNumber
 reportNumbers (finished r) place part =
@@ -45,10 +45,11 @@ reportNumbers (finished r) place part =
     ∷ r .defined
     ∷ r .declared .width
     ∷ r .declared .height
+    ∷ r .held
     ∷ place
     ∷ part
     ∷ []
-reportNumbers (turnedDown n) place part = 0 ∷ 0 ∷ 0 ∷ 0 ∷ 0 ∷ 0 ∷ 0 ∷ 0 ∷ 0 ∷ 0 ∷ place ∷ part ∷ []
+reportNumbers (turnedDown n) place part = 0 ∷ 0 ∷ 0 ∷ 0 ∷ 0 ∷ 0 ∷ 0 ∷ 0 ∷ 0 ∷ 0 ∷ 0 ∷ place ∷ part ∷ []
 
 -- 0, or the refusal's number
 unfoldable pub refusalNumber : Finished → ℕ

@@ -73,7 +73,7 @@ dcsReport (dcsAnswers.Refused r) = 0 ∷ 0 ∷ 0 ∷ 0 ∷ []
 
 -- a report's numbers without a part's place and length
 unfoldable pub finishReport : meant.Finished → List ℕ
-finishReport x = take 10 (reportNumbers x 0 0)
+finishReport x = take 11 (reportNumbers x 0 0)
 
 -- ---- the outcomes
 

@@ -122,8 +122,8 @@ pub fn dcs_report(answer: dcs::Answer) -> [u64; 4]
 }
 
 // Width, height, right, bottom, the ratio's kind and number, 1 for a transparent background, how many registers were defined, and the
-// declared width and height; on a refusal all are 0.
-pub fn finish_report(answer: Finishing) -> [u64; 10]
+// declared width and height, and how many definitions had a held value; on a refusal all are 0.
+pub fn finish_report(answer: Finishing) -> [u64; 11]
     ensures { λ r. ⌜ ((p : Palette) → r ≡ finishReport (finishMeant answer p)) ⌝ }
 {
     let all = report_numbers(answer, 0, 0);
@@ -138,5 +138,6 @@ pub fn finish_report(answer: Finishing) -> [u64; 10]
         all[7],
         all[8],
         all[9],
+        all[10],
     ]
 }

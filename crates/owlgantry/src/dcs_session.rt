@@ -81,7 +81,7 @@ pub extern "C" fn owlgantry_raw_dcs_finish(
     registers: &[u32; 256],
     canvas: &mut [u8],
     palette: &mut [u32; 256],
-    report: &mut [u64; 10],
+    report: &mut [u64; 11],
 ) -> u64
     ensures { λ r. ⌜ (r, now (session .exit), now (palette .exit), now (canvas .exit), now (report .exit))
         ≡ dcsFinished (now (session .entry)) (now (registers .entry)) (now (palette .entry)) (now (canvas .entry)) ⌝ }

@@ -20,10 +20,10 @@ use report::refusal_number;
 use report::report_numbers;
 
 // Reads all at once, with a palette that becomes the picture's where there is one. Answers 0 or the refusal's number, and
-// reports twelve numbers: width, height, right, bottom; the ratio's kind and number (0: left to P1, which is missing; 1: left
+// reports thirteen numbers: width, height, right, bottom; the ratio's kind and number (0: left to P1, which is missing; 1: left
 // to P1's number; 2: the raster's, number : 1); 1 for a transparent background; how many registers the picture defined; the
-// declared width and height, each 0 where there is none; and the place and the length of the payload among the bytes. On a refusal
-// the first ten are 0.
+// declared width and height, each 0 where there is none; how many definitions had a held value; and the place and the length of the
+// payload among the bytes. On a refusal the first eleven are 0.
 #[no_mangle]
 pub extern "C" fn owlgantry_raw_read(
     width: usize,
@@ -34,7 +34,7 @@ pub extern "C" fn owlgantry_raw_read(
     canvas: &mut [u8],
     bytes: &[u8],
     palette: &mut [u32; 256],
-    report: &mut [u64; 12],
+    report: &mut [u64; 13],
 ) -> u64
     ensures { λ r. ⌜ (r, now (canvas .exit), ofTable (now (palette .exit)), now (report .exit))
         ≡ sixelRead (record { width = width; height = height; repeats = repeats; pixels = pixels }) stride

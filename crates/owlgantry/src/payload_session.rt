@@ -94,16 +94,17 @@ pub extern "C" fn owlgantry_raw_payload_feed(
 }
 
 // Carries the pending command out. Answers 0 or the refusal's number. The palette gets the session's colours and marks where there is a
-// picture, and the session's numbers are 0 afterwards: a finish hands back no session. Reports ten numbers, 0 on a refusal: width,
+// picture, and the session's numbers are 0 afterwards: a finish hands back no session. Reports eleven numbers, 0 on a refusal: width,
 // height, right, bottom; the ratio's kind and number (0: left to P1, which is missing; 1: left to P1's number; 2: the raster's, number : 1);
-// 1 for a transparent background; how many registers the picture defined; and the declared width and height, each 0 where there is none.
+// 1 for a transparent background; how many registers the picture defined; the declared width and height, each 0 where there is none; and how
+// many definitions had a held value.
 #[no_mangle]
 pub extern "C" fn owlgantry_raw_payload_finish(
     session: &mut [u64; 48],
     registers: &[u32; 256],
     canvas: &mut [u8],
     palette: &mut [u32; 256],
-    report: &mut [u64; 10],
+    report: &mut [u64; 11],
 ) -> u64
     ensures { λ r. ⌜ (r, now (session .exit), now (palette .exit), now (canvas .exit), now (report .exit))
         ≡ payloadFinished (now (session .entry)) (now (registers .entry)) (now (palette .entry)) (now (canvas .entry)) ⌝ }

@@ -56,8 +56,8 @@ fn ratio_number(ratio: Ratio) -> u64
     }
 }
 
-// The twelve numbers of a report, with the part's place and length.
-pub fn report_numbers(answer: Finishing, place: usize, size: usize) -> [u64; 12]
+// The thirteen numbers of a report, with the part's place and length.
+pub fn report_numbers(answer: Finishing, place: usize, size: usize) -> [u64; 13]
     ensures { λ r. ⌜ ((p : Palette) → r ≡ reportNumbers (finishMeant answer p) place size) ⌝ }
 {
     match answer {
@@ -74,11 +74,12 @@ pub fn report_numbers(answer: Finishing, place: usize, size: usize) -> [u64; 12]
                 report.defined as u64,
                 report.declared_width as u64,
                 report.declared_height as u64,
+                report.held,
                 place as u64,
                 size as u64,
             ]
         }
-        Finishing::Refused(_) => [0, 0, 0, 0, 0, 0, 0, 0, 0, 0, place as u64, size as u64],
+        Finishing::Refused(_) => [0, 0, 0, 0, 0, 0, 0, 0, 0, 0, 0, place as u64, size as u64],
     }
 }
 

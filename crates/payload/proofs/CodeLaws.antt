@@ -79,7 +79,7 @@ pub numbers-told : (s : Session) {l vs : List ℕ} {background p1 p2 life color 
     ∷ getD vs 6 0
     ∷ getD vs 7 0
     ∷ getD vs 8 0
-    ∷ 0 ∷ 0 ∷ 0 ∷ 0 ∷ 0 ∷ 0 ∷ 0 ∷ 0 ∷ 0 ∷ 0 ∷ 0 ∷ 0 ∷ 0 ∷ 0 ∷ []
+    ∷ 0 ∷ 0 ∷ 0 ∷ 0 ∷ 0 ∷ 0 ∷ 0 ∷ 0 ∷ 0 ∷ 0 ∷ s .frame .held ∷ 0 ∷ 0 ∷ 0 ∷ []
     → l ≡ numbersOf s
 unfolding numbersOf ownNumbers groundNumbers frameNumbers penNumbers areaNumbers extentNumbers rasterNumbers commandNumbers parameters.numbersOf
 numbers-told s ev eb e1 e2 el ec ek e = e ∙ rw (ev, eb, e1, e2, el, ec, ek) refl
@@ -120,7 +120,7 @@ setup-of ns eg eo = rw (eg, eo) refl
 
 pub frame-of : (ns : List ℕ) {p : Pen} {a : VisibleArea} {e : Extent} {r : Raster} {c : Command}
     → p ≡ penFrom ns → a ≡ areaFrom ns → e ≡ extentFrom ns → r ≡ rasterFrom ns → c ≡ commandFrom ns
-    → _≡_ {A = Frame} (record { pen = p; area = a; extent = e; raster = r; command = c }) (frameFrom ns)
+    → _≡_ {A = Frame} (record { pen = p; area = a; extent = e; raster = r; held = getD ns 44 0; command = c }) (frameFrom ns)
 unfolding frameFrom
 frame-of ns ep ea ee er ec = rw (ep, ea, ee, er, ec) refl
 

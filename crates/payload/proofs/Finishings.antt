@@ -56,6 +56,7 @@ report-meant f o p =
       extent = areaOf (f .extent .right) (f .extent .bottom);
       defined = definedCount p;
       declared = areaOf (f .raster .width) (f .raster .height);
+      held = f .held;
       palette = lasting p;
     })
     (ratio-meant (f .raster) (o .p1))

@@ -69,12 +69,13 @@ color-back px h = unpacked _ _ _ _ (h .red) (h .green) (h .blue) (h .alpha) _ re
 
 -- ---- a session
 
--- whatever stands after its 34 numbers
-pub session-back : (s : Session) (rest : List ℕ) → Ranged s → sessionFrom (ownNumbers s ++ rest) (tableOf s) ≡ s
+-- whatever stands after its 34 numbers, but for the count, which is the eleventh of these
+pub session-back : (s : Session) (rest : List ℕ) → getD rest 10 0 ≡ s .frame .held → Ranged s → sessionFrom (ownNumbers s ++ rest) (tableOf s) ≡ s
 unfolding sessionFrom groundFrom settingsFrom frameFrom penFrom areaFrom extentFrom rasterFrom commandFrom nineFrom ofTable
     ownNumbers groundNumbers frameNumbers penNumbers areaNumbers extentNumbers rasterNumbers commandNumbers parameters.numbersOf
-session-back s rest h =
+session-back s rest held h =
     rw (
+      held,
       color-back (s .ground .background) (h .background),
       given-back (s .settings .p1) (h .settings .p1),
       given-back (s .settings .p2) (h .settings .p2),
@@ -89,4 +90,4 @@ session-back s rest h =
 -- the law: a session in memory is the session
 pub from-memory : (s : Session) → Ranged s → sessionFrom (numbersOf s) (tableOf s) ≡ s
 unfolding numbersOf
-from-memory s h = session-back s _ h
+from-memory s h = session-back s _ refl h

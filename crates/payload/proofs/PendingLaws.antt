@@ -44,30 +44,30 @@ use Rattle.frame.proofs.Outcome as OutcomeType
 
 -- a command that ends is settled, or it is refused and leaves the frame
 data EndsAs (f : Frame) : Progress → Type 0 where
-  settles : (p : Pen) (a : VisibleArea) (e : Extent) (r : Raster) → EndsAs f (settledAs p a e r)
+  settles : (p : Pen) (a : VisibleArea) (e : Extent) (r : Raster) (h : ℕ) → EndsAs f (settledAs p a e r h)
   declines : (n : Refusal) → EndsAs f (refusedAs f n)
 
 module _ (f : Frame) (g : Ground) where
   grown-ends : (r : Raster) (n : Needed) → EndsAs f (rasterGrown f r n)
   unfolding rasterGrown
-  grown-ends r (needed.Area w h) = settles _ _ _ _
+  grown-ends r (needed.Area w h) = settles _ _ _ _ _
   grown-ends r (needed.Refused n) = declines n
 
   raster-ends : (r : Raster) → EndsAs f (rasterEndedBy f g r)
   unfolding rasterEndedBy
   raster-ends r =
       cond-case (EndsAs f) (eqb (r .width) 0 && eqb (r .height) 0)
-      (λ _. settles (f .pen) (f .area) (f .extent) r)
+      (λ _. settles (f .pen) (f .area) (f .extent) r (f .held))
       (λ _. grown-ends r (rasterArea (f .area) g (max 1 (r .width)) (max 1 (r .height))))
 
   ends-in : (k : Kind) (p : Palette) → EndsAs f (endedIn k f g p .progress)
   unfolding endedIn repeatEnded colorEndedBy
-  ends-in kinds.Data p = settles _ _ _ _
+  ends-in kinds.Data p = settles _ _ _ _ _
   ends-in kinds.Repeat p =
       cond-case (EndsAs f) (ltb (g .limits .repeats) (f .command .number))
       (λ _. declines refusals.Repeat)
-      (λ _. settles (withRepeat (f .pen) (max 1 (f .command .number))) (f .area) (f .extent) (f .raster))
-  ends-in kinds.Color p = settles _ _ _ _
+      (λ _. settles (withRepeat (f .pen) (max 1 (f .command .number))) (f .area) (f .extent) (f .raster) (f .held))
+  ends-in kinds.Color p = settles _ _ _ _ _
   ends-in kinds.Raster p = raster-ends (rasterBy (f .raster) (finishedOf f))
 
   command-ends : (p : Palette) → EndsAs f (ended f g p .progress)
@@ -86,7 +86,7 @@ module _ (f : Frame) (g : Ground) (p : Palette) (l : List ℕ) where
 
   byte-closes : {x : Progress} (q : Palette) (c : List ℕ) → EndsAs f x → onward (reachedBy x q c) ≡ closedBy (reachedBy x q c)
   unfolding onward thenData dataStep goOn reachedAs closedBy thenEnded settledAs unreadAs refusedAs sixel ends
-  byte-closes q c (settles _ _ _ _) = refl
+  byte-closes q c (settles _ _ _ _ _) = refl
   byte-closes q c (declines n) = refl
 
   -- it ends any argument
@@ -157,7 +157,7 @@ module _ (s : Session) (owner : Palette) where
         toldIn (t .progress .outcome) t)
         ≡ finish x q
     unfolding closedBy thenEnded settledAs unreadAs refusedAs toldIn finishedIn pictured turnedAway
-    closed-told q (settles _ _ _ _) = refl
+    closed-told q (settles _ _ _ _ _) = refl
     closed-told q (declines n) = ap (λ (c : List ℕ). (record { answer = finishes.Refused n; palette = owner }, c)) stays
 
     told-in : (k : Kind) → s .frame .command .kind ≡ k

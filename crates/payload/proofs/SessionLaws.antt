@@ -72,6 +72,7 @@ pub blank-as : {px : List ℕ} {q : Parameters} (p : Palette) → px ≡ registe
       area = record { width = 1; height = 1 };
       extent = record { right = 0; bottom = 0 };
       raster = record { ratio = 0; width = 0; height = 0 };
+      held = 0;
       command = record { kind = kinds.Data; number = 0; parameters = q };
     })
     (blankFrame p)
@@ -251,6 +252,7 @@ pub reported-as : {r : Ratio} {t : Bool} (f : Frame) (o : Settings) (n : ℕ) �
       defined = n;
       «declared_width» = f .raster .width;
       «declared_height» = f .raster .height;
+      held = f .held;
     })
     (reportedAs f o n)
 unfolding reportedAs

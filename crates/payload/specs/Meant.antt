@@ -64,6 +64,7 @@ reportMeant r p =
       extent = areaOf (r .right) (r .bottom);
       defined = r .defined;
       declared = areaOf (r .«declared_width») (r .«declared_height»);
+      held = r .held;
       palette = p;
     }
 

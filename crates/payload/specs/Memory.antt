@@ -64,7 +64,7 @@ ownNumbers s =
 -- and 14 zeros
 unfoldable pub numbersOf : Session → List ℕ
 unfolding ownNumbers
-numbersOf s = ownNumbers s ++ 0 ∷ 0 ∷ 0 ∷ 0 ∷ 0 ∷ 0 ∷ 0 ∷ 0 ∷ 0 ∷ 0 ∷ 0 ∷ 0 ∷ 0 ∷ 0 ∷ []
+numbersOf s = ownNumbers s ++ 0 ∷ 0 ∷ 0 ∷ 0 ∷ 0 ∷ 0 ∷ 0 ∷ 0 ∷ 0 ∷ 0 ∷ s .frame .held ∷ 0 ∷ 0 ∷ 0 ∷ []
 
 abbrev pub tableOf : Session → List ℕ
 tableOf s = s .palette .colors
@@ -132,6 +132,7 @@ frameFrom ns =
       area = areaFrom ns;
       extent = extentFrom ns;
       raster = rasterFrom ns;
+      held = getD ns 44 0;
       command = commandFrom ns;
     }
 

@@ -64,6 +64,7 @@ blankFrame p =
       area = record { width = 1; height = 1 };
       extent = record { right = 0; bottom = 0 };
       raster = record { ratio = 0; width = 0; height = 0 };
+      held = 0;
       command = record { kind = kinds.Data; number = 0; parameters = numbers.opened 0 };
     }
 
@@ -181,6 +182,7 @@ reportedAs f o defined =
       defined = defined;
       «declared_width» = f .raster .width;
       «declared_height» = f .raster .height;
+      held = f .held;
     }
 
 -- where a call led: its answer, the palette and the canvas

@@ -104,6 +104,8 @@ pub struct Report {
     // The width and the height that raster commands have kept, each 0 where none has been.
     pub declared_width: usize,
     pub declared_height: usize,
+    // How many definitions of the frame had a held value (rule 9.10).
+    pub held: u64,
 }
 
 pub enum Finishing {

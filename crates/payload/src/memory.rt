@@ -1,5 +1,5 @@
 // A session as 48 numbers and 256 registers, for a caller that keeps it in its own memory. Any numbers are a session: one that was
-// never opened here answers as its fields say, and 48 zeros are a failed one. The numbers from 34 on are those of a DCS session.
+// never opened here answers as its fields say, and 48 zeros are a failed one. 34 to 43 are those of a DCS session.
 ghost use mathlib.Core.Path.{_≡_};
 ghost use Rattle.colours.specs.declared.Palette.{Palette};
 ghost use Rattle.payload.specs.Core.{over};
@@ -121,7 +121,7 @@ fn command_from(numbers: &[u64; 48]) -> Command
 
 // ---- a session
 
-// The zeros at the end are where a DCS session has its own numbers.
+// Ten zeros are where a DCS session has its own numbers.
 pub fn numbers_of(setup: Setup, life: Life, frame: Frame) -> [u64; 48]
     ensures { λ r. ⌜ ((p : Palette) → r ≡ numbersOf (over setup life frame p)) ⌝ }
 {
@@ -180,7 +180,7 @@ pub fn numbers_of(setup: Setup, life: Life, frame: Frame) -> [u64; 48]
         0,
         0,
         0,
-        0,
+        frame.held,
         0,
         0,
         0,
@@ -205,6 +205,7 @@ pub fn frame_from(numbers: &[u64; 48]) -> Frame
         area: area_from(numbers),
         extent: extent_from(numbers),
         raster: raster_from(numbers),
+        held: numbers[places::HELD],
         command: command_from(numbers),
     }
 }

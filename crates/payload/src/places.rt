@@ -1,5 +1,5 @@
 // Where each of a session's numbers lies among the 48 in a caller's memory. `memory` reads a payload session by these places and writes it
-// as one array in their order; those from 34 on are a DCS session's own.
+// as one array in their order; 34 to 43 are a DCS session's own.
 pub const LIMIT_WIDTH: usize = 0;
 
 pub const LIMIT_HEIGHT: usize = 1;
@@ -90,3 +90,6 @@ pub const HEADER_6: usize = 41;
 pub const HEADER_7: usize = 42;
 
 pub const HEADER_8: usize = 43;
+
+// How many definitions had a held value, in a session of either kind.
+pub const HELD: usize = 44;

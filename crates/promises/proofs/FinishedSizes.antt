@@ -251,6 +251,7 @@ lowered =
             area = record { width = 8; height = 6 };
             extent = record { right = 8; bottom = 6 };
             raster = blank .raster;
+            held = blank .held;
             command = blank .command;
           };
       palette = standard;

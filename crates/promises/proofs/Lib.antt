@@ -62,7 +62,7 @@ pub mod SixdumpExample
 pub mod SixdumpLength
 pub mod FinishedSizes
 pub mod FinishedMarks
-pub mod FinishedDeclared
+pub mod FinishedReports
 pub mod AnySession
 pub mod RefusedOnly
 pub mod Retired

@@ -1,6 +1,6 @@
 -- The definitions that give an answer's number and values are injective: each has a left inverse, so equal meanings are equal answers.
 use Prim.Native.Nat.{ℕ}
-use mathlib.Core.Bool.{cond}
+use mathlib.Core.Bool.{Bool, cond}
 use mathlib.Core.Option.{Option, none, some}
 use mathlib.Core.List.{List}
 use mathlib.Core.Path.{_≡_, refl, sym, ap, ap₂, _∙_}
@@ -86,6 +86,12 @@ pub table-known : {x y : List ℕ} → ofTable x ≡ ofTable y → x ≡ y
 unfolding ofTable
 table-known e = ap (λ (p : Palette). p .colors) e
 
+-- and so is one that an answer stands beside
+pub told-table-known : {x y : List ℕ} {t u : Bool} → _≡_ {A = Bool × Palette} (t, ofTable x) (u, ofTable y)
+    → _≡_ {A = Bool × List ℕ} (t, x) (u, y)
+unfolding ofTable
+told-table-known e = ap (λ (z : Bool × Palette). (z .0, z .1 .colors)) e
+
 -- ---- a finish
 
 givenAt : Option ℕ → Given
@@ -118,6 +124,7 @@ reportAt r =
       defined = r .defined;
       «declared_width» = r .declared .width;
       «declared_height» = r .declared .height;
+      held = r .held;
     }
 
 report-back : (p : Palette) (r : Report) → reportAt (reportMeant r p) ≡ r
@@ -135,6 +142,7 @@ report-back p r =
       defined = r .defined;
       «declared_width» = r .«declared_width»;
       «declared_height» = r .«declared_height»;
+      held = r .held;
     })
     (ratio-back (r .ratio))
 

@@ -109,6 +109,7 @@ finish-told (finishes.Picture r) p =
       extent = areaOf (r .right) (r .bottom);
       defined = r .defined;
       declared = areaOf (r .«declared_width») (r .«declared_height»);
+      held = r .held;
       palette = p;
     }))
     (ratio-told (r .ratio)) (clear-told (r .transparent))

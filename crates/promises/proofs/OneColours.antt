@@ -37,7 +37,7 @@ use Rattle.colours.proofs.Palette.is_marked.Reads as palette-is-marked
 use Rattle.colours.proofs.Palette.is_marked.Kinds as palette-is-marked'
 use Rattle.colours.proofs.Palette.lasting.Reads as palette-lasting
 use Rattle.colours.proofs.Palette.lasting.Kinds as palette-lasting'
-use Rattle.promises.proofs.Meanings.{table-known}
+use Rattle.promises.proofs.Meanings.{table-known, told-table-known}
 use Rattle.promises.proofs.One.{only, One, OneLent, OneWith}
 
 pub pack-rgb-one : One pack-rgb'.ps pack-rgb'.r pack-rgb.Learnt
@@ -49,11 +49,11 @@ pixel-one κs a z z' e e' p q = only p q
 pub rgb-bytes-one : One rgb-bytes'.ps rgb-bytes'.r rgb-bytes.Learnt
 rgb-bytes-one κs a z z' e e' p q = only p q
 
-pub define-rgb-one : OneLent define-rgb'.ps define-rgb'.r define-rgb.Learnt (λ κs e. now (e .0))
-define-rgb-one κs a z z' e e' p q = table-known (only p q)
+pub define-rgb-one : OneWith define-rgb'.ps define-rgb'.r define-rgb.Learnt (λ κs e. now (e .0))
+define-rgb-one κs a z z' e e' p q = told-table-known (only p q)
 
-pub define-hls-one : OneLent define-hls'.ps define-hls'.r define-hls.Learnt (λ κs e. now (e .0))
-define-hls-one κs a z z' e e' p q = table-known (only p q)
+pub define-hls-one : OneWith define-hls'.ps define-hls'.r define-hls.Learnt (λ κs e. now (e .0))
+define-hls-one κs a z z' e e' p q = told-table-known (only p q)
 
 pub palette-standard-one : One palette-standard'.ps palette-standard'.r palette-standard.Learnt
 palette-standard-one κs a z z' e e' p q = only p q

@@ -23,6 +23,8 @@ use Rattle.frame.proofs.commands.end_repeat.Reads as end-repeat
 use Rattle.frame.proofs.commands.end_repeat.Kinds as end-repeat'
 use Rattle.frame.proofs.commands.select.Reads as select
 use Rattle.frame.proofs.commands.select.Kinds as select'
+use Rattle.frame.proofs.commands.more_held.Reads as more-held
+use Rattle.frame.proofs.commands.more_held.Kinds as more-held'
 use Rattle.frame.proofs.commands.colored.Reads as colored
 use Rattle.frame.proofs.commands.colored.Kinds as colored'
 use Rattle.frame.proofs.commands.rastered.Reads as rastered
@@ -81,7 +83,7 @@ use Rattle.reference.proofs.own_effect.Reads as own-effect
 use Rattle.reference.proofs.own_effect.Kinds as own-effect'
 use Rattle.reference.proofs.parts_values.Reads as parts-values
 use Rattle.reference.proofs.parts_values.Kinds as parts-values'
-use Rattle.promises.proofs.Meanings.{table-known}
+use Rattle.promises.proofs.Meanings.{table-known, told-table-known}
 use Rattle.promises.proofs.One.{only, Seen, One, OneLent, OneWith}
 
 pub begin-command-one : One begin-command'.ps begin-command'.r begin-command.Learnt
@@ -138,8 +140,8 @@ step-one κs a z z' e e' p q = only p q
 pub without-command-one : One without-command'.ps without-command'.r without-command.Learnt
 without-command-one κs a z z' e e' p q = only p q
 
-pub define-one : OneLent define'.ps define'.r define.Learnt (λ κs e. now (e .0))
-define-one κs a z z' e e' p q = table-known (only p q)
+pub define-one : OneWith define'.ps define'.r define.Learnt (λ κs e. now (e .0))
+define-one κs a z z' e e' p q = told-table-known (only p q)
 
 pub row-below-one : One row-below'.ps row-below'.r row-below.Learnt
 row-below-one κs a z z' e e' p q = only p q
@@ -182,6 +184,9 @@ settled-one κs a z z' e e' p q = only p q
 
 pub end-repeat-one : One end-repeat'.ps end-repeat'.r end-repeat.Learnt
 end-repeat-one κs a z z' e e' p q = only p q
+
+pub more-held-one : One more-held'.ps more-held'.r more-held.Learnt
+more-held-one κs a z z' e e' p q = only p q
 
 pub colored-one : One colored'.ps colored'.r colored.Learnt
 colored-one κs a z z' e e' p q = only p q

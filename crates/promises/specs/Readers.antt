@@ -83,8 +83,8 @@ answerFrom endFrom number report =
 unfoldable pub ratioFrom : ℕ → ℕ → meant.Ratio
 ratioFrom kind n = cond (eqb kind 2) (byRaster n) (cond (eqb kind 1) (leftToP1 (some n)) (leftToP1 none))
 
--- the number that a finish answers is 0, and then the report has size, extent, ratio, background, how many registers were defined and the declared
--- size; or it is a refusal's
+-- the number that a finish answers is 0, and then the report has size, extent, ratio, background, how many registers were defined, the declared
+-- size and how many definitions had a held value; or it is a refusal's
 unfoldable pub finishedFrom : ℕ → List ℕ → Palette → meant.Finished
 unfolding ratioFrom
 finishedFrom number report p =
@@ -97,6 +97,7 @@ finishedFrom number report p =
       extent = areaOf (getD report 2 0) (getD report 3 0);
       defined = getD report 7 0;
       declared = areaOf (getD report 8 0) (getD report 9 0);
+      held = getD report 10 0;
       palette = p;
     }))
     (meant.turnedDown number)

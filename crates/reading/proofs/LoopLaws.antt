@@ -23,13 +23,13 @@ use Rattle.reference.proofs.FeedLaws.{Going, pending, left-over}
 -- `n` is the frame made anew
 module _ {n : Frame} (f : Frame) (a : Advance) (same : n ≡ f) where
   pub resumed-yes : {r : Frame} → a .settled ≡ true
-      → r ≡ withCommand (record { pen = a .pen; area = a .area; extent = a .extent; raster = n .raster; command = n .command }) noCommand
+      → r ≡ withCommand (record { pen = a .pen; area = a .area; extent = a .extent; raster = n .raster; held = a .held; command = n .command }) noCommand
       → r ≡ afterAdvance f a
   unfolding afterAdvance withCommand
   resumed-yes e h = h ∙ rw (same, e) refl
 
   pub resumed-no : a .settled ≡ false
-      → _≡_ {A = Frame} (record { pen = a .pen; area = a .area; extent = a .extent; raster = n .raster; command = n .command }) (afterAdvance f a)
+      → _≡_ {A = Frame} (record { pen = a .pen; area = a .area; extent = a .extent; raster = n .raster; held = a .held; command = n .command }) (afterAdvance f a)
   unfolding afterAdvance
   resumed-no e = rw (same, e) refl
 
@@ -50,8 +50,8 @@ joined-frame f a b = go (a .settled) (b .settled)
   where
     go : (s t : Bool)
         → _≡_ {A = Frame}
-        (record { pen = b .pen; area = b .area; extent = b .extent; raster = f .raster; command = cond t noCommand (cond s noCommand (f .command)) })
-        (record { pen = b .pen; area = b .area; extent = b .extent; raster = f .raster; command = cond (s || t) noCommand (f .command) })
+        (record { pen = b .pen; area = b .area; extent = b .extent; raster = f .raster; held = b .held; command = cond t noCommand (cond s noCommand (f .command)) })
+        (record { pen = b .pen; area = b .area; extent = b .extent; raster = f .raster; held = b .held; command = cond (s || t) noCommand (f .command) })
     go true true = refl
     go true false = refl
     go false true = refl

@@ -44,6 +44,7 @@ fn joined(before: Advance, after: Advance) -> Advance
         pen: renewed_pen(after.pen),
         area,
         extent,
+        held: after.held,
         settled: either(before.settled, after.settled),
         end: after.end,
         ink: before.ink + after.ink,
@@ -61,6 +62,7 @@ fn resume(frame: Frame, advance: Advance) -> Frame
     next.pen = pen;
     next.area = area;
     next.extent = extent;
+    next.held = advance.held;
     if advance.settled {
         return without_command(next);
     }

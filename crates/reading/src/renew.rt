@@ -69,6 +69,7 @@ pub fn renewed(frame: Frame) -> Frame
         area: renewed_area(frame.area),
         extent: renewed_extent(frame.extent),
         raster: renewed_raster(frame.raster),
+        held: frame.held,
         command: renewed_command(frame.command),
     }
 }

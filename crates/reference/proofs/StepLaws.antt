@@ -255,10 +255,10 @@ pub record Ends (f : Frame) (g : Ground) (s : Progress) : Type 0 where
   pub few : s .consumed ≤ 1
   pub settled : s .outcome ≡ outcomes.Read → s .consumed ≡ 0 → s .frame .command .kind ≡ kinds.Data
 
-settled-ends : (f : Frame) (g : Ground) (p : Pen) (a : VisibleArea) (x : Extent) (r : Raster) → Roomy (f .area) g (a .width) (a .height)
-    → Ends f g (settledAs p a x r)
+settled-ends : (f : Frame) (g : Ground) (p : Pen) (a : VisibleArea) (x : Extent) (r : Raster) (h : ℕ) → Roomy (f .area) g (a .width) (a .height)
+    → Ends f g (settledAs p a x r h)
 unfolding settledAs
-settled-ends f g p a x r k = record { roomy = k; ink = refl; few = omega arith; settled = λ e none. refl }
+settled-ends f g p a x r h k = record { roomy = k; ink = refl; few = omega arith; settled = λ e none. refl }
 
 refused-ends : (f : Frame) (g : Ground) (r : Refusal) (n : ℕ) → Fits f g n → Ends f g (refusedAs f r)
 unfolding refusedAs unreadAs
@@ -269,25 +269,25 @@ unfolding repeatEnded
 repeat-ends f g n fits =
     by-test (ltb (g .limits .repeats) (f .command .number))
     (λ t. rw t (refused-ends f g _ n fits))
-    (λ t. rw t (settled-ends f g _ _ _ _ (same-roomy f g n fits)))
+    (λ t. rw t (settled-ends f g _ _ _ _ _ (same-roomy f g n fits)))
 
 needed-ends : (f : Frame) (g : Ground) (r : Raster) (x : Needed) (n a b : ℕ) → Fits f g n → rasterArea (f .area) g a b ≡ x → Ends f g (rasterGrown f r x)
 unfolding rasterGrown
-needed-ends f g r (Area w h) n a b fits e = settled-ends f g _ _ _ r (raster-roomy (f .area) g a b w h e)
+needed-ends f g r (Area w h) n a b fits e = settled-ends f g _ _ _ r _ (raster-roomy (f .area) g a b w h e)
 needed-ends f g r (Refused y) n a b fits e = refused-ends f g y n fits
 
 raster-ends : (f : Frame) (g : Ground) (r : Raster) (n : ℕ) → Fits f g n → Ends f g (rasterEndedBy f g r)
 unfolding rasterEndedBy
 raster-ends f g r n fits =
     by-test (eqb (r .width) 0 && eqb (r .height) 0)
-    (λ t. rw t (settled-ends f g _ _ _ r (same-roomy f g n fits)))
+    (λ t. rw t (settled-ends f g _ _ _ r _ (same-roomy f g n fits)))
     (λ t. rw t (needed-ends f g r _ n _ _ fits refl))
 
 ended-in : (k : Kind) (f : Frame) (g : Ground) (p : Palette) (n : ℕ) → Fits f g n → Ends f g (endedIn k f g p .progress)
 unfolding endedIn colorEndedBy
-ended-in kinds.Data f g p n fits = settled-ends f g _ _ _ _ (same-roomy f g n fits)
+ended-in kinds.Data f g p n fits = settled-ends f g _ _ _ _ _ (same-roomy f g n fits)
 ended-in kinds.Repeat f g p n fits = repeat-ends f g n fits
-ended-in kinds.Color f g p n fits = settled-ends f g _ _ _ _ (same-roomy f g n fits)
+ended-in kinds.Color f g p n fits = settled-ends f g _ _ _ _ _ (same-roomy f g n fits)
 ended-in kinds.Raster f g p n fits = raster-ends f g (rasterBy (f .raster) (finishedOf f)) n fits
 
 pub ended-ends : (f : Frame) (g : Ground) (p : Palette) (n : ℕ) → Fits f g n → Ends f g (ended f g p .progress)

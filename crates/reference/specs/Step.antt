@@ -90,7 +90,7 @@ extentAfter e p bits =
 unfoldable pub passedTo : Frame → Extent → ℕ → ℕ → Frame
 unfolding penAfter
 passedTo f e w h =
-    record { pen = penAfter (f .pen); area = record { width = w; height = h }; extent = e; raster = f .raster; command = f .command }
+    record { pen = penAfter (f .pen); area = record { width = w; height = h }; extent = e; raster = f .raster; held = f .held; command = f .command }
 
 -- the frame after a sixel with these bits, on an area
 unfoldable pub inked : Frame → ℕ → ℕ → ℕ → Frame
@@ -131,6 +131,7 @@ movedTo f row =
       area = f .area;
       extent = f .extent;
       raster = f .raster;
+      held = f .held;
       command = f .command;
     }
 

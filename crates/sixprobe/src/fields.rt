@@ -1,10 +1,13 @@
-// The fields of a line, exactly one space apart: words, numbers, parameters and bytes.
+// The fields of a line, exactly one space apart: words, numbers, signed numbers, parameters and bytes.
 ghost use Prim.Native.Nat.{_≤_};
 ghost use lib.ListN.{length};
 use payload::Given;
 
 // The largest number of 64 bits.
 const LARGEST: usize = 18_446_744_073_709_551_615;
+
+// A signed number of 32 bits reaches so far below 0, and one less above.
+const DEPTH: usize = 2_147_483_648;
 
 // What `hex_digit` says of a byte that is none.
 const NO_DIGIT: u8 = 16;
@@ -97,6 +100,45 @@ fn number(field: &[u8]) -> Value {
 
 pub(crate) fn number_at(line: &[u8], n: usize) -> Value {
     number(field(line, n))
+}
+
+pub(crate) enum Signed {
+    Bad,
+    Of(i32),
+}
+
+// Digits without a sign.
+fn from_zero(digits: &[u8]) -> Signed {
+    let Value::Of(value) = number(digits) else {
+        return Signed::Bad;
+    };
+    if DEPTH <= value {
+        return Signed::Bad;
+    }
+    Signed::Of(value as i32)
+}
+
+// Digits after a `-`. The lowest number has no counterpart above 0: its bits are worked out and read, and so are all.
+fn below_zero(digits: &[u8]) -> Signed {
+    let Value::Of(value) = number(digits) else {
+        return Signed::Bad;
+    };
+    if DEPTH < value {
+        return Signed::Bad;
+    }
+    Signed::Of(answers::signed(std::num::wrapping_sub_u32(0, value as u32)))
+}
+
+// A signed number of 32 bits.
+pub(crate) fn signed_at(line: &[u8], n: usize) -> Signed {
+    let words = field(line, n);
+    if words.len() == 0 {
+        return Signed::Bad;
+    }
+    if words[0] == b'-' {
+        return below_zero(&words[1..]);
+    }
+    from_zero(words)
 }
 
 pub(crate) enum Parameter {

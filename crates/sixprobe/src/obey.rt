@@ -4,6 +4,7 @@ use crate::order::Bounds;
 use crate::order::Order;
 use crate::questions;
 use crate::registers;
+use crate::registers::Change;
 use crate::rooms;
 use crate::rooms::first;
 use crate::rooms::held;
@@ -76,13 +77,13 @@ fn copy(lent: &[u8], stride: usize, width: usize, height: usize, length: usize) 
     copy_to(lent, stride, width, height, &mut buffer[..end]);
 }
 
-fn reset(mut state: State) -> State {
+// Of the owner's palette, which is lent out while a session is open.
+fn change(mut state: State, wish: Change) -> State {
     if state.is_busy() {
         say::words(b"busy");
         return state;
     }
-    let palette = state.palette.reset();
-    say::words(b"reset");
+    let palette = registers::changed(state.palette, wish);
     state.palette = palette;
     state
 }
@@ -130,7 +131,11 @@ fn obey_lent(order: Order, state: State, lent: &mut [u8], bytes: &[u8]) -> State
             registers::register(state.palette, index);
             state
         }
-        Order::Reset => reset(state),
+        Order::Percent(value) => {
+            registers::percent(value);
+            state
+        }
+        Order::Change(wish) => change(state, wish),
     }
 }
 

@@ -1,5 +1,6 @@
 // What a line orders, judged by its form alone and by the room there is.
 use crate::fields::Parameter;
+use crate::fields::Signed;
 use crate::fields::Value;
 use crate::fields::bytes_at;
 use crate::fields::count;
@@ -7,9 +8,12 @@ use crate::fields::field;
 use crate::fields::is_word;
 use crate::fields::number_at;
 use crate::fields::parameter_at;
+use crate::fields::signed_at;
 use crate::lines::LINE_ROOM;
 use crate::questions::Map;
 use crate::questions::Question;
+use crate::registers::Change;
+use crate::registers::NewColor;
 use crate::rooms::ROOM;
 use bins::Setting;
 use bins::Shape;
@@ -50,7 +54,8 @@ pub(crate) enum Order {
     Palette,
     Marks,
     Register(usize),
-    Reset,
+    Percent(i32),
+    Change(Change),
 }
 
 // Reads a line, its bytes into `bytes`, for a canvas of `length` bytes. The number of fields leaves few words to ask for.
@@ -60,9 +65,9 @@ pub(crate) fn read(line: &[u8], length: usize, bytes: &mut [u8]) -> Order {
     }
     match count(line) {
         1 => alone(line),
-        2 => with_number(line, length),
+        2 => two(line, length),
         3 => feed(line, bytes),
-        5 => copy(line),
+        5 => five(line),
         6 => dcs(line),
         7 => one_shot(line, bytes),
         8 => eight(line),
@@ -89,9 +94,23 @@ fn alone(line: &[u8]) -> Order {
         return Order::Marks;
     }
     if begins(line, b"reset") {
-        return Order::Reset;
+        return Order::Change(Change::Reset);
     }
     Order::Bad
+}
+
+fn two(line: &[u8], length: usize) -> Order {
+    if begins(line, b"percent") {
+        return percent(line);
+    }
+    with_number(line, length)
+}
+
+fn percent(line: &[u8]) -> Order {
+    let Signed::Of(value) = signed_at(line, 1) else {
+        return Order::Bad;
+    };
+    Order::Percent(value)
 }
 
 // A new canvas has to have room, and what is lent has to be there. A register above 255 is 255's.
@@ -124,10 +143,20 @@ fn feed(line: &[u8], bytes: &mut [u8]) -> Order {
     Order::Session(Ask::Feed { allowance, count })
 }
 
-fn copy(line: &[u8]) -> Order {
-    if !begins(line, b"copy") {
-        return Order::Bad;
+fn five(line: &[u8]) -> Order {
+    if begins(line, b"copy") {
+        return copy(line);
     }
+    if begins(line, b"rgb") {
+        return rgb(line);
+    }
+    if begins(line, b"hls") {
+        return hls(line);
+    }
+    Order::Bad
+}
+
+fn copy(line: &[u8]) -> Order {
     let Value::Of(stride) = number_at(line, 1) else {
         return Order::Bad;
     };
@@ -149,6 +178,42 @@ fn copy(line: &[u8]) -> Order {
         height,
         length,
     }
+}
+
+enum AskedColor {
+    Bad,
+    Of(NewColor),
+}
+
+// N and three signed values, the fields after the word.
+fn new_color(line: &[u8]) -> AskedColor {
+    let Value::Of(index) = number_at(line, 1) else {
+        return AskedColor::Bad;
+    };
+    let Signed::Of(x) = signed_at(line, 2) else {
+        return AskedColor::Bad;
+    };
+    let Signed::Of(y) = signed_at(line, 3) else {
+        return AskedColor::Bad;
+    };
+    let Signed::Of(z) = signed_at(line, 4) else {
+        return AskedColor::Bad;
+    };
+    AskedColor::Of(NewColor { index, x, y, z })
+}
+
+fn rgb(line: &[u8]) -> Order {
+    let AskedColor::Of(color) = new_color(line) else {
+        return Order::Bad;
+    };
+    Order::Change(Change::Rgb(color))
+}
+
+fn hls(line: &[u8]) -> Order {
+    let AskedColor::Of(color) = new_color(line) else {
+        return Order::Bad;
+    };
+    Order::Change(Change::Hls(color))
 }
 
 enum Asked {

@@ -57,6 +57,15 @@ pub(crate) fn end(name: &[u8], consumed: usize, ink: usize, last: u8) {
     byte(last);
 }
 
+// Whether a value was held, after what it belongs to.
+pub(crate) fn holding(is_held: bool) {
+    if is_held {
+        words(b" held");
+        return;
+    }
+    words(b" within");
+}
+
 fn p1(given: Given) {
     match given {
         Given::Nothing => words(b" ratio p1 none"),
@@ -91,6 +100,7 @@ fn picture(report: Report) {
     ratio(shown);
     background(report.transparent);
     number(b" defined ", report.defined);
+    number(b" held ", report.held as usize);
 }
 
 pub(crate) fn finishing(answer: Finishing) {

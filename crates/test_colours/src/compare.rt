@@ -42,7 +42,7 @@ fn hues(stored: &[u8], start: Tally) -> Tally {
 }
 
 fn percent(stored: &[u8], at: usize, value: i32, tally: Tally) -> Tally {
-    tally.with(1, is_byte(stored, at, hls::percent_to_byte(value)))
+    tally.with(1, is_byte(stored, at, hls::percent_to_byte(value).byte))
 }
 
 // The bytes of -300 to 400, and of the two ends of i32.

@@ -108,7 +108,7 @@ fn is_hls_same(record: &[u8]) -> bool {
 }
 
 fn is_percent_same(record: &[u8]) -> bool {
-    hls::percent_to_byte(signed_at(record, 8)) == byte_at(record, 5)
+    hls::percent_to_byte(signed_at(record, 8)).byte == byte_at(record, 5)
 }
 
 // How many bytes the pieces have, of a record that has `count` lengths from its 80th byte on.

@@ -1,12 +1,14 @@
--- `colours::define_rgb` meets its contract: a register that is defined by the colour of percents is defined by them (`by-rgb`).
--- Assumes nothing.
 use Rattle.colours.proofs.Laws.{by-rgb}
 use borrow.Author.Needs.{needs}
 use Rattle.colours.proofs.define_rgb.Statement.{statement}
 use Rattle.colours.proofs.define_rgb.Tie as tie
+use Rattle.colours.proofs.define_rgb.Reads as reads
+use Rattle.colours.proofs.define_rgb.Lts as lts
+use Rattle.colours.proofs.marks.define.Reads as define-reads
+use Rattle.colours.proofs.mix_rgb.Reads as mix-rgb-reads
 
-rgb-color-requires : tie.Need-rgb-color-requires
-rgb-color-requires c κs = search needs
+mix-rgb-requires : tie.Need-mix-rgb-requires
+mix-rgb-requires c κs = search needs
 
 define-requires : tie.Need-define-requires
 define-requires c κs = search needs
@@ -15,4 +17,4 @@ returns : tie.Need-returns
 returns c = search (needs, by-rgb)
 
 pub define-rgb-spec : {M : Type 1} → statement M
-define-rgb-spec = tie.close (tie.spec rgb-color-requires define-requires returns)
+define-rgb-spec = tie.close (tie.spec mix-rgb-requires define-requires returns)

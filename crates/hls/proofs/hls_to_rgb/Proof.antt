@@ -15,15 +15,15 @@ use Rattle.hls.proofs.Beside.{beside-too}
 use Rattle.hls.proofs.hls_to_rgb.Statement.{statement}
 use Rattle.hls.proofs.hls_to_rgb.Tie as tie
 
-percent-to-byte-requires : tie.Need-percent-to-byte-requires
-percent-to-byte-requires c κs = search needs
+percent-byte-requires : tie.Need-percent-byte-requires
+percent-byte-requires c κs = search needs
 
 returns : tie.Need-returns
 returns c =
     let a = c .before .before in
     beside-too (a .args .h) (a .args .l) (a .args .s)
     (grey-is (a .args .h) (a .args .l) (a .args .s) (toZ-ofZ w32 (a .args .s) (a .fits .s)) (c .before .if1 .taken)
-    (c .percent-to-byte .ensures ∙ ap percentByte (toZ-ofZ w32 (a .args .l) (a .fits .l))))
+    (c .percent-byte .ensures ∙ ap percentByte (toZ-ofZ w32 (a .args .l) (a .fits .l))))
 
 rem-euclid-360-requires : tie.Need-rem-euclid-360-requires
 rem-euclid-360-requires c κs = search needs
@@ -90,7 +90,7 @@ pub hls-to-rgb-spec : {M : Type 1} → statement M
 hls-to-rgb-spec =
     tie.close
     (tie.spec
-    percent-to-byte-requires
+    percent-byte-requires
     returns
     rem-euclid-360-requires
     add-degrees

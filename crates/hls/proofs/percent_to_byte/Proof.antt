@@ -1,32 +1,24 @@
--- `hls::percent_to_byte` meets its contract: a clamped percent is at most 100. Assumes nothing.
-use mathlib.Core.Path.{_≡_, _∙_, ap}
+-- `hls::percent_to_byte` meets its contract: the byte and the test are those of the same number. Assumes nothing.
+use mathlib.Core.Path.{_∙_, ap}
 use borrow.Author.Needs.{needs}
-use native.Mathlib.Omega.{arith}
 use mir.Syntax.{w32}
 use mir.ValLaws.{toZ-ofZ}
-use Rattle.hls.specs.Percent.{held}
-use Rattle.hls.proofs.Whole.{held-le, percent-is}
+use Rattle.hls.specs.Percent.{outside, percentByte}
+use Rattle.hls.proofs.Whole.{percent-made}
 use Rattle.hls.proofs.percent_to_byte.Statement.{statement}
 use Rattle.hls.proofs.percent_to_byte.Tie as tie
 
-clamp-percent-requires : tie.Need-clamp-percent-requires
-clamp-percent-requires c κs = search needs
+percent-byte-requires : tie.Need-percent-byte-requires
+percent-byte-requires c κs = search needs
 
--- what the callee gives is the percent held
-clamped : (c : tie.After-clamp-percent) → c .clamp-percent .result ≡ held (c .before .args .value)
-clamped c = c .clamp-percent .ensures ∙ ap held (toZ-ofZ w32 (c .before .args .value) (c .before .fits .value))
-
-mul-result : tie.Need-mul-result
-mul-result c = omega (arith, held-le (c .before .args .value), clamped c)
-
-add-result : tie.Need-add-result
-add-result c = omega (arith, held-le (c .before .args .value), clamped c)
-
-cast-result : tie.Need-cast-result
-cast-result c = omega (arith, held-le (c .before .args .value), clamped c)
+is-outside-requires : tie.Need-is-outside-requires
+is-outside-requires c κs = search needs
 
 returns : tie.Need-returns
-returns c = percent-is (c .before .args .value) (clamped c)
+returns c =
+    let s = c .before .before in
+    let read = toZ-ofZ w32 (s .args .value) (s .fits .value) in
+    percent-made (s .args .value) (c .before .percent-byte .ensures ∙ ap percentByte read) (c .is-outside .ensures ∙ ap outside read)
 
 pub percent-to-byte-spec : {M : Type 1} → statement M
-percent-to-byte-spec = tie.close (tie.spec clamp-percent-requires mul-result add-result cast-result returns)
+percent-to-byte-spec = tie.close (tie.spec percent-byte-requires is-outside-requires returns)

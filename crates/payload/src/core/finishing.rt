@@ -51,6 +51,7 @@ fn report_for(frame: Frame, settings: Settings, defined: usize) -> Report
         defined,
         declared_width: raster.width,
         declared_height: raster.height,
+        held: frame.held,
     }
 }
 

@@ -76,6 +76,7 @@ pub fn blank_frame(colors: &[u32; 256]) -> Frame
             width: 0,
             height: 0,
         },
+        held: 0,
         command: Command {
             kind: Kind::Data,
             number: 0,

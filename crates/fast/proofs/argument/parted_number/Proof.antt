@@ -1,58 +1,20 @@
--- `parted_number` meets its contract: the `;` after what `number_at` read is read with it, by the law of a number parted.
-use native.Mathlib.Omega.{arith}
-use Rattle.fast.proofs.ArgumentLaws.{none-written, written-parted}
+-- `parted_number` meets its contract: what `number_at` read, with the `;` after it.
 use borrow.Author.Needs.{needs}
 use Rattle.fast.proofs.argument.parted_number.Statement.{statement}
 use Rattle.fast.proofs.argument.parted_number.Tie as tie
 use Rattle.fast.proofs.argument.parted_number.Reads as reads
 use Rattle.fast.proofs.argument.parted_number.Lts as lts
-use Rattle.fast.proofs.argument.nothing.Reads as nothing-reads
+use Rattle.fast.proofs.argument.after_semicolon.Reads as after-semicolon-reads
 use Rattle.fast.proofs.argument.number_at.Reads as number-at-reads
 
 number-at-requires : tie.Need-number-at-requires
 number-at-requires c κs = search needs
 
-nothing-requires : tie.Need-nothing-requires
-nothing-requires c κs = search needs
+after-semicolon-requires : tie.Need-after-semicolon-requires
+after-semicolon-requires c κs = search needs
 
 returns : tie.Need-returns
-returns c = none-written (c .nothing .ensures)
-
-nothing-requires-2 : tie.Need-nothing-requires-2
-nothing-requires-2 c κs = search needs
-
-returns-2 : tie.Need-returns-2
-returns-2 c = none-written (c .nothing2 .ensures)
-
-shared-slice-read-if3 : tie.Need-shared-slice-read-if3
-shared-slice-read-if3 c = search needs
-
-end-fits : tie.Need-add-t9
-end-fits c = search needs
-
-returns-3 : tie.Need-returns-3
-returns-3 c =
-    let more-at = c .before .before in
-    let number = more-at .before .before in
-    λ h. written-parted _ _ (number .number-at .ensures (omega arith)) (omega arith) (c .if3 .taken)
-
-nothing-requires-3 : tie.Need-nothing-requires-3
-nothing-requires-3 c κs = search needs
-
-returns-4 : tie.Need-returns-4
-returns-4 c = none-written (c .nothing3 .ensures)
+returns c = c .after-semicolon .ensures _ (c .before .number-at .ensures)
 
 pub parted-number-spec : {M : Type 1} → statement M
-parted-number-spec =
-    tie.close
-    (tie.spec
-    number-at-requires
-    nothing-requires
-    returns
-    nothing-requires-2
-    returns-2
-    shared-slice-read-if3
-    end-fits
-    returns-3
-    nothing-requires-3
-    returns-4)
+parted-number-spec = tie.close (tie.spec number-at-requires after-semicolon-requires returns)

@@ -1,4 +1,3 @@
--- `define` meets its contract: one law for each space. The casts are exact, since each value is within a signed number.
 use Rattle.frame.proofs.CommandLaws.{colored}
 use borrow.Author.Needs.{needs}
 use Rattle.frame.proofs.commands.define.Statement.{statement}
@@ -9,13 +8,13 @@ use Rattle.colours.proofs.define_hls.Reads as define-hls-reads
 use Rattle.colours.proofs.define_rgb.Reads as define-rgb-reads
 
 cast-define-hls : tie.Need-cast-define-hls
-cast-define-hls c = search (needs, colored)
+cast-define-hls c = search needs
 
 cast-define-hls-2 : tie.Need-cast-define-hls-2
-cast-define-hls-2 c = search (needs, colored)
+cast-define-hls-2 c = search needs
 
 cast-define-hls-3 : tie.Need-cast-define-hls-3
-cast-define-hls-3 c = search (needs, colored)
+cast-define-hls-3 c = search needs
 
 define-hls-requires : tie.Need-define-hls-requires
 define-hls-requires c κs = search needs
@@ -24,13 +23,13 @@ returns : tie.Need-returns
 returns c = search (needs, colored)
 
 cast-define-rgb : tie.Need-cast-define-rgb
-cast-define-rgb c = search (needs, colored)
+cast-define-rgb c = search needs
 
 cast-define-rgb-2 : tie.Need-cast-define-rgb-2
-cast-define-rgb-2 c = search (needs, colored)
+cast-define-rgb-2 c = search needs
 
 cast-define-rgb-3 : tie.Need-cast-define-rgb-3
-cast-define-rgb-3 c = search (needs, colored)
+cast-define-rgb-3 c = search needs
 
 define-rgb-requires : tie.Need-define-rgb-requires
 define-rgb-requires c κs = search needs

@@ -1,5 +1,3 @@
--- `redefine` meets its contract: five values define the register, any other count leaves the palette.
--- A value fits a signed number because `value` holds it so.
 use Rattle.frame.proofs.CommandLaws.{colored}
 use borrow.Author.Needs.{needs}
 use Rattle.frame.proofs.commands.redefine.Statement.{statement}

@@ -1,8 +1,14 @@
--- `select` meets its contract: the palette is redefined first, and the colour is read from it then.
-use borrow.Author.Needs.{needs}
 use Rattle.frame.proofs.CommandLaws.{colored}
+use borrow.Author.Needs.{needs}
 use Rattle.frame.proofs.commands.select.Statement.{statement}
 use Rattle.frame.proofs.commands.select.Tie as tie
+use Rattle.frame.proofs.commands.select.Reads as reads
+use Rattle.frame.proofs.commands.select.Lts as lts
+use Rattle.colours.proofs.rgb_bytes.Reads as rgb-bytes-reads
+use Rattle.frame.proofs.commands.redefine.Reads as redefine-reads
+use Rattle.frame.proofs.commands.register_at.Reads as register-at-reads
+use Rattle.numbers.proofs.Parameters.finish.Reads as finish-reads
+use Rattle.numbers.proofs.Parameters.value.Reads as value-reads
 
 finish-requires : tie.Need-finish-requires
 finish-requires c κs = search needs
@@ -25,4 +31,10 @@ returns c = search (needs, colored)
 pub select-spec : {M : Type 1} → statement M
 select-spec =
     tie.close
-    (tie.spec finish-requires value-requires register-at-requires redefine-requires rgb-bytes-requires returns)
+    (tie.spec
+    finish-requires
+    value-requires
+    register-at-requires
+    redefine-requires
+    rgb-bytes-requires
+    returns)

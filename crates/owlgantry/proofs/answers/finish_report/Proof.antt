@@ -37,6 +37,9 @@ array-read-t30 c = search needs
 array-read-t33 : tie.Need-array-read-t33
 array-read-t33 c = search needs
 
+array-read-t36 : tie.Need-array-read-t36
+array-read-t36 c = search needs
+
 returns : tie.Need-returns
 returns c p = partless-told _ (c .report-numbers .ensures p)
 
@@ -55,4 +58,5 @@ finish-report-spec =
     array-read-t27
     array-read-t30
     array-read-t33
+    array-read-t36
     returns)

@@ -26,6 +26,7 @@ returns c =
       area = extent .before .renewed-area .ensures i;
       extent = extent .renewed-extent .ensures i;
       raster = c .before .renewed-raster .ensures i;
+      held = extent .before .before .before .args .frame .held;
       command = c .renewed-command .ensures i;
     }
 
