@@ -1,5 +1,7 @@
 // What a stored list of answers is made of: little-endian numbers of four bytes, Adler-32 checksums, of a palette too, and the
 // Rust's ratios.
+#![tactic(auto)]
+
 ghost use Rattle.std.specs.Prelude.{◌≡◌, ◌+◌, ◌*◌};
 ghost use Rattle.answers.specs.Adler.{with_byte, with_bytes, adler};
 ghost use Rattle.answers.specs.Numbers.{number_at, signed_of};

@@ -1,5 +1,7 @@
 // The bin reader of the bench, over a picture in a lent canvas: which bin a pixel column belongs to, which columns a bin has, and the topmost
 // row in which a bin holds a colour. The calls are stateless, and no byte is written.
+#![tactic(auto)]
+
 ghost use Rattle.std.specs.Prelude.{◌≡◌, ◌+◌, ◌*◌, ◌≤◌, ltb, length};
 ghost use Rattle.canvas.specs.Picture.{rows_of};
 ghost use Rattle.bins.specs.Bins.{number_of, first_column, same, pixel, row_has, pixel_at, first_from};
@@ -10,7 +12,7 @@ ghost use Rattle.bins.specs.Told.{judgement, judged_as, place_told, bin_told, co
 const MOST_BINS: usize = 512;
 
 // Where a picture stands in its canvas: the pixels of the canvas's rows, and the picture's own size.
-#[derive(Drop)]
+#[derive(Clone, Copy)]
 pub struct Shape {
     pub stride: usize,
     pub width: usize,
@@ -18,7 +20,7 @@ pub struct Shape {
 }
 
 // How a band map stands in its picture: `count` bins side by side from column `origin` on, each of `width` columns.
-#[derive(Drop)]
+#[derive(Clone, Copy)]
 pub struct Setting {
     pub origin: usize,
     pub width: usize,
@@ -26,7 +28,7 @@ pub struct Setting {
 }
 
 // Why a question is refused.
-#[derive(Drop)]
+#[derive(Clone, Copy)]
 pub enum Refusal {
     // The canvas has no such picture.
     Misfit,
@@ -48,21 +50,21 @@ pub fn number(refusal: Refusal) -> u8
 }
 
 // The bin of a column.
-#[derive(Drop)]
+#[derive(Clone, Copy)]
 pub enum BinAnswer {
     Bin(usize),
     Refused(Refusal),
 }
 
 // The columns of a bin, both counted in.
-#[derive(Drop)]
+#[derive(Clone, Copy)]
 pub enum ColumnsAnswer {
     Columns { first: usize, last: usize },
     Refused(Refusal),
 }
 
 // The topmost row in which a bin holds a colour.
-#[derive(Drop)]
+#[derive(Clone, Copy)]
 pub enum TopAnswer {
     Row(usize),
     Nowhere,
@@ -70,7 +72,7 @@ pub enum TopAnswer {
 }
 
 // What is refused before a question is looked at.
-#[derive(Drop)]
+#[derive(Clone, Copy)]
 enum Judged {
     Fine,
     Refused(Refusal),
@@ -126,7 +128,7 @@ pub fn bin(canvas: &[u8], shape: Shape, setting: Setting, column: usize) -> BinA
 }
 
 // The first column of a bin, or why there is none.
-#[derive(Drop)]
+#[derive(Clone, Copy)]
 enum Place {
     From(usize),
     Refused(Refusal),

@@ -1,5 +1,7 @@
 // The canvas: lent bytes, four to a pixel (red, green, blue, alpha), `stride` pixels to a row. Painting here never asks
 // how large the visible area is: whoever paints has tested that, once for a sixel or for many.
+#![tactic(auto)]
+
 ghost use Rattle.std.specs.Prelude.{◌≡◌, ◌+◌, ◌*◌, ◌≤◌, ◌++◌, length, drop};
 ghost use Rattle.std.proofs.Math.Seq.{paste};
 ghost use Rattle.canvas.specs.Picture.{area_of, rows_of, grid, span};
@@ -111,7 +113,7 @@ pub fn first_pixel(canvas: &mut [u8], background: [u8; 4])
 }
 
 // What copying a picture answers.
-#[derive(Drop)]
+#[derive(Clone, Copy)]
 pub enum Copied {
     // The rows stand at the front of the other buffer.
     Done,

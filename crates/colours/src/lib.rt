@@ -1,5 +1,7 @@
 // The palette (docs/RULES.md, section 9): 256 registers, each a colour and a mark packed into one number, read as pixels and set by
 // percents or by HLS. A caller lends a palette's table in a loop, and takes it out and puts it back around that.
+#![tactic(auto)]
+
 pub mod marks;
 mod standard;
 
@@ -8,7 +10,7 @@ ghost use Rattle.colours.specs.Packing.{packed, pixel_of};
 ghost use Rattle.colours.specs.Palette.{of_table, standard, register_of, stored, rgb_mixed, rgb_set, hls_mixed, hls_set};
 ghost use Rattle.colours.specs.Marks.{is_marked, defining_rgb, defining_hls, lasting};
 
-#[derive(Drop)]
+#[derive(Clone, Copy)]
 pub struct Palette {
     colors: [u32; 256],
 }
@@ -44,7 +46,7 @@ pub fn rgb_bytes(colors: &[u32; 256], index: usize) -> [u8; 4]
 }
 
 // A colour, and whether at least one of the values that it was mixed of was held.
-#[derive(Drop)]
+#[derive(Clone, Copy)]
 struct Mixed {
     color: u32,
     held: bool,
@@ -112,7 +114,7 @@ pub fn define_hls(colors: &mut [u32; 256], index: usize, h: i32, l: i32, s: i32)
 }
 
 // A palette with a register set, and whether one of the values was held.
-#[derive(Drop)]
+#[derive(Clone, Copy)]
 pub struct Set {
     pub palette: Palette,
     pub held: bool,

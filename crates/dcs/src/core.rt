@@ -13,7 +13,7 @@ use numbers::Parameters;
 use payload::Life;
 use payload::core::{Setup, frame_of, life_of, palette_of as inner_palette, session_of, setup_of};
 
-#[derive(Drop)]
+#[derive(Clone, Copy)]
 pub struct Core {
     pub setup: Setup,
     pub life: Life,

@@ -1,5 +1,7 @@
 // A DCS session: introducer, header, payload and end of one sequence, over a payload session. The Rust's
 // SixelDcsStreamDecoder, by value.
+#![tactic(auto)]
+
 pub mod core;
 pub mod memory;
 
@@ -15,7 +17,7 @@ use payload::core::{frame_of, life_of, setup_of};
 use payload::{Finished, hand_back};
 
 // How a sequence came to its end, with the byte that cancelled or interrupted it.
-#[derive(Drop)]
+#[derive(Clone, Copy)]
 pub enum Ending {
     Complete,
     Cancelled(u8),
@@ -23,7 +25,7 @@ pub enum Ending {
 }
 
 // Before the payload, in it, after the 1B that ended it, at the end.
-#[derive(Drop)]
+#[derive(Clone, Copy)]
 pub enum Phase {
     Before(Place),
     Within,
@@ -32,7 +34,7 @@ pub enum Phase {
 }
 
 // A refusal fails the payload session, and so this one.
-#[derive(Drop)]
+#[derive(Clone, Copy)]
 pub struct Session {
     payload: payload::Session,
     header: Parameters,
@@ -40,14 +42,14 @@ pub struct Session {
 }
 
 // An opening's answer and the session, which is a failed one where the opening is refused.
-#[derive(Drop)]
+#[derive(Clone, Copy)]
 pub struct Opened {
     pub answer: payload::Opening,
     pub session: Session,
 }
 
 // Bytes consumed and ink of one call, or its refusal.
-#[derive(Drop)]
+#[derive(Clone, Copy)]
 pub enum Answer {
     More {
         consumed: usize,
@@ -65,7 +67,7 @@ pub enum Answer {
     Refused(Refusal),
 }
 
-#[derive(Drop)]
+#[derive(Clone, Copy)]
 pub struct Fed {
     pub answer: Answer,
     pub session: Session,

@@ -1,4 +1,6 @@
 // What the program `sixdump` prints of a sequence, written into a lent buffer: a picture's fields and its rows, or a refusal.
+#![tactic(auto)]
+
 pub mod outcome;
 
 ghost use Rattle.std.specs.Prelude.{◌≡◌, ◌+◌, ◌*◌, ◌<◌, ◌≤◌, length};

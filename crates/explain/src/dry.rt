@@ -10,7 +10,7 @@ use frame::{Frame, Ground, Kind, Outcome, Progress};
 use reference::{after_sixel, own_effect, parts_values, read, unread};
 
 // Where some bytes led: all were read, or one stays unread.
-#[derive(Drop)]
+#[derive(Clone, Copy)]
 pub struct Led {
     pub frame: Frame,
     pub consumed: usize,

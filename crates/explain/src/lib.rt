@@ -1,5 +1,7 @@
 // What is told of a refusal: its number, its place, and what was needed. Each function answers for a call what that call is refused with. It reads
 // the bytes again without painting, and changes nothing that is lent.
+#![tactic(auto)]
+
 pub mod dcs_session;
 mod dry;
 mod need;
@@ -18,7 +20,7 @@ use need::need_of;
 use words::{Need, Place, Telling};
 
 // What is told of a call: nothing of one that is not refused.
-#[derive(Drop)]
+#[derive(Clone, Copy)]
 pub enum Explained {
     Fine,
     Refused(Telling),

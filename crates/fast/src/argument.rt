@@ -4,14 +4,14 @@ ghost use Rattle.std.specs.Prelude.{◌≡◌, true, ℕ, ◌≤◌, length};
 ghost use Rattle.fast.specs.Argument.{closing, Written, Last, Before, Parted, Defined};
 
 // A number, and the place after it: 0 where there is none.
-#[derive(Drop)]
+#[derive(Clone, Copy)]
 pub struct Number {
     pub value: u32,
     pub end: usize,
 }
 
 // The values of a colour's definition, and the place after them: 0 where there is none.
-#[derive(Drop)]
+#[derive(Clone, Copy)]
 pub struct Definition {
     pub first: u32,
     pub space: u32,

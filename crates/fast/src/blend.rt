@@ -6,7 +6,7 @@ ghost use Rattle.canvas.specs.Picture.{rows_of};
 ghost use Rattle.fast.specs.Blend.{four_at, blended, blended_across, four_ink, four_painted};
 
 // The bits of four sixels, from the left.
-#[derive(Drop)]
+#[derive(Clone, Copy)]
 pub struct Four {
     pub a: u8,
     pub b: u8,

@@ -82,7 +82,7 @@ fn read_repeated(
 }
 
 // A sixel that is painted by itself: its repeat and its place, and whether a repeat command said it. The repeat is 0 where none stands there.
-#[derive(Drop)]
+#[derive(Clone, Copy)]
 pub struct Drawn {
     pub repeat: usize,
     pub at: usize,

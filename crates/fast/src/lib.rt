@@ -1,5 +1,7 @@
 // The fast machine: some bytes at once, while no command is pending. A run of sixels, a sixel by itself or with its repeat, a colour with the whole of
 // its argument, `$` or `-`. What the reference machine refuses, stops for or leaves unread is left to it.
+#![tactic(auto)]
+
 mod argument;
 mod blend;
 mod drawn;
@@ -26,7 +28,7 @@ use run::read_run;
 
 // What some bytes change of a frame, whether a command was read, the place after them, and their ink. An advance that ends where it
 // began took nothing. All of it is numbers, so that the loop has no frame to copy.
-#[derive(Drop)]
+#[derive(Clone, Copy)]
 pub struct Advance {
     pub pen: Pen,
     pub area: VisibleArea,

@@ -26,7 +26,7 @@ pub fn run_length(bytes: &[u8], from: usize, most: usize) -> usize
 }
 
 // So many sixels, and their ink.
-#[derive(Drop)]
+#[derive(Clone, Copy)]
 pub struct Stretch {
     pub count: usize,
     pub ink: usize,

@@ -144,7 +144,7 @@ pub fn register_at(value: u32) -> usize
 }
 
 // The register that a colour command selects, its colour then, and whether the command defined it with a held value.
-#[derive(Drop)]
+#[derive(Clone, Copy)]
 pub struct Selected {
     pub register: usize,
     pub color: [u8; 4],

@@ -1,5 +1,7 @@
 // A frame while its payload is read: the Rust's FrameDecoder, palette and canvas apart. The session above owns both and lends
 // them. Inner: of this crate a caller of the reader has use for its limits, its refusals and their numbers alone.
+#![tactic(auto)]
+
 pub mod commands;
 pub mod rasters;
 pub mod sizes;
@@ -10,7 +12,7 @@ ghost use Rattle.frame.specs.Numbers.{number_of};
 use numbers::Parameters;
 
 // The limits of a session: a picture's width and height, a repeat, and a picture's pixels.
-#[derive(Drop)]
+#[derive(Clone, Copy)]
 pub struct Limits {
     pub width: usize,
     pub height: usize,
@@ -19,7 +21,7 @@ pub struct Limits {
 }
 
 // What stays the same while a frame is read.
-#[derive(Drop)]
+#[derive(Clone, Copy)]
 pub struct Ground {
     pub limits: Limits,
     pub stride: usize,
@@ -28,7 +30,7 @@ pub struct Ground {
 }
 
 // The refusals of rule 5.1, in the order of their numbers.
-#[derive(Drop)]
+#[derive(Clone, Copy)]
 pub enum Refusal {
     Introducer,
     HeaderEnded,
@@ -70,7 +72,7 @@ pub fn number(refusal: Refusal) -> u8
 }
 
 // Where the next sixel goes, how often, and in which colour.
-#[derive(Drop)]
+#[derive(Clone, Copy)]
 pub struct Pen {
     pub column: usize,
     pub row: usize,
@@ -80,28 +82,28 @@ pub struct Pen {
 }
 
 // The visible area: (0, 0) to its width and height.
-#[derive(Drop)]
+#[derive(Clone, Copy)]
 pub struct VisibleArea {
     pub width: usize,
     pub height: usize,
 }
 
 // The extent (rule 4.4).
-#[derive(Drop)]
+#[derive(Clone, Copy)]
 pub struct Extent {
     pub right: usize,
     pub bottom: usize,
 }
 
 // The ratio and the sizes kept, each 0 where there is none.
-#[derive(Drop)]
+#[derive(Clone, Copy)]
 pub struct Raster {
     pub ratio: u8,
     pub width: usize,
     pub height: usize,
 }
 
-#[derive(Drop)]
+#[derive(Clone, Copy)]
 pub enum Kind {
     Data,
     Repeat,
@@ -110,14 +112,14 @@ pub enum Kind {
 }
 
 // The command that has begun, if any, and its number or its values so far.
-#[derive(Drop)]
+#[derive(Clone, Copy)]
 pub struct Command {
     pub kind: Kind,
     pub number: u64,
     pub parameters: Parameters,
 }
 
-#[derive(Drop)]
+#[derive(Clone, Copy)]
 pub struct Frame {
     pub pen: Pen,
     pub area: VisibleArea,
@@ -129,7 +131,7 @@ pub struct Frame {
 }
 
 // What reading came to: what there was is read, or a byte stays unread.
-#[derive(Drop)]
+#[derive(Clone, Copy)]
 pub enum Outcome {
     Read,
     Stopped,
@@ -138,7 +140,7 @@ pub enum Outcome {
 }
 
 // Where reading a byte, or some, has led. A byte that ends the pending command is not consumed by that: it is still to be read.
-#[derive(Drop)]
+#[derive(Clone, Copy)]
 pub struct Progress {
     pub frame: Frame,
     pub consumed: usize,

@@ -81,7 +81,7 @@ pub fn sizeless(raster: Raster) -> bool
 }
 
 // What a raster comes to: it has no size, or needs an area, or is refused.
-#[derive(Drop)]
+#[derive(Clone, Copy)]
 pub enum Measured {
     Sizeless(Raster),
     Area {

@@ -5,7 +5,7 @@ ghost use Rattle.frame.specs.Sizes.{grown_area, raster_area, sixel_area};
 use crate::{Frame, Ground, Pen, Refusal, VisibleArea};
 
 // The visible area that a size needs, or what the size is refused for.
-#[derive(Drop)]
+#[derive(Clone, Copy)]
 pub enum Needed {
     Area { width: usize, height: usize },
     Refused(Refusal),

@@ -1,4 +1,6 @@
 // What stands before a payload: the introducer and the header, for a session byte by byte and for a search from the header on.
+#![tactic(auto)]
+
 ghost use Rattle.std.specs.Prelude.{◌≡◌, drop};
 ghost use Rattle.header.specs.Lead.{start_byte, introduced_byte, header_byte, lead_byte, lead_at, lead_from};
 ghost use Rattle.header.specs.Settings.{given_at, settings_from};
@@ -8,14 +10,14 @@ use numbers::{Parameters, ends_payload, hold16, is_digit, is_skipped};
 use payload::{Given, Settings};
 
 // Before the introducer, after the 1B of one, in the header.
-#[derive(Drop)]
+#[derive(Clone, Copy)]
 pub enum Place {
     Start,
     Introduced,
     Header,
 }
 
-#[derive(Drop)]
+#[derive(Clone, Copy)]
 pub enum Led {
     On,
     Begins,
@@ -23,7 +25,7 @@ pub enum Led {
 }
 
 // What one byte came to. The small fields stand last, here and below: padding bytes between fields are copied with them from byte to byte.
-#[derive(Drop)]
+#[derive(Clone, Copy)]
 pub struct Step {
     pub header: Parameters,
     pub place: Place,
@@ -31,7 +33,7 @@ pub struct Step {
 }
 
 // What some bytes came to. A byte that is refused is not counted, and those before the first of them are.
-#[derive(Drop)]
+#[derive(Clone, Copy)]
 pub struct Lead {
     pub header: Parameters,
     pub consumed: usize,

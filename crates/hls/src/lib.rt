@@ -1,4 +1,6 @@
 // Percents, and HLS colours as the Rust works them out in f64, bit for bit.
+#![tactic(auto)]
+
 ghost use Rattle.std.specs.Prelude.{◌≡◌};
 ghost use Rattle.std.specs.Float.Ieee.{to_unsigned};
 ghost use Rattle.hls.specs.Percent.{held, outside, percent_byte, percent_of};
@@ -36,7 +38,7 @@ pub fn is_outside(value: i32) -> bool
 }
 
 // A percent's byte, and whether the number had to be held.
-#[derive(Drop)]
+#[derive(Clone, Copy)]
 pub struct Percent {
     pub byte: u8,
     pub held: bool,

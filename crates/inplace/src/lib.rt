@@ -1,5 +1,7 @@
 // A session that stays in one place and is lent to each call, as the Rust's feed takes it. The session is copied out, fed by
 // value and stored back; open, finish and abort stay by value, and finish hands no session back.
+#![tactic(auto)]
+
 ghost use Rattle.std.specs.Prelude.{◌≡◌};
 ghost use Rattle.dcs.specs.Session as dcs;
 ghost use Rattle.payload.specs.Session as payload;

@@ -10,7 +10,7 @@ use dcs::{Phase, Session};
 use frame::VisibleArea;
 
 // A move's answer, and the session: the one for the other canvas, or the one that there was where the move is refused.
-#[derive(Drop)]
+#[derive(Clone, Copy)]
 pub struct Moved {
     pub answer: Moving,
     pub session: Session,

@@ -1,5 +1,7 @@
 // A session that moves to another canvas, and the picture that goes with it. Stride, rows and length of a session are those of its canvas, and
 // nothing else is: so a move changes these three, and whoever moves carries the picture's rows over.
+#![tactic(auto)]
+
 pub mod carrying;
 pub mod dcs_session;
 pub mod payload_session;
@@ -16,7 +18,7 @@ use payload::core::Setup;
 use payload::refusals::{Verdict, may_open};
 
 // What a move answers: the size of the picture that has to be carried over, 0 by 0 where there is none yet; or its refusal.
-#[derive(Drop)]
+#[derive(Clone, Copy)]
 pub enum Moving {
     Done { width: usize, height: usize },
     Refused(Refusal),

@@ -1,4 +1,6 @@
 // The kinds of bytes, and the numbers that stand in commands (docs/RULES.md, section 2).
+#![tactic(auto)]
+
 pub mod memory;
 
 ghost use Rattle.std.specs.Prelude.{◌≡◌, ◌-◌};
@@ -96,7 +98,7 @@ fn hold(value: u64) -> u32
 
 // The values of one command, as they are read: `current` is the number after the last `;`, and `pending` says that it is
 // to be stored at the end.
-#[derive(Drop)]
+#[derive(Clone, Copy)]
 pub struct Parameters {
     values: [u32; PLACES],
     count: usize,

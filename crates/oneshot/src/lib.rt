@@ -1,5 +1,7 @@
 // Reading all at once: the Rust's AnsiPayload::parse and decode. One function returns the part of the input that is payload,
 // and another reads that part and answers.
+#![tactic(auto)]
+
 pub mod search;
 
 ghost use Rattle.core.specs.Prelude.{◌≡◌, ◌*◌, ◌≤◌, true, length};
@@ -155,7 +157,7 @@ pub fn read_in_pieces(
 
 // What reading all at once came to, and how long the part is that it took for the payload: the last bytes of all, none where it refuses
 // before that.
-#[derive(Drop)]
+#[derive(Clone, Copy)]
 pub struct Reading {
     pub answer: Finishing,
     pub part: usize,

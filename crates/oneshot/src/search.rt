@@ -8,14 +8,14 @@ use numbers::Parameters;
 use payload::{Settings, no_settings};
 
 // The place of the first byte of the payload, and its parameters; or the header's refusal.
-#[derive(Drop)]
+#[derive(Clone, Copy)]
 pub enum Found {
     Payload { from: usize, settings: Settings },
     Refused(Refusal),
 }
 
 // The place of the first byte of a header.
-#[derive(Drop)]
+#[derive(Clone, Copy)]
 pub enum Start {
     At(usize),
     Nowhere,

@@ -1,5 +1,7 @@
 // The reader for C and Rust, over the C ABI: functions under unmangled names, over numbers, slices and arrays alone. Each slice is
 // passed as a pointer and a length, each array as a pointer.
+#![tactic(auto)]
+
 mod answers;
 pub mod dcs_session;
 pub mod explaining;

@@ -12,7 +12,7 @@ use colours::Palette;
 use frame::{Frame, Ground};
 
 // What is settled when the payload begins.
-#[derive(Drop)]
+#[derive(Clone, Copy)]
 pub struct Setup {
     pub ground: Ground,
     pub length: usize,

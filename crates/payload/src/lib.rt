@@ -1,6 +1,8 @@
 // A payload session: the Rust's SixelStreamDecoder. It goes in by value and comes back by value, its palette inside, over a lent
 // canvas. A palette has an owner, who hands a copy to each session and gets one back at finish: the session's where the finish
 // succeeds, else the owner's own.
+#![tactic(auto)]
+
 pub mod codes;
 pub mod core;
 pub mod deferred;
@@ -20,27 +22,27 @@ use colours::Palette;
 use frame::{Frame, Ground, Limits, Refusal};
 
 // A parameter of a DCS header: a 16-bit number, or none.
-#[derive(Drop)]
+#[derive(Clone, Copy)]
 pub enum Given {
     Nothing,
     Number(u16),
 }
 
 // P1, to which the ratio is left where no raster says it, and P2, which says whether the background is transparent.
-#[derive(Drop)]
+#[derive(Clone, Copy)]
 pub struct Settings {
     pub p1: Given,
     pub p2: Given,
 }
 
-#[derive(Drop)]
+#[derive(Clone, Copy)]
 pub enum Life {
     Live,
     Ended(u8),
     Failed,
 }
 
-#[derive(Drop)]
+#[derive(Clone, Copy)]
 pub struct Session {
     ground: Ground,
     length: usize,
@@ -50,21 +52,21 @@ pub struct Session {
     palette: Palette,
 }
 
-#[derive(Drop)]
+#[derive(Clone, Copy)]
 pub enum Opening {
     Ready,
     Refused(Refusal),
 }
 
 // An opening's answer and the session, which is a failed one where the opening is refused.
-#[derive(Drop)]
+#[derive(Clone, Copy)]
 pub struct Opened {
     pub answer: Opening,
     pub session: Session,
 }
 
 // Bytes consumed and ink of one call, or its refusal.
-#[derive(Drop)]
+#[derive(Clone, Copy)]
 pub enum Answer {
     More {
         consumed: usize,
@@ -82,20 +84,20 @@ pub enum Answer {
     Refused(Refusal),
 }
 
-#[derive(Drop)]
+#[derive(Clone, Copy)]
 pub struct Fed {
     pub answer: Answer,
     pub session: Session,
 }
 
 // `Raster(n)` is n : 1.
-#[derive(Drop)]
+#[derive(Clone, Copy)]
 pub enum Ratio {
     Raster(u8),
     LeftToP1(Given),
 }
 
-#[derive(Drop)]
+#[derive(Clone, Copy)]
 pub struct Report {
     pub width: usize,
     pub height: usize,
@@ -112,14 +114,14 @@ pub struct Report {
     pub held: u64,
 }
 
-#[derive(Drop)]
+#[derive(Clone, Copy)]
 pub enum Finishing {
     Picture(Report),
     Refused(Refusal),
 }
 
 // A finish's answer, and the owner's palette after it.
-#[derive(Drop)]
+#[derive(Clone, Copy)]
 pub struct Finished {
     pub answer: Finishing,
     pub palette: Palette,

@@ -8,7 +8,7 @@ use crate::Life;
 use crate::core::Setup;
 use frame::{Frame, Limits, Refusal};
 
-#[derive(Drop)]
+#[derive(Clone, Copy)]
 pub enum Verdict {
     Fine,
     Refused(Refusal),

@@ -1,5 +1,7 @@
 // The streaming reader as a caller builds on it: a DCS stream comes in pieces, each is fed with the smallest allowance until it is
 // read, and the picture is copied at the end.
+#![tactic(auto)]
+
 ghost use Rattle.std.specs.Prelude.{◌≡◌};
 ghost use Rattle.canvas.specs.Picture.{area_of};
 ghost use Rattle.canvas.specs.Copy.{number_of, copied};
@@ -15,7 +17,7 @@ use payload::{Finished, Finishing, Opening, Report};
 const MOST: usize = 18_446_744_073_709_551_615;
 
 // What a reader has come to: a sequence that goes on, its end, or a refusal.
-#[derive(Drop)]
+#[derive(Clone, Copy)]
 pub enum Standing {
     Reading,
     Ended(Ending),
@@ -23,14 +25,14 @@ pub enum Standing {
 }
 
 // Bytes consumed, ink and calls in all, each saturating at 2^64 - 1.
-#[derive(Drop)]
+#[derive(Clone, Copy)]
 pub struct Counts {
     pub consumed: usize,
     pub ink: usize,
     pub calls: usize,
 }
 
-#[derive(Drop)]
+#[derive(Clone, Copy)]
 pub struct Reader {
     session: Session,
     standing: Standing,
@@ -39,7 +41,7 @@ pub struct Reader {
 }
 
 // What a call's answer tells: what it came to, its bytes and ink, and the bytes that a stop has consumed, 0 for any other.
-#[derive(Drop)]
+#[derive(Clone, Copy)]
 struct Told {
     standing: Standing,
     consumed: usize,
@@ -48,7 +50,7 @@ struct Told {
 }
 
 // A reader after one call, and the bytes that a stop has consumed; 0 after any other call, which is a piece's last.
-#[derive(Drop)]
+#[derive(Clone, Copy)]
 struct Called {
     reader: Reader,
     stopped: usize,

@@ -1,4 +1,6 @@
 // The loop over a payload's bytes: the fast machine as far as it goes, then one byte by the reference machine, and again.
+#![tactic(auto)]
+
 pub mod renew;
 
 ghost use Rattle.std.specs.Prelude.{◌≡◌, ◌||◌, ◌+◌, ◌≤◌, ◌<◌, length};

@@ -1,4 +1,6 @@
 // The reference machine: what one byte does to a frame, a palette and a canvas. The fast machine is proved equal to it.
+#![tactic(auto)]
+
 pub mod extent;
 
 ghost use Rattle.std.specs.Prelude.{◌≡◌, ◌+◌, ◌≤◌, ◌<◌, min, ◌&&◌, eqb, length};

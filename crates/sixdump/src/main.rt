@@ -1,4 +1,6 @@
 // Reads a DCS sequence from standard input and prints its picture, or its refusal. Bytes after the sequence's end are ignored.
+#![tactic(auto)]
+
 ghost use Rattle.std.specs.Prelude.{replicate, ◌≡◌};
 ghost use Rattle.colours.specs.Palette.{standard};
 ghost use Rattle.pieces.specs.Pieces.{opened_by};
@@ -47,7 +49,7 @@ fn is_reading(standing: Standing) -> bool {
     false
 }
 
-#[derive(Drop)]
+#[derive(Clone, Copy)]
 struct Turn {
     reader: Reader,
     goes_on: bool,

@@ -64,7 +64,7 @@ pub(crate) fn is_word(field: &[u8], word: &[u8]) -> bool {
     true
 }
 
-#[derive(Drop)]
+#[derive(Clone, Copy)]
 pub(crate) enum Value {
     Bad,
     Of(usize),
@@ -103,7 +103,7 @@ pub(crate) fn number_at(line: &[u8], n: usize) -> Value {
     number(field(line, n))
 }
 
-#[derive(Drop)]
+#[derive(Clone, Copy)]
 pub(crate) enum Signed {
     Bad,
     Of(i32),
@@ -143,7 +143,7 @@ pub(crate) fn signed_at(line: &[u8], n: usize) -> Signed {
     from_zero(words)
 }
 
-#[derive(Drop)]
+#[derive(Clone, Copy)]
 pub(crate) enum Parameter {
     Bad,
     Of(Given),
@@ -183,7 +183,7 @@ fn hex_digit(byte: u8) -> u8
     NO_DIGIT
 }
 
-#[derive(Drop)]
+#[derive(Clone, Copy)]
 enum Byte {
     Bad,
     Of(u8),

@@ -11,14 +11,14 @@ pub(crate) fn line_room() -> [u8; LINE_ROOM] {
 }
 
 // The part of a block that is still to be read.
-#[derive(Drop)]
+#[derive(Clone, Copy)]
 pub(crate) struct Unread {
     at: usize,
     end: usize,
 }
 
 // A line's length, and whether the input ended with it.
-#[derive(Drop)]
+#[derive(Clone, Copy)]
 pub(crate) struct Line {
     pub(crate) length: usize,
     pub(crate) is_last: bool,
@@ -41,7 +41,7 @@ fn refilled(block: &mut [u8], unread: Unread) -> Unread {
     }
 }
 
-#[derive(Drop)]
+#[derive(Clone, Copy)]
 enum Next {
     End,
     Byte(u8),

@@ -1,4 +1,6 @@
 // The whole reader from a script: each line of standard input is an order to it, and one line is written for each.
+#![tactic(auto)]
+
 mod fields;
 mod lines;
 mod obey;
@@ -40,7 +42,7 @@ fn run_line(line: &[u8], state: State, canvas: &mut [u8]) -> State {
 }
 
 // What is known after a line.
-#[derive(Drop)]
+#[derive(Clone, Copy)]
 struct Turn {
     state: State,
     unread: Unread,

@@ -11,14 +11,14 @@ use frame::Limits;
 use payload::Settings;
 
 // The limits and the stride of an opening.
-#[derive(Drop)]
+#[derive(Clone, Copy)]
 pub(crate) struct Bounds {
     pub(crate) limits: Limits,
     pub(crate) stride: usize,
 }
 
 // What is asked of a session; `count` is how many bytes the line had.
-#[derive(Drop)]
+#[derive(Clone, Copy)]
 pub(crate) enum Ask {
     Payload { bounds: Bounds, settings: Settings },
     Dcs(Bounds),
@@ -27,7 +27,7 @@ pub(crate) enum Ask {
     Abort,
 }
 
-#[derive(Drop)]
+#[derive(Clone, Copy)]
 pub(crate) enum Order {
     Bad,
     Canvas(usize),
@@ -173,7 +173,7 @@ fn copy(line: &[u8]) -> Order {
     }
 }
 
-#[derive(Drop)]
+#[derive(Clone, Copy)]
 enum AskedColor {
     Bad,
     Of(NewColor),
@@ -210,7 +210,7 @@ fn hls(line: &[u8]) -> Order {
     Order::Change(Change::Hls(color))
 }
 
-#[derive(Drop)]
+#[derive(Clone, Copy)]
 enum Asked {
     Bad,
     Of(Bounds),
@@ -292,7 +292,7 @@ fn payload(line: &[u8]) -> Order {
     Order::Session(Ask::Payload { bounds, settings })
 }
 
-#[derive(Drop)]
+#[derive(Clone, Copy)]
 enum AskedMap {
     Bad,
     Of(Map),

@@ -3,14 +3,14 @@ use crate::say;
 use bins::{BinAnswer, ColumnsAnswer, Refusal, Setting, Shape, TopAnswer};
 
 // The picture and the setting that a question is about.
-#[derive(Drop)]
+#[derive(Clone, Copy)]
 pub(crate) struct Map {
     pub(crate) shape: Shape,
     pub(crate) setting: Setting,
 }
 
 // The colour of `Top` stands in the line's bytes.
-#[derive(Drop)]
+#[derive(Clone, Copy)]
 pub(crate) enum Question {
     Bin { map: Map, column: usize },
     Columns { map: Map, bin: usize },

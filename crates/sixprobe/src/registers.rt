@@ -5,7 +5,7 @@ use colours::marks::is_marked;
 use colours::{Palette, Set};
 
 // A register, and the three values that its colour is mixed of.
-#[derive(Drop)]
+#[derive(Clone, Copy)]
 pub(crate) struct NewColor {
     pub(crate) index: usize,
     pub(crate) x: i32,
@@ -14,7 +14,7 @@ pub(crate) struct NewColor {
 }
 
 // What the owner does to the palette.
-#[derive(Drop)]
+#[derive(Clone, Copy)]
 pub(crate) enum Change {
     Reset,
     Rgb(NewColor),

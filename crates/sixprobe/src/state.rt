@@ -7,7 +7,7 @@ use payload::memory::{frame_from, setup_from};
 use payload::places::LIFE;
 
 // Which session is open.
-#[derive(Drop)]
+#[derive(Clone, Copy)]
 pub(crate) enum Open {
     Nothing,
     Payload,
@@ -16,7 +16,7 @@ pub(crate) enum Open {
 
 // The owner's palette; the session that is open, as numbers and registers, which are cheap to carry for the check, and zeros where
 // there is none; the canvas's length, and how many of its first bytes are lent.
-#[derive(Drop)]
+#[derive(Clone, Copy)]
 pub(crate) struct State {
     pub(crate) palette: Palette,
     pub(crate) open: Open,

@@ -7,7 +7,7 @@ use answers::{number_at, signed};
 use colours::Palette;
 
 // How many colours were compared, and how many of the stored answers differ.
-#[derive(Drop)]
+#[derive(Clone, Copy)]
 pub struct Tally {
     pub compared: u64,
     pub differing: u64,

@@ -1,5 +1,7 @@
 // Compares the colours with what the Rust gave, stored in the file `colours`: for each hue a checksum of its 101 x 101 colours,
 // then percents, signed HLS samples and the standard registers. It writes how many colours it compared, and how many answers differ.
+#![tactic(auto)]
+
 mod bytes;
 mod compare;
 mod hues;

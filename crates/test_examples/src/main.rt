@@ -2,6 +2,8 @@
 // words of a refusal. A line is an order: a word, numbers one space apart, and bytes after `|`, where a backslash and two hex digits are
 // an escaped byte. What is to be printed was computed independently of this code where it can be: the canvas's checksums from pixels as
 // sets of (x, y), and the pictures of `pieces` from the oracle and docs/RULES.md.
+#![tactic(auto)]
+
 mod on_canvas;
 mod on_numbers;
 mod on_sessions;

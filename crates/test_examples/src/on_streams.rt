@@ -119,7 +119,7 @@ fn say_calls(words: &[u8], calls: usize) {
 }
 
 // What a way of reading came to: the length of its text, and the calls.
-#[derive(Drop)]
+#[derive(Clone, Copy)]
 struct Came {
     length: usize,
     calls: usize,

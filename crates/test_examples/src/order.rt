@@ -51,7 +51,7 @@ const LARGEST: usize = 18_446_744_073_709_551_615;
 const FIELDS: usize = 9;
 
 // The numbers of a line; 0 where it has none.
-#[derive(Drop)]
+#[derive(Clone, Copy)]
 pub(crate) struct Numbers {
     pub(crate) one: usize,
     pub(crate) two: usize,
@@ -64,7 +64,7 @@ pub(crate) struct Numbers {
 }
 
 // `text` is where the bytes begin, and `field` the place that is read.
-#[derive(Drop)]
+#[derive(Clone, Copy)]
 pub(crate) struct Order {
     pub(crate) word: u64,
     numbers: [usize; FIELDS],
@@ -72,7 +72,7 @@ pub(crate) struct Order {
     field: usize,
 }
 
-#[derive(Drop)]
+#[derive(Clone, Copy)]
 enum Value {
     Bad,
     Of(usize),

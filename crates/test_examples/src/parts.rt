@@ -36,7 +36,7 @@ fn digit(byte: u8) -> u8
 }
 
 // A byte of a text, and where the next one stands.
-#[derive(Drop)]
+#[derive(Clone, Copy)]
 struct Taken {
     byte: u8,
     next: usize,

@@ -17,7 +17,7 @@ pub(crate) const STOPPED: u8 = 5;
 pub(crate) const REFUSED: u8 = 6;
 
 // A call's answer; `byte` is an end's byte or a refusal's number.
-#[derive(Drop)]
+#[derive(Clone, Copy)]
 pub(crate) struct Said {
     pub how: u8,
     pub consumed: usize,
@@ -74,7 +74,7 @@ fn is_end_unread(said: Said, bytes: &[u8]) -> bool {
 }
 
 // What a session's calls came to so far; `refusal` is a feed's, or 0. `consumed` leaves out a piece that was refused.
-#[derive(Drop)]
+#[derive(Clone, Copy)]
 pub(crate) struct Count {
     pub refusal: u8,
     pub status: u8,

@@ -1,6 +1,8 @@
 // Replays the Rust's answers, stored in the file `answers`: blocks of records, each a case and what the Rust said of it.
 // Payload sessions, DCS sessions and one-shot readings are put to the reader, on one owner's palette from record to record;
 // colours and the ratios of P1 are compared.
+#![tactic(auto)]
+
 ghost use Rattle.std.specs.Prelude.{◌-◌, ◌≤◌, length};
 
 mod calls;
@@ -29,7 +31,7 @@ const MOST_BLOCKS: u32 = 64;
 const ROOM: usize = 2_097_160;
 
 // What has been replayed so far.
-#[derive(Drop)]
+#[derive(Clone, Copy)]
 struct Tally {
     payload: u64,
     dcs: u64,
@@ -84,7 +86,7 @@ impl Tally {
 }
 
 // The tally and the owner's palette, carried from record to record.
-#[derive(Drop)]
+#[derive(Clone, Copy)]
 struct State {
     tally: Tally,
     owner: Palette,
@@ -161,7 +163,7 @@ fn replay_block(block: &[u8], buffer: &mut [u8], start: State) -> State {
 }
 
 // What is known after a block.
-#[derive(Drop)]
+#[derive(Clone, Copy)]
 struct Turn {
     goes_on: bool,
     state: State,

@@ -13,7 +13,7 @@ use payload::places::LIFE;
 use payload::{Finished, Opening};
 
 // The session at work as its memory form has it. Which kind's numbers they are: a DCS session's are framed.
-#[derive(Drop)]
+#[derive(Clone, Copy)]
 pub(crate) struct Reader {
     is_framed: bool,
     numbers: [u64; 48],
@@ -54,7 +54,7 @@ fn framed_session(reader: Reader) -> dcs::Session {
     with_palette(dcs::memory::core_from(&numbers), palette)
 }
 
-#[derive(Drop)]
+#[derive(Clone, Copy)]
 pub(crate) struct Began {
     pub is_ready: bool,
     pub reader: Reader,
@@ -147,7 +147,7 @@ fn said_by_dcs(answer: dcs::Answer) -> Said {
     }
 }
 
-#[derive(Drop)]
+#[derive(Clone, Copy)]
 pub(crate) struct Heard {
     pub said: Said,
     pub reader: Reader,

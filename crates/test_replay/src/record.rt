@@ -16,7 +16,7 @@ fn signed_at(record: &[u8], at: usize) -> i32 {
 }
 
 // What is to be said of a record: whether the reader does, or has, what the Rust did or had.
-#[derive(Drop)]
+#[derive(Clone, Copy)]
 pub(crate) enum Verdict {
     Payload(bool),
     Dcs(bool),
@@ -27,7 +27,7 @@ pub(crate) enum Verdict {
     Faulty,
 }
 
-#[derive(Drop)]
+#[derive(Clone, Copy)]
 pub(crate) struct Step {
     pub verdict: Verdict,
     pub palette: Palette,

@@ -2,7 +2,7 @@
 use payload::{Finishing, Given, Ratio, Report};
 
 // All 0 where there is no picture.
-#[derive(Drop)]
+#[derive(Clone, Copy)]
 pub(crate) struct Picture {
     pub width: usize,
     pub height: usize,
@@ -52,7 +52,7 @@ fn picture_of(report: Report) -> Picture {
 }
 
 // What a finish or a reading came to.
-#[derive(Drop)]
+#[derive(Clone, Copy)]
 pub(crate) struct Closed {
     pub refusal: u8,
     pub picture: Picture,

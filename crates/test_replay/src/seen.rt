@@ -12,7 +12,7 @@ pub(crate) fn fill(canvas: &mut [u8]) {
 }
 
 // What a canvas holds after a session: the checksum of the visible rows, and whether all else is as it was.
-#[derive(Drop)]
+#[derive(Clone, Copy)]
 pub(crate) struct Shown {
     pub sum: u32,
     pub is_rest_kept: bool,

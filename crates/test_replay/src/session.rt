@@ -7,7 +7,7 @@ use crate::report::{Picture, close, no_picture};
 use colours::Palette;
 
 // A session and what its calls came to; `step` is what the last call consumed.
-#[derive(Drop)]
+#[derive(Clone, Copy)]
 struct Calls {
     reader: Reader,
     count: Count,
@@ -71,7 +71,7 @@ fn feed_pieces(start: Calls, record: &[u8], canvas: &mut [u8], allowance: usize)
 }
 
 // What a whole session or a reading came to, and the owner's palette after it.
-#[derive(Drop)]
+#[derive(Clone, Copy)]
 pub(crate) struct Ran {
     pub count: Count,
     pub refusal: u8,

@@ -16,7 +16,7 @@ const LONGEST: usize = 262_144;
 const ENDLESS: usize = 0xffff_ffff_ffff_ffff;
 
 // A canvas's shape, and what a call may ink.
-#[derive(Drop)]
+#[derive(Clone, Copy)]
 struct Plan {
     stride: usize,
     rows: usize,
@@ -36,7 +36,7 @@ fn side_for(side: usize) -> usize
     side
 }
 
-#[derive(Drop)]
+#[derive(Clone, Copy)]
 struct Trial {
     ran: Ran,
     shown: Shown,
@@ -203,7 +203,7 @@ fn are_shorter_refused(record: &[u8], buffer: &mut [u8], owner: Palette) -> bool
 }
 
 // Whether the reader does what the record says, and the owner's palette after it.
-#[derive(Drop)]
+#[derive(Clone, Copy)]
 pub(crate) struct Compared {
     pub is_same: bool,
     pub palette: Palette,

@@ -1,5 +1,7 @@
 // Text written into a lent buffer at a cursor. Each function answers where the cursor stands then. Where the buffer is
 // full, a byte is dropped and the cursor stays: the text is truncated.
+#![tactic(auto)]
+
 ghost use Rattle.std.specs.Prelude.{◌≡◌, ◌<◌};
 ghost use Rattle.text.specs.Text.{put_byte, put, decimal, hex_digit, hex};
 

@@ -1,4 +1,6 @@
 // A reading to be timed, over the C ABI. It is apart from what C and Rust are given to call, which is `owlgantry`: `bench/` alone links it.
+#![tactic(auto)]
+
 ghost use Rattle.std.specs.Prelude.{◌≡◌};
 ghost use Rattle.colours.specs.declared.Palette.{Palette};
 ghost use Rattle.payload.specs.Meant.{finish_meant};

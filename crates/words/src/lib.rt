@@ -1,5 +1,7 @@
 // What is told of a refusal, and the line of English that says it, written into a lent buffer at a cursor. Where the buffer is full, the
 // line is truncated.
+#![tactic(auto)]
+
 pub mod memory;
 
 ghost use Rattle.std.specs.Prelude.{◌≡◌};
@@ -10,7 +12,7 @@ use frame::Refusal;
 use text::{put_decimal, put_words};
 
 // What a refusal ran short of.
-#[derive(Drop)]
+#[derive(Clone, Copy)]
 pub enum Thing {
     Repeats,
     Columns,
@@ -19,7 +21,7 @@ pub enum Thing {
 }
 
 // How much of it was needed (`more`: more than that), and how much is allowed or there.
-#[derive(Drop)]
+#[derive(Clone, Copy)]
 pub struct Shortage {
     pub needed: u64,
     pub allowed: u64,
@@ -28,21 +30,21 @@ pub struct Shortage {
 }
 
 // What was needed, where that is told.
-#[derive(Drop)]
+#[derive(Clone, Copy)]
 pub enum Need {
     Nothing,
     Short(Shortage),
 }
 
 // The offset of the refused byte in what was given, or none.
-#[derive(Drop)]
+#[derive(Clone, Copy)]
 pub enum Place {
     Nowhere,
     At(usize),
 }
 
 // What is told of a refusal.
-#[derive(Drop)]
+#[derive(Clone, Copy)]
 pub struct Telling {
     pub refusal: Refusal,
     pub place: Place,

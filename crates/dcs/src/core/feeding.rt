@@ -19,14 +19,14 @@ use payload::{Life, deferred};
 use reading::renew::renewed;
 
 // A call's answer and the session after it.
-#[derive(Drop)]
+#[derive(Clone, Copy)]
 pub struct Fed {
     pub answer: Answer,
     pub core: Core,
 }
 
 // What bytes alone decide: an answer, and the phase after it.
-#[derive(Drop)]
+#[derive(Clone, Copy)]
 struct Told {
     answer: Answer,
     phase: Phase,

@@ -12,7 +12,7 @@ use numbers::Parameters;
 use payload::deferred;
 
 // An opening's answer and the session, which is a failed one where the opening is refused.
-#[derive(Drop)]
+#[derive(Clone, Copy)]
 pub struct Opened {
     pub answer: payload::Opening,
     pub core: Core,

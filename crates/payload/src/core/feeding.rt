@@ -13,7 +13,7 @@ use frame::{Frame, Outcome};
 use reading::process;
 
 // A call's answer, and the life and the frame after it.
-#[derive(Drop)]
+#[derive(Clone, Copy)]
 pub struct Fed {
     pub answer: Answer,
     pub life: Life,

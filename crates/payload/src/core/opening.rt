@@ -11,7 +11,7 @@ use frame::{Command, Extent, Frame, Ground, Kind, Limits, Pen, Raster, Refusal, 
 use numbers::Parameters;
 
 // An opening's answer and the session, which is a failed one where the opening is refused.
-#[derive(Drop)]
+#[derive(Clone, Copy)]
 pub struct Opened {
     pub answer: Opening,
     pub setup: Setup,
