@@ -199,25 +199,27 @@ grey-beside l n =
     let c : exact_c (200 * l - exact_q l 0) (exact_q l 0) n ≡ 6000 * l = rw (p, grey-q l) (flat (100 * l) n ∙ omega arith) in
     same_beside _ _ (rw c (omega arith))
 
+none-held : (s : ℤ) → le_z s (pos 0) ≡ true → held s ≡ 0
+unfolding held
+none-held (pos n) t = omega (arith, leb-true n 0 t)
+none-held (negsuc n) t = refl
+
+all-grey : (h l : ℤ) (x : ℕ) → x ≡ 0
+    → AllBeside (map (exact_c (exact_p (held l) x) (exact_q (held l) x)) (exact_turns (turned h))) (grey (percent_byte l))
+unfolding grey percent_byte exact_turns
+all-grey h l x e =
+    let red = grey-beside (held l) ((turned h + 120) % 360) in
+    let green = grey-beside (held l) (turned h) in
+    let blue = grey-beside (held l) ((turned h + 240) % 360) in
+    rw e (red, (green, (blue, tt)))
+
+beside-by : (h l s : ℤ) (b : Bool) → le_z s (pos 0) ≡ b → AllBeside (exact_hls h l s) (hls_bytes h l s)
+unfolding exact_hls hls_bytes
+beside-by h l s true e = rw e (all-grey h l (held s) (none-held s e))
+beside-by h l s false e = rw e (colour-beside (held l) (held s) (turned h) (held-le l) (held-le s) (turned_lt h))
+
 pub all-beside : (h l s : ℤ) → AllBeside (exact_hls h l s) (hls_bytes h l s)
-all-beside h l s = go (le_z s (pos 0)) refl
-  where
-    none : (s : ℤ) → le_z s (pos 0) ≡ true → held s ≡ 0
-    none (pos n) t = unfold held in omega (arith, leb-true n 0 t)
-    none (negsuc n) t = unfold held in refl
-
-    all-grey : (x : ℕ) → x ≡ 0
-        → AllBeside (map (exact_c (exact_p (held l) x) (exact_q (held l) x)) (exact_turns (turned h))) (grey (percent_byte l))
-    all-grey x e =
-        unfold grey percent_byte exact_turns in
-        let red = grey-beside (held l) ((turned h + 120) % 360) in
-        let green = grey-beside (held l) (turned h) in
-        let blue = grey-beside (held l) ((turned h + 240) % 360) in
-        rw e (red, (green, (blue, tt)))
-
-    go : (b : Bool) → le_z s (pos 0) ≡ b → AllBeside (exact_hls h l s) (hls_bytes h l s)
-    go true e = unfold exact_hls hls_bytes in rw e (all-grey (held s) (none s e))
-    go false e = unfold exact_hls hls_bytes in rw e (colour-beside (held l) (held s) (turned h) (held-le l) (held-le s) (turned_lt h))
+all-beside h l s = beside-by h l s (le_z s (pos 0)) refl
 
 pub beside-too : (h l s : ℤ) {r : List ℕ} → r ≡ hls_bytes h l s → (r ≡ hls_bytes h l s) × AllBeside (exact_hls h l s) r
 beside-too h l s e = (e, subst (λ (r : List ℕ). AllBeside (exact_hls h l s) r) (sym e) (all-beside h l s))

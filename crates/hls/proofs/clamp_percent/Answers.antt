@@ -17,7 +17,7 @@ returns-then-v-gt100 c =
 -- past both tests the number is its own percent
 within : (c : Else-v-gt100) → c.args.v ≡ pos (held c.args.v)
 within c =
-    clamp-within c.args.v (to_z-of_z w32 c.args.v c.fits.v) c.if-v-lt0.false c.if-v-gt100.false
+    clamp-within c.args.v (to_z-of_z w32 c.args.v c.ranges.v) c.if-v-lt0.false c.if-v-gt100.false
 
 pub overflow_cast-result : goal.overflow_cast-result
 overflow_cast-result c = cast_fits (within c) (omega (arith, held-le c.args.v))

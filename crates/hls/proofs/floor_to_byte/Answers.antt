@@ -11,7 +11,7 @@ unfolding of_bits
 inside c = byte-between c.args.w c.if-w.true c.if-w-2.true
 
 pub truncating_f64_to_u64-requires : goal.truncating_f64_to_u64-requires
-truncating_f64_to_u64-requires c = (inside c).asked
+truncating_f64_to_u64-requires c = record { lower_bound = (inside c).asked.0; upper_bound = (inside c).asked.1 }
 
 pub overflow_cast-result : goal.overflow_cast-result
 overflow_cast-result c = omega (arith, (inside (goal.at.overflow_cast-result c).Then-w-2).small)

@@ -12,9 +12,10 @@ use Rattle.hls.proofs.hls_to_rgb.Goals as goal
 
 pub returns-then-s-le0 : goal.returns-then-s-le0
 returns-then-s-le0 c =
-    beside-too c.args.h c.args.l c.args.s
+    let both = beside-too c.args.h c.args.l c.args.s
     (grey-is c.args.h c.args.l c.args.s (to_z-of_z w32 c.args.s c.ranges.s) c.if-s-le0.true
     (c.percent_byte-gray.ensures ∙ ap percent_byte (to_z-of_z w32 c.args.l c.ranges.l)))
+    in record { value = both.0; all_beside = both.1 }
 
 pub overflow_add-degrees : goal.overflow_add-degrees
 overflow_add-degrees c = omega (arith, c.rem_euclid_360.ensures, modulo-lt (to_z w32 (of_z w32 c.args.h)))
@@ -22,7 +23,7 @@ overflow_add-degrees c = omega (arith, c.rem_euclid_360.ensures, modulo-lt (to_z
 pub returns : goal.returns
 unfolding of_bits over channel_byte
 returns c =
-    beside-too c.args.h c.args.l c.args.s
+    let both = beside-too c.args.h c.args.l c.args.s
     (colour-is c.args.h c.args.l c.args.s (to_z-of_z w32 c.args.s c.ranges.s) c.if-s-le0.false
     (c.rem_euclid_360.ensures ∙ ap modulo360 (to_z-of_z w32 c.args.h c.ranges.h))
     (c.clamp_percent.ensures ∙ ap held (to_z-of_z w32 c.args.l c.ranges.l))
@@ -30,3 +31,4 @@ returns c =
     c.upper_end-q.ensures
     c.hue_to_rgb-r.ensures c.hue_to_rgb-g.ensures c.hue_to_rgb-b.ensures
     c.floor_to_byte.ensures c.floor_to_byte-2.ensures c.floor_to_byte-3.ensures)
+    in record { value = both.0; all_beside = both.1 }

@@ -14,7 +14,7 @@ pub loop-i-preserved : goal.loop-i-preserved
 loop-i-preserved c =
     let now-at = c.loop-i in (
       one_more _ now-at.i _ _ _ c.put_byte-place.ensures now-at.invariant.0 (omega arith),
-      c.put_byte-place.auto.0 ∙ now-at.invariant.1,
+      c.put_byte-place.auto.out ∙ now-at.invariant.1,
       omega arith,
     )
 

@@ -1,0 +1,40 @@
+use mathlib.Core.Path.{◌≡◌}
+use Prim.Native.Nat.{◌+◌, ◌*◌, ◌-◌, ◌≤◌}
+use native.Mathlib.Omega.{arith}
+use mathlib.Core.Logic.{⊎_elim}
+use lib.ListN.{length, length-set}
+use borrow.Author.Rules.{rules}
+use Rattle.colours.proofs.Blocks.{Passed, passed_none, PassedOn, on_none, on-more, passed-as, passed-idle, passed-all}
+use Rattle.colours.proofs.marks.count_and_clear.Goals as goal
+
+pub loop-block-init : goal.loop-block-init
+loop-block-init c = (search rules, passed_none _ (search rules))
+
+pub loop-k-init : goal.loop-k-init
+loop-k-init c =
+    let p = c.loop.invariant.1 in
+    (search rules, p.few, p.long, on_none _ _ _)
+
+pub loop-k-preserved : goal.loop-k-preserved
+loop-k-preserved c =
+    let kept = c.loop-k.invariant in
+    (search rules, omega arith, simp length-set kept.2, on-more kept.3 (omega arith))
+
+pub loop-block-preserved : goal.loop-block-preserved
+loop-block-preserved c =
+    let p = c.loop.invariant.1 in (
+      search rules,
+      ⊎_elim
+          (λ w.
+          let within = w.1.inv.0 in
+          let left = w.2.left in
+          passed-as (w.1.inv.3.on _ p) (omega (arith, within, left)) w.4 w.3)
+          (λ w. passed-as (passed-idle 64 p (omega arith) (c.may_exceed.ensures w.0.left)) (omega arith) w.2 w.1)
+          c.if-may_exceed.branch,
+    )
+
+pub returns : goal.returns
+returns c =
+    let at = c.loop-block in
+    let done : 64 * at.block ≡ 256 = omega arith in
+    passed-all at.invariant.1 done

@@ -1,0 +1,21 @@
+use mathlib.Core.Path.{◌≡◌}
+use Prim.Native.Nat.{◌-◌, ◌≤◌}
+use native.Mathlib.Omega.{arith}
+use borrow.Author.Rules.{rules}
+use borrow.Author.Tests.{leb-false}
+use Rattle.colours.specs.Marks.{frame_unit}
+use Rattle.colours.proofs.Blocks.{AtMost, most-none, most-more}
+use Rattle.colours.proofs.marks.may_exceed.Goals as goal
+
+pub loop-k-init : goal.loop-k-init
+loop-k-init c = (search rules, most-none _ _ _)
+
+pub loop-k-preserved : goal.loop-k-preserved
+loop-k-preserved c = (search rules, most-more c.loop-k.invariant.1)
+
+-- TODO returns : tie.Need-returns invariant-loop decreases-loop
+-- TODO returns c answered k h =
+-- TODO     let at = c.before.loop in
+-- TODO     let low = leb-false frame_unit at.all answered in
+-- TODO     let each = at.invariant.1.each k (omega arith) in
+-- TODO     omega (arith, low, each)

@@ -1,0 +1,22 @@
+-- `colours::rgb_bytes` meets its contract: the index, clamped to 255, is itself or 255.
+-- Assumes nothing.
+use mathlib.Core.Path.{◌≡◌}
+use Prim.Native.Nat.{min}
+use native.Mathlib.Omega.{arith}
+use Rattle.colours.specs.Palette.{of_table, register_of}
+use borrow.Author.Rules.{rules}
+use Rattle.colours.proofs.rgb_bytes.Goals as goal
+
+pub returns-then-index-lt256 : goal.returns-then-index-lt256
+unfolding of_table register_of
+returns-then-index-lt256 c =
+    let a = c.args in
+    let within : min a.index 255 ≡ a.index = omega arith in
+    rw within c.pixel.ensures
+
+pub returns : goal.returns
+unfolding of_table register_of
+returns c =
+    let a = c.args in
+    let held : min a.index 255 ≡ 255 = omega arith in
+    rw held c.pixel-2.ensures

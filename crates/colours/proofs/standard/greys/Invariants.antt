@@ -1,0 +1,13 @@
+-- `colours::standard::greys` meets its contract. The loop's invariant: the first k greys are computed.
+-- Assumes nothing.
+use mathlib.Core.Path.{◌≡◌}
+use Prim.Native.Nat.{◌-◌, ◌≤◌}
+use native.Mathlib.Omega.{arith}
+use borrow.Author.Rules.{rules}
+use Rattle.colours.specs.Standard.{grey}
+use Rattle.colours.proofs.StandardLaws.{is-grey}
+use Rattle.colours.proofs.Filling.{Filled, filled_none, filled-as, filled_more, filled-whole}
+use Rattle.colours.proofs.standard.greys.Given as goal
+
+abbrev pub invariant-loop-k : goal.invariant-loop-k
+invariant-loop-k l = (l.k ≤ 24) × Filled grey 0 l.k l.initial.colors l.colors

@@ -1,0 +1,12 @@
+-- `colours::standard::put` meets its contract. The loop's invariant: the rule's first k colours stand in their places.
+-- Assumes nothing.
+use mathlib.Core.Path.{◌≡◌, refl, ◌∙◌}
+use Prim.Native.Nat.{◌-◌, ◌≤◌}
+use native.Mathlib.Omega.{arith}
+use lib.ListN.{length, get_or}
+use borrow.Author.Rules.{rules}
+use Rattle.colours.proofs.Filling.{Filled, filled_none, filled-as, filled_more, listed_back}
+use Rattle.colours.proofs.standard.put.Given as goal
+
+abbrev pub invariant-loop-k : goal.invariant-loop-k
+invariant-loop-k l = (l.k ≤ l.k-end) × Filled (λ n. get_or l.rule n 0) l.first l.k l.initial.colors l.colors
