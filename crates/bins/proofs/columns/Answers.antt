@@ -12,7 +12,7 @@ overflow_sub-last c = search (rules, place-wide)
 pub overflow_add-last : goal.overflow_add-last
 overflow_add-last c =
     let a = c.args in
-    let room : c.first-1.given.0.0 + a.setting.width ≤ a.shape.width = search (rules, place-room) in
+    let room : c.in-From.first + a.setting.width ≤ a.shape.width = search (rules, place-room) in
     omega arith
 
 pub returns-in-From : goal.returns-in-From

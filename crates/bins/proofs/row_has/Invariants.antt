@@ -8,7 +8,7 @@ use Rattle.bins.proofs.row_has.Given as goal
 
 abbrev pub invariant-loop-x : goal.invariant-loop-x
 invariant-loop-x l =
-    (row_has (λ l.x. pixel l.canvas (l.start + l.x)) l.x (l.first + l.count - l.x) l.colour ≡ row_has (λ l.x. pixel l.canvas (l.start + l.x)) l.first l.count l.colour)
+    (row_has (λ x. pixel l.canvas (l.start + x)) l.x (l.first + l.count - l.x) l.colour ≡ row_has (λ x. pixel l.canvas (l.start + x)) l.first l.count l.colour)
     × (l.x-end ≡ l.first + l.count)
     × (l.first ≤ l.x)
     × (l.x ≤ l.first + l.count)

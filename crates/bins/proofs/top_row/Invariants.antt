@@ -11,6 +11,6 @@ use Rattle.bins.proofs.top_row.Given as goal
 
 abbrev pub invariant-loop-y : goal.invariant-loop-y
 invariant-loop-y l =
-    (first_from (λ l.y. row_has (λ x. pixel_at l.stride l.canvas x l.y) l.first l.count l.colour) l.y (l.height - l.y)
-    ≡ first_from (λ l.y. row_has (λ x. pixel_at l.stride l.canvas x l.y) l.first l.count l.colour) 0 l.height)
+    (first_from (λ y. row_has (λ x. pixel_at l.stride l.canvas x y) l.first l.count l.colour) l.y (l.height - l.y)
+    ≡ first_from (λ y. row_has (λ x. pixel_at l.stride l.canvas x y) l.first l.count l.colour) 0 l.height)
     × (l.y ≤ l.height)

@@ -6,13 +6,14 @@ use lib.ListN.{length, length-set}
 use borrow.Author.Rules.{rules}
 use Rattle.colours.proofs.Blocks.{Passed, passed_none, PassedOn, on_none, on-more, passed-as, passed-idle, passed-all}
 use Rattle.colours.proofs.marks.count_and_clear.Goals as goal
+use Rattle.colours.proofs.marks.count_and_clear.Goals.{then-may_exceed+else-loop-k-test, else-may_exceed}
 
 pub loop-block-init : goal.loop-block-init
 loop-block-init c = (search rules, passed_none _ (search rules))
 
 pub loop-k-init : goal.loop-k-init
 loop-k-init c =
-    let p = c.loop.invariant.1 in
+    let p = c.loop-block.invariant.1 in
     (search rules, p.few, p.long, on_none _ _ _)
 
 pub loop-k-preserved : goal.loop-k-preserved
@@ -22,15 +23,13 @@ loop-k-preserved c =
 
 pub loop-block-preserved : goal.loop-block-preserved
 loop-block-preserved c =
-    let p = c.loop.invariant.1 in (
+    let p = c.loop-block.invariant.1 in (
       search rules,
-      ⊎_elim
-          (λ w.
-          let within = w.1.inv.0 in
-          let left = w.2.left in
-          passed-as (w.1.inv.3.on _ p) (omega (arith, within, left)) w.4 w.3)
-          (λ w. passed-as (passed-idle 64 p (omega arith) (c.may_exceed.ensures w.0.left)) (omega arith) w.2 w.1)
-          c.if-may_exceed.branch,
+      elim c.if-may_exceed.branch [
+        then-may_exceed+else-loop-k-test w ↦ passed-as (w.loop-k.invariant.3.on _ p) (omega arith) w.count-is w.colors-is
+        | else-may_exceed w ↦
+            passed-as (passed-idle 64 p (omega arith) (c.may_exceed.ensures w.if-may_exceed.false)) (omega arith) w.count-is w.colors-is
+      ],
     )
 
 pub returns : goal.returns

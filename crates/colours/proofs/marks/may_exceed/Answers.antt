@@ -13,9 +13,9 @@ loop-k-init c = (search rules, most-none _ _ _)
 pub loop-k-preserved : goal.loop-k-preserved
 loop-k-preserved c = (search rules, most-more c.loop-k.invariant.1)
 
--- TODO returns : tie.Need-returns invariant-loop decreases-loop
--- TODO returns c answered k h =
--- TODO     let at = c.before.loop in
--- TODO     let low = leb-false frame_unit at.all answered in
--- TODO     let each = at.invariant.1.each k (omega arith) in
--- TODO     omega (arith, low, each)
+pub returns : goal.returns
+returns c answered k h =
+    let at = c.loop-k in
+    let low = leb-false frame_unit at.all answered in
+    let each = at.invariant.1.each k (omega arith) in
+    omega (arith, low, each)

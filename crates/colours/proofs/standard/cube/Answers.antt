@@ -19,10 +19,6 @@ loop-g-init c = (search rules, filled-as (omega arith) c.loop-r.invariant.1)
 pub loop-b-init : goal.loop-b-init
 loop-b-init c = (search rules, filled-as (omega arith) c.loop-g.invariant.1)
 
-array-write-colors :
-    tie.Need-array-write-colors invariant-loop3 decreases-loop3 invariant-loop2 decreases-loop2 invariant-loop decreases-loop
-array-write-colors c = search rules
-
 pub loop-b-preserved : goal.loop-b-preserved
 loop-b-preserved c = (
   search rules,
