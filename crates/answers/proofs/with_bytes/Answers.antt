@@ -1,0 +1,22 @@
+use mathlib.Core.Path.{◌≡◌, refl}
+use Prim.Native.Nat.{◌≤◌, ◌-◌}
+use native.Mathlib.Omega.{arith}
+use lib.ListN.{length, drop}
+use borrow.Author.Rules.{rules}
+use Rattle.answers.specs.Adler.{with_bytes}
+use Rattle.answers.proofs.Laws.{one_more, all_read_lem}
+use Rattle.answers.proofs.with_bytes.Goals as goal
+
+pub loop-i-init : goal.loop-i-init
+loop-i-init c = (search rules, refl)
+
+pub loop-i-preserved : goal.loop-i-preserved
+loop-i-preserved c =
+    (
+      search rules,
+      one_more c.args.bytes.now c.loop-i.i _ _ _ c.with_byte-sum.ensures c.loop-i.invariant.1 (omega arith),
+    )
+
+pub returns : goal.returns
+returns c =
+    all_read_lem c.args.bytes.now c.loop-i.i _ _ c.loop-i.invariant.1 (omega arith)
