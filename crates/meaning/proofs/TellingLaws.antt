@@ -30,7 +30,7 @@ use Rattle.meaning.proofs.PayloadLaws.{outcome-settled, outcome-refused, reading
 
 module _ {S : Type 0} (step : S → ℕ → Step S) (need_of : S → ℕ → Option Shortage) where
   -- a byte before a run
-  one_more : {at : ℕ} {t : Option Telling} {r : Run S} (i : ℕ) → TellsRun (suc at) r t → TellsRun at (after 1 i r) t
+  one_more : {at : ℕ} {r : Run S} {t : Option Telling} (i : ℕ) → TellsRun (suc at) r t → TellsRun at (after 1 i r) t
   unfolding after
   one_more i (untold e) = untold e
   one_more {at} {r = r} i (told {n = n} need e) =

@@ -27,9 +27,9 @@ module _ {H M A B : Type 0} (f : Feed H A) (g : Feed M B) (Stands : H → M → 
   pub all_pass : {h : H} {m : M} → Stands h m → (cs : List Ask) → Passes Stands meant (fed_all f h cs) (fed_all g m cs)
   unfolding fed_all
   all_pass k [] = record { answers = refl; state = k }
-  all_pass k (c ∷ cs) =
-      let first = one _ _ k c.bytes c.allowance in
-      let later = all_pass first.1 cs in
+  all_pass {h = h} {m = m} k (c ∷ cs) =
+      let first = one h m k c.bytes c.allowance in
+      let later = all_pass {h = (f h c.bytes c.allowance).0} {m = (g m c.bytes c.allowance).0} first.1 cs in
       record { answers = ap₂ ◌∷◌ first.0 later.answers; state = later.state }
 
 -- ---- how a call came to its end, and what is told of it
@@ -230,7 +230,7 @@ module _ {H E : Type 0} (feed : Feed H (Answer E)) where
     calls-stand {c} {k} h (t ∷ ts) ok =
         let parts = proper-parts A c t ts ok in
         let there = may c k h t parts.1 in
-        let later = calls-stand (one c k h t parts.0 there) ts parts.2 in
+        let later = calls-stand {c = called feed c t} {k = turn step rest k t} (one c k h t parts.0 there) ts parts.2 in
         (later.0, and_both _ _ (le-leb A (allowance_of t) parts.0) (and_both _ _ there later.1))
 
     -- where each such call that neither stops nor is refused tells whether the end has come, so does the last of any, after a
@@ -249,7 +249,7 @@ module _ {H E : Type 0} (feed : Feed H (Answer E)) where
       status-stands {c} {k} h x before (t ∷ ts) ok going fine =
           let parts = proper-parts A c t ts ok in
           let there = may c k h t parts.1 in
-          status-stands (one c k h t parts.0 there) (status_told x (feed c.state (c.unread ++ piece_of t) (allowance_of t)).1)
+          status-stands {c = called feed c t} {k = turn step rest k t} (one c k h t parts.0 there) (status_told x (feed c.state (c.unread ++ piece_of t) (allowance_of t)).1)
           (tells c k h t parts.0 there x) ts parts.2 going fine
 
 -- ---- the status that an answer tells

@@ -1,0 +1,16 @@
+-- `words::put_amount` meets its contract: the number, with words before it or without. Assumes nothing.
+use Rattle.words.proofs.WordLaws.{more-than, exactly}
+use Rattle.text.specs.Text.{words}
+use borrow.Author.Rules.{rules}
+use Rattle.words.proofs.put_amount.Goals as goal
+
+-- TODO slice-aggregate-put-words : tie.Need-slice-aggregate-put-words
+-- TODO slice-aggregate-put-words c = search rules
+
+pub returns-then-more : goal.returns-then-more
+unfolding words
+returns-then-more c = search (rules, more-than, exactly)
+
+pub returns : goal.returns
+unfolding words
+returns c = search (rules, more-than, exactly)

@@ -1,0 +1,16 @@
+-- `words::put_place` meets its contract: nothing, or the offset. Assumes nothing.
+use Rattle.words.proofs.WordLaws.{nowhere, at_byte}
+use Rattle.text.specs.Text.{words}
+use borrow.Author.Rules.{rules}
+use Rattle.words.proofs.put_place.Goals as goal
+
+-- TODO slice-aggregate-put-words : tie.Need-slice-aggregate-put-words
+-- TODO slice-aggregate-put-words c = search rules
+
+pub returns-in-Nowhere : goal.returns-in-Nowhere
+unfolding words
+returns-in-Nowhere c = search (rules, nowhere)
+
+pub returns-in-At : goal.returns-in-At
+unfolding words
+returns-in-At c = search (rules, at_byte)

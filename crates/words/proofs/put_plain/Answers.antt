@@ -1,0 +1,104 @@
+-- `words::put_plain` meets its contract: in each case the case's sentence. Assumes nothing.
+use Rattle.words.proofs.WordLaws.{plain-as}
+use Rattle.text.specs.Text.{words}
+use Rattle.words.specs.Words.{plain_sentence}
+use borrow.Author.Rules.{rules}
+use Rattle.words.proofs.put_plain.Goals as goal
+
+-- TODO slice-aggregate-put-words : tie.Need-slice-aggregate-put-words
+-- TODO slice-aggregate-put-words c = search rules
+
+-- TODO slice-aggregate-put-words-2 : tie.Need-slice-aggregate-put-words-2
+-- TODO slice-aggregate-put-words-2 c = search rules
+
+-- TODO slice-aggregate-put-words-3 : tie.Need-slice-aggregate-put-words-3
+-- TODO slice-aggregate-put-words-3 c = search rules
+
+-- TODO slice-aggregate-put-words-4 : tie.Need-slice-aggregate-put-words-4
+-- TODO slice-aggregate-put-words-4 c = search rules
+
+-- TODO slice-aggregate-put-words-5 : tie.Need-slice-aggregate-put-words-5
+-- TODO slice-aggregate-put-words-5 c = search rules
+
+-- TODO slice-aggregate-put-words-6 : tie.Need-slice-aggregate-put-words-6
+-- TODO slice-aggregate-put-words-6 c = search rules
+
+-- TODO slice-aggregate-put-words-7 : tie.Need-slice-aggregate-put-words-7
+-- TODO slice-aggregate-put-words-7 c = search rules
+
+-- TODO slice-aggregate-put-words-8 : tie.Need-slice-aggregate-put-words-8
+-- TODO slice-aggregate-put-words-8 c = search rules
+
+-- TODO slice-aggregate-put-words-9 : tie.Need-slice-aggregate-put-words-9
+-- TODO slice-aggregate-put-words-9 c = search rules
+
+-- TODO slice-aggregate-put-words-10 : tie.Need-slice-aggregate-put-words-10
+-- TODO slice-aggregate-put-words-10 c = search rules
+
+-- TODO slice-aggregate-put-words-11 : tie.Need-slice-aggregate-put-words-11
+-- TODO slice-aggregate-put-words-11 c = search rules
+
+-- TODO slice-aggregate-put-words-12 : tie.Need-slice-aggregate-put-words-12
+-- TODO slice-aggregate-put-words-12 c = search rules
+
+-- TODO slice-aggregate-put-words-13 : tie.Need-slice-aggregate-put-words-13
+-- TODO slice-aggregate-put-words-13 c = search rules
+
+-- TODO slice-aggregate-put-words-14 : tie.Need-slice-aggregate-put-words-14
+-- TODO slice-aggregate-put-words-14 c = search rules
+
+pub returns-in-Introducer : goal.returns-in-Introducer
+unfolding words plain_sentence
+returns-in-Introducer c = search (rules, plain-as)
+
+pub returns-in-HeaderEnded : goal.returns-in-HeaderEnded
+unfolding words plain_sentence
+returns-in-HeaderEnded c = search (rules, plain-as)
+
+pub returns-in-HeaderByte : goal.returns-in-HeaderByte
+unfolding words plain_sentence
+returns-in-HeaderByte c = search (rules, plain-as)
+
+pub returns-in-Repeat : goal.returns-in-Repeat
+unfolding words plain_sentence
+returns-in-Repeat c = search (rules, plain-as)
+
+pub returns-in-Size : goal.returns-in-Size
+unfolding words plain_sentence
+returns-in-Size c = search (rules, plain-as)
+
+pub returns-in-Pixels : goal.returns-in-Pixels
+unfolding words plain_sentence
+returns-in-Pixels c = search (rules, plain-as)
+
+pub returns-in-Room : goal.returns-in-Room
+unfolding words plain_sentence
+returns-in-Room c = search (rules, plain-as)
+
+pub returns-in-Unfinished : goal.returns-in-Unfinished
+unfolding words plain_sentence
+returns-in-Unfinished c = search (rules, plain-as)
+
+pub returns-in-Failed : goal.returns-in-Failed
+unfolding words plain_sentence
+returns-in-Failed c = search (rules, plain-as)
+
+pub returns-in-FinalSize : goal.returns-in-FinalSize
+unfolding words plain_sentence
+returns-in-FinalSize c = search (rules, plain-as)
+
+pub returns-in-Opening : goal.returns-in-Opening
+unfolding words plain_sentence
+returns-in-Opening c = search (rules, plain-as)
+
+pub returns-in-Canvas : goal.returns-in-Canvas
+unfolding words plain_sentence
+returns-in-Canvas c = search (rules, plain-as)
+
+pub returns-in-Allowance : goal.returns-in-Allowance
+unfolding words plain_sentence
+returns-in-Allowance c = search (rules, plain-as)
+
+pub returns-in-Buffer : goal.returns-in-Buffer
+unfolding words plain_sentence
+returns-in-Buffer c = search (rules, plain-as)
