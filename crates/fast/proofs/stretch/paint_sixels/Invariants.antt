@@ -1,0 +1,17 @@
+-- `paint_sixels` meets its contract. The loop's invariant: the first `k` sixels were painted.
+use Prim.Native.Nat.{ℕ, ◌+◌, ◌-◌, ◌≤◌}
+use mathlib.Core.List.{List}
+use mathlib.Core.Path.{◌≡◌, refl, sym, subst, ◌∙◌}
+use native.Mathlib.Nat.{add-zero}
+use native.Mathlib.Omega.{arith}
+use lib.ListN.{length, get_or}
+use Rattle.fast.specs.Run.{Sixels, Laid}
+use Rattle.fast.proofs.RunLaws.{laid_none, laid-blank, laid-full, laid-joined, laid-few, all-taken}
+use Rattle.fast.proofs.stretch.paint_sixels.Given as goal
+
+abbrev pub invariant-loop-k : goal.invariant-loop-k
+invariant-loop-k l =
+    (l.k ≤ l.count) × Laid l.stride l.column l.row l.px l.bytes l.from l.k l.ink l.initial.canvas l.canvas × (length l.canvas ≡ length l.initial.canvas)
+
+abbrev pub decreases-loop-k : goal.decreases-loop-k
+decreases-loop-k l = l.count - l.k
