@@ -7,8 +7,7 @@ use Rattle.colours.specs.declared.Palette.{Palette}
 use Rattle.frame.specs.declared.Frame.{Frame}
 use Rattle.frame.specs.declared.Progress.{Progress}
 use Rattle.reference.specs.Step.{Reached}
-use Rattle.reading.proofs.read_byte.Statement.{statement}
-use Rattle.reading.proofs.read_byte.Tie as tie
+use Rattle.reading.proofs.read_byte.Goals as goal
 
 step-anew : {f : Frame} {s : Progress} {p : Palette} {l : List ℕ} {x : Reached} → f ≡ s.frame
     → ◌≡◌ {A = Reached} (record { progress = s; palette = p; canvas = l }) x
@@ -22,17 +21,5 @@ step-anew {s = s} {p = p} {l = l} e q =
     e
     ∙ q
 
-step-requires : tie.Need-step-requires
-step-requires c κs = search rules
-
-renewed-requires : tie.Need-renewed-requires
-renewed-requires c κs = search rules
-
-same_length : tie.Need-same-length
-same_length c = search rules
-
-returns : tie.Need-returns
-returns c = step-anew c.renewed.ensures c.before.before.before.step.ensures
-
-pub read-byte-spec : {M : Type 1} → statement M
-read-byte-spec = tie.close (tie.spec step-requires renewed-requires same_length returns)
+pub returns : goal.returns
+returns c = step-anew c.renewed.ensures c.step-read.ensures

@@ -1,0 +1,13 @@
+-- `joined` meets its contract: the pen made anew is the pen, and the other parts are copied.
+use mathlib.Core.Path.{refl}
+use borrow.Author.Rules.{rules}
+use Rattle.reading.specs.Loop.{joined_to}
+use Rattle.reading.proofs.joined.Goals as goal
+
+-- TODO sum_fits : tie.Need-overflow-add-t7
+-- TODO sum_fits c = search rules
+
+pub returns : goal.returns
+unfolding joined_to
+returns c =
+    rw (c.renewed_pen.ensures, c.either.ensures) refl
