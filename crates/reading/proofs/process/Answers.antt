@@ -2,6 +2,7 @@ use Prim.Native.Nat.{◌+◌, ◌<◌}
 use mathlib.Core.Path.{◌∙◌}
 use native.Mathlib.Nat.{lt_of_lt_of_le}
 use native.Mathlib.Omega.{arith}
+use borrow.Enum.Refused.{opened}
 use borrow.Author.Rules.{rules}
 use lib.ListN.{length}
 use Rattle.colours.specs.Palette.{of_table}
@@ -81,7 +82,7 @@ shape_of-canvas-in_default c =
 
 pub returns-in_default : goal.returns-in_default
 returns-in_default c =
-    let stops = step-stops (advanced (goal.at.returns-in_default c).After-resume-now) c.read_byte-read.ensures (more (goal.at.returns-in_default c).Else-consumed-bytes) c.in_default.in_default-own.keys2 c.reached-in_default.ensures in
+    let stops = step-stops (advanced (goal.at.returns-in_default c).After-resume-now) c.read_byte-read.ensures (more (goal.at.returns-in_default c).Else-consumed-bytes) (opened c.in_default.in_default-own.keys2) c.reached-in_default.ensures in
     search (rules, read-anew, stops, c.renewed-now.ensures)
 
 pub shape_of-canvas : goal.shape_of-canvas
