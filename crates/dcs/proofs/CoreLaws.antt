@@ -10,16 +10,16 @@ use Rattle.frame.specs.declared.Limits.{Limits}
 use Rattle.payload.specs.declared.Finished.{Finished}
 use Rattle.payload.specs.declared.Finishing.{Finishing}
 use Rattle.payload.specs.declared.Life.{Life}
-use Rattle.payload.specs.declared.core.Setup.{Setup}
+use Rattle.payload.specs.declared.kernel.Setup.{Setup}
 use Rattle.payload.specs.Core as payload
 use Rattle.payload.proofs.CoreLaws as payload_laws
 use Rattle.dcs.specs.declared.Fed as session
 use Rattle.dcs.specs.declared.Opened as whole
 use Rattle.dcs.specs.declared.Phase.{Phase}
 use Rattle.dcs.specs.declared.Session.{Session}
-use Rattle.dcs.specs.declared.core.Core.{Core}
-use Rattle.dcs.specs.declared.core.feeding.Fed.{Fed}
-use Rattle.dcs.specs.declared.core.opening.Opened.{Opened}
+use Rattle.dcs.specs.declared.kernel.Core.{Core}
+use Rattle.dcs.specs.declared.kernel.feeding.Fed.{Fed}
+use Rattle.dcs.specs.declared.kernel.opening.Opened.{Opened}
 use Rattle.dcs.specs.Core.{core_of, over, opened_over, fed_over}
 use Rattle.dcs.specs.Session.{session_of, opened_on, opened_by, fed_by, finished_by}
 use Rattle.dcs.proofs.SessionLaws.{owned_by}

@@ -9,7 +9,7 @@ use Rattle.numbers.proofs.Laws.{cond_yes, cond_no}
 use Rattle.numbers.proofs.MemoryLaws.{from-numbers}
 use Rattle.frame.specs.declared.Frame.{Frame}
 use Rattle.payload.specs.declared.Life.{Life}
-use Rattle.payload.specs.declared.core.Setup.{Setup}
+use Rattle.payload.specs.declared.kernel.Setup.{Setup}
 use Rattle.payload.specs.Codes.{life_from}
 use Rattle.payload.specs.Memory as payload
 use Rattle.payload.proofs.MemoryLaws.{session-back}
@@ -18,7 +18,7 @@ use Rattle.dcs.specs.declared.Ending.TheVariants as endings
 use Rattle.dcs.specs.declared.Phase.{Phase}
 use Rattle.dcs.specs.declared.Phase.TheVariants as phases
 use Rattle.dcs.specs.declared.Session.{Session}
-use Rattle.dcs.specs.declared.core.Core.{Core}
+use Rattle.dcs.specs.declared.kernel.Core.{Core}
 use Rattle.header.specs.declared.Place.{Place}
 use Rattle.header.specs.declared.Place.TheVariants as places
 use Rattle.dcs.specs.Memory.{place_number, ending_number, phase_number, phase_from, nine_written, numbers_of, table_of, core_from, session_from, EndingRanged, PhaseRanged, Ranged}

@@ -8,9 +8,9 @@ use Rattle.payload.specs.Core as payload
 use Rattle.dcs.specs.declared.Fed as session
 use Rattle.dcs.specs.declared.Opened as whole
 use Rattle.dcs.specs.declared.Session.{Session}
-use Rattle.dcs.specs.declared.core.Core.{Core}
-use Rattle.dcs.specs.declared.core.feeding.Fed.{Fed}
-use Rattle.dcs.specs.declared.core.opening.Opened.{Opened}
+use Rattle.dcs.specs.declared.kernel.Core.{Core}
+use Rattle.dcs.specs.declared.kernel.feeding.Fed.{Fed}
+use Rattle.dcs.specs.declared.kernel.opening.Opened.{Opened}
 use Rattle.dcs.specs.Session.{session_of}
 
 abbrev pub core_of : Session → Core

@@ -10,7 +10,7 @@ use Rattle.dcs.specs.declared.Ending.TheVariants as endings
 use Rattle.dcs.specs.declared.Phase.{Phase}
 use Rattle.dcs.specs.declared.Phase.TheVariants as phases
 use Rattle.dcs.specs.declared.Session.{Session}
-use Rattle.dcs.specs.declared.core.Core.{Core}
+use Rattle.dcs.specs.declared.kernel.Core.{Core}
 use Rattle.header.specs.declared.Place.{Place}
 use Rattle.header.specs.declared.Place.TheVariants as places
 

@@ -2,18 +2,18 @@
 // SixelDcsStreamDecoder, by value.
 #![tactic(auto)]
 
-pub mod core;
+pub mod kernel;
 pub mod memory;
 
 ghost use Rattle.core.specs.Prelude.{◌≡◌};
 ghost use Rattle.dcs.specs.Session.{opened_by, fed_by, finished_by};
 
-use crate::core::{core_of, palette_of, with_palette};
+use crate::kernel::{core_of, palette_of, with_palette};
 use colours::Palette;
 use frame::{Limits, Refusal};
 use header::Place;
 use numbers::Parameters;
-use payload::core::{frame_of, life_of, setup_of};
+use payload::kernel::{frame_of, life_of, setup_of};
 use payload::{Finished, hand_back};
 
 // How a sequence came to its end, with the byte that cancelled or interrupted it.
@@ -80,7 +80,7 @@ pub fn open(limits: Limits, stride: usize, palette: Palette, length: usize) -> O
 {
     let own = palette.lasting();
     let colors = own.table();
-    let opened = core::opening::open(limits, stride, &colors, length);
+    let opened = kernel::opening::open(limits, stride, &colors, length);
     let answer = opened.answer;
     Opened {
         answer,
@@ -94,7 +94,7 @@ pub fn feed(session: Session, canvas: &mut [u8], bytes: &[u8], allowance: usize)
 {
     let palette = palette_of(session);
     let mut colors = palette.table();
-    let fed = core::feeding::feed(core_of(session), &mut colors, canvas, bytes, allowance);
+    let fed = kernel::feeding::feed(core_of(session), &mut colors, canvas, bytes, allowance);
     let answer = fed.answer;
     Fed {
         answer,
@@ -110,7 +110,7 @@ pub fn finish(session: Session, owner: Palette, canvas: &mut [u8]) -> Finished
     let mut colors = palette.table();
     let phase = session.phase;
     let life = life_of(session.payload);
-    let answer = core::finishing::finish(
+    let answer = kernel::finishing::finish(
         setup_of(session.payload),
         life,
         frame_of(session.payload),

@@ -5,7 +5,7 @@ ghost use Rattle.colours.specs.declared.Palette.{Palette};
 ghost use Rattle.dcs.specs.Core.{over};
 ghost use Rattle.dcs.specs.Memory.{place_number, ending_number, phase_number, phase_from, numbers_of, core_from};
 
-use crate::core::Core;
+use crate::kernel::Core;
 use crate::{Ending, Phase};
 use header::Place;
 use numbers::memory::{numbers_of as header_numbers, parameters_from};

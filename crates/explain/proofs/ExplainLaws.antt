@@ -26,8 +26,8 @@ use Rattle.payload.specs.declared.Life.TheVariants as lives
 use Rattle.payload.specs.declared.Opened as whole
 use Rattle.payload.specs.declared.Session as payload_session
 use Rattle.payload.specs.declared.Settings.{Settings}
-use Rattle.payload.specs.declared.core.Setup.{Setup}
-use Rattle.payload.specs.declared.core.opening.Opened.{Opened}
+use Rattle.payload.specs.declared.kernel.Setup.{Setup}
+use Rattle.payload.specs.declared.kernel.opening.Opened.{Opened}
 use Rattle.payload.specs.declared.refusals.Verdict.{Verdict}
 use Rattle.payload.specs.declared.refusals.Verdict.TheVariants as verdicts
 use Rattle.payload.specs.Core.{over, opened_over, begun_over}

@@ -12,12 +12,12 @@ ghost use Rattle.explain.specs.Explained.{fed_explained, lead_explained, dcs_fee
 use crate::payload_session::{explain_fed, explain_passed};
 use crate::{Explained, explain_pending, placeless, told_at};
 use dcs::Phase;
-use dcs::core::Core;
+use dcs::kernel::Core;
 use frame::Refusal;
 use header::{Led, Place, read_lead, settings_from};
 use numbers::Parameters;
-use payload::core::Setup;
-use payload::core::opening::blank_frame;
+use payload::kernel::Setup;
+use payload::kernel::opening::blank_frame;
 use payload::deferred::start;
 use payload::refusals::{Verdict, feed_refusal, finish_refusal};
 use payload::{Life, Settings};

@@ -7,7 +7,7 @@ ghost use Rattle.explain.specs.Explained.{fed_explained_in, fed_explained, paylo
 use crate::{Explained, explain_part, explain_pending, placeless};
 use frame::Frame;
 use payload::Life;
-use payload::core::Setup;
+use payload::kernel::Setup;
 use payload::refusals::{Verdict, feed_refusal, finish_refusal};
 
 // A feed that 9, 12 and 13 do not refuse, of the bytes from a place on.

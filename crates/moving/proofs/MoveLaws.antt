@@ -12,7 +12,7 @@ use Rattle.frame.specs.declared.Refusal.TheVariants as refusals
 use Rattle.frame.specs.declared.VisibleArea.{VisibleArea}
 use Rattle.payload.specs.declared.Life.{Life}
 use Rattle.payload.specs.declared.Session.{Session}
-use Rattle.payload.specs.declared.core.Setup.{Setup}
+use Rattle.payload.specs.declared.kernel.Setup.{Setup}
 use Rattle.payload.specs.declared.refusals.Verdict.{Verdict}
 use Rattle.payload.specs.declared.refusals.Verdict.TheVariants.{Fine, Refused}
 use Rattle.payload.specs.Core.{setup_of, over}
@@ -22,7 +22,7 @@ use Rattle.dcs.specs.declared.Ending.{Ending}
 use Rattle.dcs.specs.declared.Phase.{Phase}
 use Rattle.dcs.specs.declared.Phase.TheVariants as phases
 use Rattle.dcs.specs.declared.Session as dcs_session
-use Rattle.dcs.specs.declared.core.Core.{Core}
+use Rattle.dcs.specs.declared.kernel.Core.{Core}
 use Rattle.dcs.specs.Core as dcs_core
 use Rattle.moving.specs.declared.Moving.{Moving}
 use Rattle.moving.specs.declared.Moving.TheVariants as moves

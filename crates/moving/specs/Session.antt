@@ -4,7 +4,7 @@ use Rattle.canvas.specs.Picture.{rows_of}
 use Rattle.frame.specs.declared.Refusal.TheVariants as refusals
 use Rattle.frame.specs.declared.VisibleArea.{VisibleArea}
 use Rattle.payload.specs.declared.Session.{Session}
-use Rattle.payload.specs.declared.core.Setup.{Setup}
+use Rattle.payload.specs.declared.kernel.Setup.{Setup}
 use Rattle.payload.specs.declared.refusals.Verdict.{Verdict}
 use Rattle.payload.specs.declared.refusals.Verdict.TheVariants.{Fine, Refused}
 use Rattle.payload.specs.Refusals.{openable, is_failed}
@@ -27,8 +27,9 @@ move_judged s stride length =
 -- the session for that canvas: stride, rows and length alone are others
 unfoldable pub moved_to : Session → ℕ → ℕ → Session
 moved_to s stride length =
+    let ground : Ground = record { limits = s.ground.limits; stride = stride; rows = rows_of length stride; background = s.ground.background } in
     record {
-      ground = record { limits = s.ground.limits; stride = stride; rows = rows_of length stride; background = s.ground.background };
+      ground = ground;
       length = length;
       settings = s.settings;
       life = s.life;

@@ -5,7 +5,7 @@ ghost use Rattle.dcs.specs.Core.{over};
 ghost use Rattle.moving.specs.DcsSession.{shown_size, move_answer, moved_by};
 
 use crate::{Moving, answer_for, moved_setup};
-use dcs::core::{Core, core_of, palette_of, with_palette};
+use dcs::kernel::{Core, core_of, palette_of, with_palette};
 use dcs::{Phase, Session};
 use frame::VisibleArea;
 

@@ -14,7 +14,7 @@ ghost use Rattle.moving.specs.Session.{area_room, move_judged, setup_moved, answ
 
 use frame::{Frame, Ground, Refusal, VisibleArea};
 use payload::Life;
-use payload::core::Setup;
+use payload::kernel::Setup;
 use payload::refusals::{Verdict, may_open};
 
 // What a move answers: the size of the picture that has to be carried over, 0 by 0 where there is none yet; or its refusal.

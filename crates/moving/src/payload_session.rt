@@ -6,7 +6,7 @@ ghost use Rattle.moving.specs.Session.{move_answer, moved_by};
 
 use crate::{Moving, answer_for, moved_setup};
 use frame::Frame;
-use payload::core::{Setup, frame_of, life_of, palette_of, session_of, setup_of};
+use payload::kernel::{Setup, frame_of, life_of, palette_of, session_of, setup_of};
 use payload::{Life, Session};
 
 // A move's answer, and the session: the one for the other canvas, or the one that there was where the move is refused.

@@ -17,7 +17,7 @@ use Rattle.payload.specs.declared.Finished.{Finished}
 use Rattle.payload.specs.declared.Finishing.{Finishing}
 use Rattle.payload.specs.declared.Finishing.TheVariants as finishes
 use Rattle.payload.specs.declared.Life.{Life}
-use Rattle.payload.specs.declared.core.Setup.{Setup}
+use Rattle.payload.specs.declared.kernel.Setup.{Setup}
 use Rattle.payload.specs.declared.refusals.Verdict.{Verdict}
 use Rattle.payload.specs.declared.refusals.Verdict.TheVariants as verdicts
 use Rattle.payload.specs.Core.{over, finished_over, Passed}

@@ -16,10 +16,10 @@ ghost use Rattle.oneshot.specs.OneShot.{piece_end, read_whole, read_part, read_m
 use colours::Palette;
 use colours::marks::begin;
 use frame::{Frame, Limits, Refusal};
-use payload::core::Setup;
-use payload::core::feeding::{Fed, feed_passed};
-use payload::core::finishing::finish;
-use payload::core::opening::open;
+use payload::kernel::Setup;
+use payload::kernel::feeding::{Fed, feed_passed};
+use payload::kernel::finishing::finish;
+use payload::kernel::opening::open;
 use payload::refusals::may_open;
 use payload::{Answer, Finished, Finishing, Life, Settings};
 use reading::renew::renewed;

@@ -9,13 +9,13 @@ use Rattle.frame.specs.declared.Refusal.{Refusal}
 use Rattle.frame.specs.Numbers.{number_of}
 use Rattle.payload.specs.declared.Life.{Life}
 use Rattle.payload.specs.declared.Session as payload_session
-use Rattle.payload.specs.declared.core.Setup.{Setup}
+use Rattle.payload.specs.declared.kernel.Setup.{Setup}
 use Rattle.payload.specs.Codes.{life_from}
 use Rattle.payload.specs.Core as payload_parts
 use Rattle.payload.specs.Memory as payload_memory
 use Rattle.payload.specs.Refusals.{is_failed, feed_judged}
 use Rattle.dcs.specs.declared.Session as dcs_session
-use Rattle.dcs.specs.declared.core.Core.{Core}
+use Rattle.dcs.specs.declared.kernel.Core.{Core}
 use Rattle.dcs.specs.Core as dcs_parts
 use Rattle.dcs.specs.Memory as dcs_memory
 use Rattle.words.specs.declared.Telling.{Telling}

@@ -7,11 +7,11 @@ use Rattle.colours.specs.Palette.{of_table}
 use Rattle.frame.specs.declared.Frame.{Frame}
 use Rattle.frame.specs.declared.Refusal.{Refusal}
 use Rattle.payload.specs.declared.Life.{Life}
-use Rattle.payload.specs.declared.core.Setup.{Setup}
+use Rattle.payload.specs.declared.kernel.Setup.{Setup}
 use Rattle.payload.specs.Codes.{life_from}
 use Rattle.payload.specs.Core as payload_parts
 use Rattle.payload.specs.Memory as payload_memory
-use Rattle.dcs.specs.declared.core.Core.{Core}
+use Rattle.dcs.specs.declared.kernel.Core.{Core}
 use Rattle.dcs.specs.Core as dcs_parts
 use Rattle.dcs.specs.Memory as dcs_memory
 use Rattle.moving.specs.declared.Moving.{Moving}

@@ -17,9 +17,9 @@ use Rattle.payload.specs.declared.Given.{Given}
 use Rattle.payload.specs.declared.Life.{Life}
 use Rattle.payload.specs.declared.Session as payload_session
 use Rattle.payload.specs.declared.Settings.{Settings}
-use Rattle.payload.specs.declared.core.Setup.{Setup}
-use Rattle.payload.specs.declared.core.feeding.Fed as payload_feeding
-use Rattle.payload.specs.declared.core.opening.Opened as payload_opening
+use Rattle.payload.specs.declared.kernel.Setup.{Setup}
+use Rattle.payload.specs.declared.kernel.feeding.Fed as payload_feeding
+use Rattle.payload.specs.declared.kernel.opening.Opened as payload_opening
 use Rattle.payload.specs.Codes.{given_from, life_from}
 use Rattle.payload.specs.Core as payload_parts
 use Rattle.payload.proofs.CoreLaws.{owned}
@@ -31,9 +31,9 @@ use Rattle.dcs.specs.declared.Answer.TheVariants as dcs_answers
 use Rattle.dcs.specs.declared.Ending.{Ending}
 use Rattle.dcs.specs.declared.Phase.{Phase}
 use Rattle.dcs.specs.declared.Session as dcs_session
-use Rattle.dcs.specs.declared.core.Core.{Core}
-use Rattle.dcs.specs.declared.core.feeding.Fed as dcs_feeding
-use Rattle.dcs.specs.declared.core.opening.Opened as dcs_opening
+use Rattle.dcs.specs.declared.kernel.Core.{Core}
+use Rattle.dcs.specs.declared.kernel.feeding.Fed as dcs_feeding
+use Rattle.dcs.specs.declared.kernel.opening.Opened as dcs_opening
 use Rattle.dcs.specs.Core as dcs_parts
 use Rattle.dcs.specs.Memory as dcs_memory
 use Rattle.dcs.specs.Session as dcs

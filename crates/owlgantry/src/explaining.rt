@@ -6,7 +6,7 @@ ghost use Rattle.core.specs.Prelude.{◌≡◌};
 ghost use Rattle.dcs.specs.Memory.{core_from};
 ghost use Rattle.owlgantry.specs.Explaining.{told_numbers, payload_feed_told, payload_finish_told, dcs_feed_told, dcs_finish_told, read_told, words_put};
 
-use dcs::core::Core;
+use dcs::kernel::Core;
 use dcs::memory::phase_from;
 use explain::Explained;
 use frame::Limits;

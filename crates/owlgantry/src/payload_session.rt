@@ -8,9 +8,9 @@ use crate::report::{hand_over, refusal_number};
 use colours::marks::begin;
 use frame::Limits;
 use payload::codes::{given_from, life_from};
-use payload::core::feeding::feed;
-use payload::core::finishing::finish;
-use payload::core::opening::open;
+use payload::kernel::feeding::feed;
+use payload::kernel::finishing::finish;
+use payload::kernel::opening::open;
 use payload::memory::{frame_from, numbers_of, setup_from};
 use payload::{Settings, places};
 

@@ -20,9 +20,9 @@ use Rattle.payload.specs.declared.Life.{Life}
 use Rattle.payload.specs.declared.Opened as whole
 use Rattle.payload.specs.declared.Session.{Session}
 use Rattle.payload.specs.declared.Settings.{Settings}
-use Rattle.payload.specs.declared.core.Setup.{Setup}
-use Rattle.payload.specs.declared.core.feeding.Fed.{Fed}
-use Rattle.payload.specs.declared.core.opening.Opened.{Opened}
+use Rattle.payload.specs.declared.kernel.Setup.{Setup}
+use Rattle.payload.specs.declared.kernel.feeding.Fed.{Fed}
+use Rattle.payload.specs.declared.kernel.opening.Opened.{Opened}
 use Rattle.payload.specs.declared.refusals.Verdict.{Verdict}
 use Rattle.payload.specs.declared.refusals.Verdict.TheVariants as verdicts
 use Rattle.payload.specs.Core.{setup_of, over, opened_over, fed_over, finished_over, handed_back}

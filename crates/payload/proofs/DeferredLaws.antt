@@ -12,7 +12,7 @@ use Rattle.payload.specs.declared.Life.TheVariants as lives
 use Rattle.payload.specs.declared.Opened.{Opened}
 use Rattle.payload.specs.declared.Opening.TheVariants as openings
 use Rattle.payload.specs.declared.Settings.{Settings}
-use Rattle.payload.specs.declared.core.Setup.{Setup}
+use Rattle.payload.specs.declared.kernel.Setup.{Setup}
 use Rattle.payload.specs.Core.{over, begun_over}
 use Rattle.payload.specs.Refusals.{openable}
 use Rattle.payload.specs.Session.{clear_for, background_for, blank_frame, ground_for, session_for, opening_for, first_life, opened_if, first_painted}

@@ -17,7 +17,7 @@ use Rattle.payload.specs.declared.Life.{Life}
 use Rattle.payload.specs.declared.Session.{Session}
 use Rattle.payload.specs.declared.refusals.Verdict.{Verdict}
 use Rattle.payload.specs.declared.refusals.Verdict.TheVariants.{Fine, Refused}
-use Rattle.payload.specs.declared.core.Setup.{Setup}
+use Rattle.payload.specs.declared.kernel.Setup.{Setup}
 use Rattle.payload.specs.Core.{over, Passed}
 use Rattle.payload.specs.Refusals.{in_range, is_failed, fitting, misfitting, feed_judged, finish_judged}
 

@@ -13,15 +13,15 @@ use Rattle.payload.specs.declared.Life.{Life}
 use Rattle.payload.specs.declared.Opened as whole
 use Rattle.payload.specs.declared.Session.{Session}
 use Rattle.payload.specs.declared.Settings.{Settings}
-use Rattle.payload.specs.declared.core.Setup.{Setup}
-use Rattle.payload.specs.declared.core.feeding.Fed.{Fed}
-use Rattle.payload.specs.declared.core.opening.Opened.{Opened}
+use Rattle.payload.specs.declared.kernel.Setup.{Setup}
+use Rattle.payload.specs.declared.kernel.feeding.Fed.{Fed}
+use Rattle.payload.specs.declared.kernel.opening.Opened.{Opened}
 use Rattle.payload.specs.declared.refusals.Verdict.TheVariants as verdicts
 use Rattle.payload.specs.Refusals.{feed_judged}
 use Rattle.payload.specs.Session.{background_for, blank_frame, ground_for}
 
 abbrev pub setup_of : Session → Setup
-setup_of s = record { ground = s.ground; length = s.length; settings = s.settings }
+setup_of s = let ground : Ground = s.ground in record { ground = ground; length = s.length; settings = s.settings }
 
 -- the session of these parts
 abbrev pub over : Setup → Life → Frame → Palette → Session

@@ -33,8 +33,9 @@ with_background g background = record { limits = g.limits; stride = g.stride; ro
 unfoldable pub begun_session : Session → Settings → Session
 unfolding with_background
 begun_session s o =
+    let ground : Ground = with_background s.ground (background_for s.palette o.p2) in
     record {
-      ground = with_background s.ground (background_for s.palette o.p2);
+      ground = ground;
       length = s.length;
       settings = o;
       life = s.life;

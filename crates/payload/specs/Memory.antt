@@ -12,7 +12,7 @@ use Rattle.frame.specs.declared.Raster.{Raster}
 use Rattle.frame.specs.declared.VisibleArea.{VisibleArea}
 use Rattle.payload.specs.declared.Session.{Session}
 use Rattle.payload.specs.declared.Settings.{Settings}
-use Rattle.payload.specs.declared.core.Setup.{Setup}
+use Rattle.payload.specs.declared.kernel.Setup.{Setup}
 use Rattle.payload.specs.Codes.{given_number, given_from, life_number, life_from, kind_number, kind_from, color_number, color_from}
 
 -- ---- a session as numbers
@@ -136,7 +136,7 @@ frame_from ns =
 
 unfoldable pub setup_from : List ℕ → Setup
 unfolding ground_from settings_from
-setup_from ns = record { ground = ground_from ns; length = slice_index ns 7; settings = settings_from ns }
+setup_from ns = let ground : Ground = ground_from ns in record { ground = ground; length = slice_index ns 7; settings = settings_from ns }
 
 unfoldable pub session_from : List ℕ → List ℕ → Session
 unfolding ground_from settings_from life_from frame_from

@@ -110,7 +110,8 @@ opened_by l stride o owner canvas = opened_on l stride o (lasting owner) canvas
 
 unfoldable pub session_with : Session → Life → Frame → Palette → Session
 session_with s life f p =
-    record { ground = s.ground; length = s.length; settings = s.settings; life = life; frame = f; palette = p }
+    let ground : Ground = s.ground in
+    record { ground = ground; length = s.length; settings = s.settings; life = life; frame = f; palette = p }
 
 -- what reading came to, as an answer
 unfoldable pub answer_of : Outcome → ℕ → ℕ → Answer

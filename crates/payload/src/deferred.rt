@@ -7,8 +7,8 @@ ghost use Rattle.payload.specs.declared.Life.{Life};
 ghost use Rattle.payload.specs.Core.{over, opened_over, begun_over};
 ghost use Rattle.payload.specs.Deferred.{reserved_by, begun_by};
 
-use crate::core::Setup;
-use crate::core::opening::{Opened, background_for, open_if, paint_if};
+use crate::kernel::Setup;
+use crate::kernel::opening::{Opened, background_for, open_if, paint_if};
 use crate::refusals::may_open;
 use crate::{Settings, no_settings};
 use frame::{Ground, Limits};

@@ -4,7 +4,7 @@
 #![tactic(auto)]
 
 pub mod codes;
-pub mod core;
+pub mod kernel;
 pub mod deferred;
 pub mod memory;
 pub mod places;
@@ -17,7 +17,7 @@ ghost use Rattle.payload.specs.Meant.{limits_coded};
 ghost use Rattle.payload.specs.Core.{handed_back};
 ghost use Rattle.payload.specs.Session.{opened_by, fed_by, finished_by};
 
-use crate::core::{frame_of, life_of, palette_of, session_of, setup_of};
+use crate::kernel::{frame_of, life_of, palette_of, session_of, setup_of};
 use colours::Palette;
 use frame::{Frame, Ground, Limits, Refusal};
 
@@ -173,7 +173,7 @@ pub fn open(
 {
     let own = palette.lasting();
     let colors = own.table();
-    let opened = core::opening::open(limits, stride, settings, &colors, canvas);
+    let opened = kernel::opening::open(limits, stride, settings, &colors, canvas);
     let answer = opened.answer;
     let life = opened.life;
     Opened {
@@ -190,7 +190,7 @@ pub fn feed(session: Session, canvas: &mut [u8], bytes: &[u8], allowance: usize)
     let mut colors = palette.table();
     let setup = setup_of(session);
     let life = life_of(session);
-    let fed = core::feeding::feed(
+    let fed = kernel::feeding::feed(
         setup,
         life,
         frame_of(session),
@@ -230,7 +230,7 @@ pub fn finish(session: Session, owner: Palette, canvas: &mut [u8]) -> Finished
     let palette = palette_of(session);
     let mut colors = palette.table();
     let life = life_of(session);
-    let answer = core::finishing::finish(
+    let answer = kernel::finishing::finish(
         setup_of(session),
         life,
         frame_of(session),

@@ -8,7 +8,7 @@ ghost use Rattle.payload.specs.Memory.{ground_from, settings_from, pen_from, are
 use crate::codes::{
     color_from, color_number, given_from, given_number, kind_from, kind_number, life_number,
 };
-use crate::core::Setup;
+use crate::kernel::Setup;
 use crate::{Life, Settings, places};
 use frame::{Command, Extent, Frame, Ground, Limits, Pen, Raster, VisibleArea};
 use numbers::memory::{numbers_of as parameters_numbers, parameters_from};

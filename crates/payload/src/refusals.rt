@@ -5,7 +5,7 @@ ghost use Rattle.payload.specs.Core.{over};
 ghost use Rattle.payload.specs.Refusals.{in_range, limits_fit, openable, is_failed, misfitting, feed_judged, finish_judged};
 
 use crate::Life;
-use crate::core::Setup;
+use crate::kernel::Setup;
 use frame::{Frame, Limits, Refusal};
 
 #[derive(Clone, Copy)]

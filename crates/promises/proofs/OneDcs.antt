@@ -9,20 +9,20 @@ use Rattle.payload.specs.declared.Finishing.{Finishing}
 use Rattle.dcs.specs.Core.{core_of}
 use Rattle.dcs.specs.declared.Fed as whole
 use Rattle.dcs.specs.declared.Opened as begun
-use Rattle.dcs.specs.declared.core.feeding.Fed.{Fed}
-use Rattle.dcs.specs.declared.core.opening.Opened.{Opened}
-use Rattle.dcs.proofs.core.core_of.Reads as core-of
-use Rattle.dcs.proofs.core.core_of.Kinds as core-of'
-use Rattle.dcs.proofs.core.palette_of.Reads as palette-of
-use Rattle.dcs.proofs.core.palette_of.Kinds as palette-of'
-use Rattle.dcs.proofs.core.with_palette.Reads as with-palette
-use Rattle.dcs.proofs.core.with_palette.Kinds as with-palette'
-use Rattle.dcs.proofs.core.opening.open.Reads as core-open
-use Rattle.dcs.proofs.core.opening.open.Kinds as core-open'
-use Rattle.dcs.proofs.core.feeding.feed.Reads as core-feed
-use Rattle.dcs.proofs.core.feeding.feed.Kinds as core-feed'
-use Rattle.dcs.proofs.core.finishing.finish.Reads as core-finish
-use Rattle.dcs.proofs.core.finishing.finish.Kinds as core-finish'
+use Rattle.dcs.specs.declared.kernel.feeding.Fed.{Fed}
+use Rattle.dcs.specs.declared.kernel.opening.Opened.{Opened}
+use Rattle.dcs.proofs.kernel.core_of.Reads as core-of
+use Rattle.dcs.proofs.kernel.core_of.Kinds as core-of'
+use Rattle.dcs.proofs.kernel.palette_of.Reads as palette-of
+use Rattle.dcs.proofs.kernel.palette_of.Kinds as palette-of'
+use Rattle.dcs.proofs.kernel.with_palette.Reads as with-palette
+use Rattle.dcs.proofs.kernel.with_palette.Kinds as with-palette'
+use Rattle.dcs.proofs.kernel.opening.open.Reads as core-open
+use Rattle.dcs.proofs.kernel.opening.open.Kinds as core-open'
+use Rattle.dcs.proofs.kernel.feeding.feed.Reads as core-feed
+use Rattle.dcs.proofs.kernel.feeding.feed.Kinds as core-feed'
+use Rattle.dcs.proofs.kernel.finishing.finish.Reads as core-finish
+use Rattle.dcs.proofs.kernel.finishing.finish.Kinds as core-finish'
 use Rattle.dcs.proofs.open.Reads as opening
 use Rattle.dcs.proofs.open.Kinds as opening'
 use Rattle.dcs.proofs.feed.Reads as feed

@@ -11,26 +11,26 @@ use Rattle.payload.specs.declared.Finishing.{Finishing}
 use Rattle.payload.specs.declared.Life.TheVariants as lives
 use Rattle.payload.specs.declared.Opened as begun
 use Rattle.payload.specs.declared.Session.{Session}
-use Rattle.payload.specs.declared.core.feeding.Fed.{Fed}
-use Rattle.payload.specs.declared.core.opening.Opened.{Opened}
-use Rattle.payload.proofs.core.setup_of.Reads as setup-of
-use Rattle.payload.proofs.core.setup_of.Kinds as setup-of'
-use Rattle.payload.proofs.core.life_of.Reads as life-of
-use Rattle.payload.proofs.core.life_of.Kinds as life-of'
-use Rattle.payload.proofs.core.frame_of.Reads as frame-of
-use Rattle.payload.proofs.core.frame_of.Kinds as frame-of'
-use Rattle.payload.proofs.core.palette_of.Reads as palette-of
-use Rattle.payload.proofs.core.palette_of.Kinds as palette-of'
-use Rattle.payload.proofs.core.session_of.Reads as session-of
-use Rattle.payload.proofs.core.session_of.Kinds as session-of'
-use Rattle.payload.proofs.core.opening.blank_frame.Reads as blank-frame
-use Rattle.payload.proofs.core.opening.blank_frame.Kinds as blank-frame'
-use Rattle.payload.proofs.core.opening.open.Reads as core-open
-use Rattle.payload.proofs.core.opening.open.Kinds as core-open'
-use Rattle.payload.proofs.core.feeding.feed.Reads as core-feed
-use Rattle.payload.proofs.core.feeding.feed.Kinds as core-feed'
-use Rattle.payload.proofs.core.finishing.finish.Reads as core-finish
-use Rattle.payload.proofs.core.finishing.finish.Kinds as core-finish'
+use Rattle.payload.specs.declared.kernel.feeding.Fed.{Fed}
+use Rattle.payload.specs.declared.kernel.opening.Opened.{Opened}
+use Rattle.payload.proofs.kernel.setup_of.Reads as setup-of
+use Rattle.payload.proofs.kernel.setup_of.Kinds as setup-of'
+use Rattle.payload.proofs.kernel.life_of.Reads as life-of
+use Rattle.payload.proofs.kernel.life_of.Kinds as life-of'
+use Rattle.payload.proofs.kernel.frame_of.Reads as frame-of
+use Rattle.payload.proofs.kernel.frame_of.Kinds as frame-of'
+use Rattle.payload.proofs.kernel.palette_of.Reads as palette-of
+use Rattle.payload.proofs.kernel.palette_of.Kinds as palette-of'
+use Rattle.payload.proofs.kernel.session_of.Reads as session-of
+use Rattle.payload.proofs.kernel.session_of.Kinds as session-of'
+use Rattle.payload.proofs.kernel.opening.blank_frame.Reads as blank-frame
+use Rattle.payload.proofs.kernel.opening.blank_frame.Kinds as blank-frame'
+use Rattle.payload.proofs.kernel.opening.open.Reads as core-open
+use Rattle.payload.proofs.kernel.opening.open.Kinds as core-open'
+use Rattle.payload.proofs.kernel.feeding.feed.Reads as core-feed
+use Rattle.payload.proofs.kernel.feeding.feed.Kinds as core-feed'
+use Rattle.payload.proofs.kernel.finishing.finish.Reads as core-finish
+use Rattle.payload.proofs.kernel.finishing.finish.Kinds as core-finish'
 use Rattle.payload.proofs.deferred.reserve.Reads as reserve
 use Rattle.payload.proofs.deferred.reserve.Kinds as reserve'
 use Rattle.payload.proofs.deferred.start.Reads as start

@@ -1,8 +1,8 @@
 // What the program holds from line to line.
 use colours::Palette;
-use dcs::core::{core_of, with_palette};
+use dcs::kernel::{core_of, with_palette};
 use payload::codes::life_from;
-use payload::core::{frame_of, life_of, session_of, setup_of};
+use payload::kernel::{frame_of, life_of, session_of, setup_of};
 use payload::memory::{frame_from, setup_from};
 use payload::places::LIFE;
 
@@ -29,7 +29,7 @@ pub(crate) struct State {
 impl State {
     pub(crate) fn with_payload(self, session: payload::Session) -> State {
         let palette = self.palette;
-        let inner = payload::core::palette_of(session);
+        let inner = payload::kernel::palette_of(session);
         let life = life_of(session);
         State {
             palette,
@@ -43,7 +43,7 @@ impl State {
 
     pub(crate) fn with_dcs(self, session: dcs::Session) -> State {
         let palette = self.palette;
-        let inner = dcs::core::palette_of(session);
+        let inner = dcs::kernel::palette_of(session);
         State {
             palette,
             open: Open::Dcs,

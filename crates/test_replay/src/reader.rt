@@ -4,10 +4,10 @@ use crate::calls::{CANCELLED, COMPLETE, ENDED, INTERRUPTED, MORE, REFUSED, STOPP
 use crate::fields::{DCS, kind_of, limits_of, settings_of};
 use colours::Palette;
 use dcs::Ending;
-use dcs::core::{core_of, with_palette};
+use dcs::kernel::{core_of, with_palette};
 use frame::Refusal;
 use payload::codes::life_from;
-use payload::core::{frame_of, life_of, session_of, setup_of};
+use payload::kernel::{frame_of, life_of, session_of, setup_of};
 use payload::memory::{frame_from, setup_from};
 use payload::places::LIFE;
 use payload::{Finished, Opening};
@@ -21,7 +21,7 @@ pub(crate) struct Reader {
 }
 
 fn plain(session: payload::Session) -> Reader {
-    let palette = payload::core::palette_of(session);
+    let palette = payload::kernel::palette_of(session);
     let life = life_of(session);
     Reader {
         is_framed: false,
@@ -31,7 +31,7 @@ fn plain(session: payload::Session) -> Reader {
 }
 
 fn framed(session: dcs::Session) -> Reader {
-    let palette = dcs::core::palette_of(session);
+    let palette = dcs::kernel::palette_of(session);
     Reader {
         is_framed: true,
         numbers: dcs::memory::numbers_of(core_of(session)),
