@@ -1,5 +1,5 @@
 -- Before the payload: introducer and header lead code and definition to the same place, or to the payload.
-use Rattle.core.specs.Prelude.{◌≡◌, ℕ, ◌+◌, true, List, [], ◌∷◌, length, drop}
+use Rattle.std.specs.Prelude.{◌≡◌, ℕ, ◌+◌, true, List, [], ◌∷◌, length, drop}
 use native.Mathlib.Nat.{add-zero}
 use mathlib.Core.Option.{Option, none}
 use mathlib.Core.Path.{refl, sym, ap, ap₂, subst, ◌∙◌}

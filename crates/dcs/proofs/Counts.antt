@@ -1,5 +1,5 @@
 -- No call of a DCS session consumes more bytes than it has, whatever the session.
-use Rattle.core.specs.Prelude.{ℕ, ◌+◌, ◌≤◌, Bool, true, false, cond, ◌||◌, eqb, List, [], ◌∷◌, length, drop}
+use Rattle.std.specs.Prelude.{ℕ, ◌+◌, ◌≤◌, Bool, true, false, cond, ◌||◌, eqb, List, [], ◌∷◌, length, drop}
 use native.Mathlib.Omega.{arith}
 use lib.ListN.{length-drop}
 use Rattle.payload.specs.declared.Answer as payload_answer

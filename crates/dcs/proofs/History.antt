@@ -1,6 +1,6 @@
 -- Any calls of the code, the canvas given back each time as it was left, are the definition's; and so demands 2 and 3 hold of the
 -- code: each law here takes what the definition's law says of its caller over to the code's, by `CallerStands`.
-use Rattle.core.specs.Prelude.{◌≡◌, ℕ, ◌+◌, ◌-◌, ◌*◌, ◌/◌, ◌≤◌, true, false, ◌↔◌, List, length}
+use Rattle.std.specs.Prelude.{◌≡◌, ℕ, ◌+◌, ◌-◌, ◌*◌, ◌/◌, ◌≤◌, true, false, ◌↔◌, List, length}
 use native.Mathlib.Omega.{arith}
 use mathlib.Core.Option.{Option, none, some}
 use mathlib.Core.Logic.Iff

@@ -1,5 +1,5 @@
 -- Introducer and header byte by byte: the code's step is the definition's.
-use Rattle.core.specs.Prelude.{◌≡◌, ℕ, eqb, List}
+use Rattle.std.specs.Prelude.{◌≡◌, ℕ, eqb, List}
 use mathlib.Core.Path.{refl}
 use Rattle.numbers.specs.declared.Parameters.{Parameters}
 use Rattle.colours.specs.declared.Palette.{Palette}

@@ -1,5 +1,5 @@
 -- When an opening is ready and when it is 11 (rule 1.4), and what its session stands for.
-use Rattle.core.specs.Prelude.{◌≡◌, ℕ, true, false, ◌↔◌, List, length}
+use Rattle.std.specs.Prelude.{◌≡◌, ℕ, true, false, ◌↔◌, List, length}
 use Rattle.numbers.proofs.Reading.{read_none}
 use Rattle.colours.specs.declared.Palette.{Palette}
 use Rattle.frame.specs.declared.Limits.{Limits}

@@ -1,6 +1,6 @@
 -- What a caller relies on to go on: a call that needs more has left nothing unread and a finish there is 8, a stop has consumed a
 -- byte, and an end is the one told.
-use Rattle.core.specs.Prelude.{◌≡◌, ℕ, ◌*◌, ◌<◌, ◌≤◌, true, false, List, [], ◌∷◌, ◌++◌, length}
+use Rattle.std.specs.Prelude.{◌≡◌, ℕ, ◌*◌, ◌<◌, ◌≤◌, true, false, List, [], ◌∷◌, ◌++◌, length}
 use native.Mathlib.Omega.{arith}
 use mathlib.Core.Option.{none, some}
 use mathlib.Core.Path.{refl, sym, ap, ◌∙◌, subst}

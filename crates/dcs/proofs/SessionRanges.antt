@@ -1,6 +1,6 @@
 -- Every session that a call hands back has its fields in their ranges, where the session that it is given has, and where the bytes
 -- are bytes.
-use Rattle.core.specs.Prelude.{ℕ, zero, suc, ◌+◌, ◌<◌, ◌||◌, eqb, leb, List, [], ◌∷◌, length, drop}
+use Rattle.std.specs.Prelude.{ℕ, zero, suc, ◌+◌, ◌<◌, ◌||◌, eqb, leb, List, [], ◌∷◌, length, drop}
 use native.Mathlib.Omega.{arith}
 use Rattle.numbers.specs.declared.Parameters.{Parameters}
 use Rattle.numbers.specs.Bytes.{skipped, digit, ends, semicolon}

@@ -1,6 +1,6 @@
 -- A DCS session of the code and its canvas stand for a session of the definition: from the opening on, after every feed, and at the finish.
 -- Every split of a stream then leaves the same session: `read-append` and the laws of `Demand3` say it of the definition.
-use Rattle.core.specs.Prelude.{◌≡◌, ℕ, ◌*◌, Bool, true, false, ltb, List, [], ◌∷◌, length}
+use Rattle.std.specs.Prelude.{◌≡◌, ℕ, ◌*◌, Bool, true, false, ltb, List, [], ◌∷◌, length}
 use native.Mathlib.Omega.{arith}
 use mathlib.Core.Option.{Option, none, some}
 use mathlib.Core.Path.{refl, sym, ap, subst, ◌∙◌}

@@ -1,6 +1,6 @@
 -- A session in parts: all of it but the palette, which is lent beside them. What a call over the parts comes to is said by the session
 -- that they make.
-use Rattle.core.specs.Prelude.{List}
+use Rattle.std.specs.Prelude.{List}
 use Rattle.numbers.specs.declared.Parameters.{Parameters}
 use Rattle.colours.specs.declared.Palette.{Palette}
 use Rattle.colours.specs.Palette.{of_table}

@@ -1,5 +1,5 @@
 -- The simulation relation: when a DCS session of the code and its canvas stand for a session of the definition, and its callers.
-use Rattle.core.specs.Prelude.{◌≡◌, ℕ, Bool, true, false, List, [], length}
+use Rattle.std.specs.Prelude.{◌≡◌, ℕ, Bool, true, false, List, [], length}
 use Rattle.std.proofs.Math.Option.{none}
 use Rattle.numbers.specs.declared.Parameters.{Parameters}
 use Rattle.numbers.specs.Read.{Read}

@@ -1,6 +1,6 @@
 -- A session as 48 numbers and 256 registers, and back: the 34 numbers of its payload session, its phase, the nine of its header, and four
 -- zeros. All that `session_from` is given makes a session.
-use Rattle.core.specs.Prelude.{ℕ, ◌+◌, ◌%◌, ◌<◌, cond, List, [], ◌∷◌, ◌++◌, set, ◌==◌, nat_lt, slice_index, slice_set}
+use Rattle.std.specs.Prelude.{ℕ, ◌+◌, ◌%◌, ◌<◌, cond, List, [], ◌∷◌, ◌++◌, set, ◌==◌, nat_lt, slice_index, slice_set}
 use Rattle.numbers.specs.Memory as parameters
 use Rattle.payload.specs.Codes.{life_from}
 use Rattle.payload.specs.Memory as payload

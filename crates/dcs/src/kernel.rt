@@ -3,7 +3,7 @@ pub mod feeding;
 pub mod finishing;
 pub mod opening;
 
-ghost use Rattle.core.specs.Prelude.{◌≡◌};
+ghost use Rattle.std.specs.Prelude.{◌≡◌};
 ghost use Rattle.dcs.specs.Core.{core_of, over};
 
 use crate::{Phase, Session};

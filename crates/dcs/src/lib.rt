@@ -5,7 +5,7 @@
 pub mod kernel;
 pub mod memory;
 
-ghost use Rattle.core.specs.Prelude.{◌≡◌};
+ghost use Rattle.std.specs.Prelude.{◌≡◌};
 ghost use Rattle.dcs.specs.Session.{opened_by, fed_by, finished_by};
 
 use crate::kernel::{core_of, palette_of, with_palette};

@@ -1,6 +1,6 @@
 // A session as 48 numbers and 256 registers, for a caller that keeps it in its own memory: the payload session's 34 numbers, the phase,
 // and the nine of the header. Any numbers are a session, and 48 zeros are a failed one.
-ghost use Rattle.core.specs.Prelude.{◌≡◌};
+ghost use Rattle.std.specs.Prelude.{◌≡◌};
 ghost use Rattle.colours.specs.declared.Palette.{Palette};
 ghost use Rattle.dcs.specs.Core.{over};
 ghost use Rattle.dcs.specs.Memory.{place_number, ending_number, phase_number, phase_from, numbers_of, core_from};

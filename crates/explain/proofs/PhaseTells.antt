@@ -1,5 +1,5 @@
 -- Where a call of a DCS sequence is refused first, phase by phase: before the payload, in it, and at and after its end.
-use Rattle.core.specs.Prelude.{◌≡◌, ℕ, suc, ◌+◌, ◌-◌, Bool, true, false, cond, ◌||◌, eqb, List, [], ◌∷◌, drop}
+use Rattle.std.specs.Prelude.{◌≡◌, ℕ, suc, ◌+◌, ◌-◌, Bool, true, false, cond, ◌||◌, eqb, List, [], ◌∷◌, drop}
 use native.Mathlib.Numerals.{add-one}
 use mathlib.Core.Option.{Option, none, some}
 use mathlib.Core.Path.{refl, sym, ap, ap₂, ◌∙◌, subst}

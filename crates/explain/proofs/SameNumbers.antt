@@ -1,5 +1,5 @@
 -- Of any session, whatever it holds: the number that is told of a call is the number that the call answers.
-use Rattle.core.specs.Prelude.{◌≡◌, ℕ, ◌+◌, Bool, true, false, cond, ◌||◌, eqb, leb, List, [], ◌∷◌, length, drop}
+use Rattle.std.specs.Prelude.{◌≡◌, ℕ, ◌+◌, Bool, true, false, cond, ◌||◌, eqb, leb, List, [], ◌∷◌, length, drop}
 use native.Mathlib.Nat.{sub-zero}
 use mathlib.Core.Option.{Option, none, some}
 use mathlib.Core.Path.{refl, sym, ap, ◌∙◌, subst}

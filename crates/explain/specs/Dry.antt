@@ -1,6 +1,6 @@
 -- What the code does with bytes, on its own records and the palette, where there is no canvas. The laws of proofs/DryLaws say that this is what
 -- the reference machine does, whatever the canvas holds.
-use Rattle.core.specs.Prelude.{ℕ, ◌+◌, ◌-◌, ◌*◌, Bool, cond, ◌&&◌, List, [], ◌∷◌, ◌==◌, count_ones, nat_lt}
+use Rattle.std.specs.Prelude.{ℕ, ◌+◌, ◌-◌, ◌*◌, Bool, cond, ◌&&◌, List, [], ◌∷◌, ◌==◌, count_ones, nat_lt}
 use Rattle.numbers.specs.Bytes.{skipped, digit, sixel, ends, semicolon}
 use Rattle.colours.specs.declared.Palette.{Palette}
 use Rattle.frame.specs.declared.Frame.{Frame}

@@ -1,5 +1,5 @@
 -- What the code's tellings mean, in the definition's terms. A refusal is known by its number (`number_of`).
-use Rattle.core.specs.Prelude.{ℕ}
+use Rattle.std.specs.Prelude.{ℕ}
 use Rattle.std.proofs.Math.Option.{Option, none, some}
 use Rattle.frame.specs.Numbers.{number_of}
 use Rattle.meaning.specs.Tellings as tellings

@@ -1,5 +1,5 @@
 -- What a refused byte needed, on the code's own records.
-use Rattle.core.specs.Prelude.{ℕ, ◌+◌, ◌*◌, ◌^◌, min, max, cond, nat_lt}
+use Rattle.std.specs.Prelude.{ℕ, ◌+◌, ◌*◌, ◌^◌, min, max, cond, nat_lt}
 use Rattle.frame.specs.declared.Frame.{Frame}
 use Rattle.frame.specs.declared.Ground.{Ground}
 use Rattle.frame.specs.declared.Kind.{Kind}

@@ -1,5 +1,5 @@
 // What a DCS session's calls are refused with, from the session before the call.
-ghost use Rattle.core.specs.Prelude.{◌≡◌, ◌≤◌, length, drop};
+ghost use Rattle.std.specs.Prelude.{◌≡◌, ◌≤◌, length, drop};
 ghost use Rattle.numbers.specs.declared.Parameters.{Parameters};
 ghost use Rattle.frame.specs.declared.Frame.{Frame};
 ghost use Rattle.colours.specs.Palette.{of_table};

@@ -1,5 +1,5 @@
 // The reference machine without a canvas: where bytes lead a frame and the registers, and which byte is refused. Nothing is painted.
-ghost use Rattle.core.specs.Prelude.{◌≡◌, ◌+◌, ◌<◌, ◌≤◌};
+ghost use Rattle.std.specs.Prelude.{◌≡◌, ◌+◌, ◌<◌, ◌≤◌};
 ghost use Rattle.colours.specs.Palette.{of_table};
 ghost use Rattle.explain.specs.Dry.{inked_dry, drawn_dry, data_dry, argument_dry, step_dry, byte_dry, cost_of, dry_from};
 

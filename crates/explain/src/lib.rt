@@ -9,7 +9,7 @@ pub mod payload_session;
 mod pending;
 pub mod whole;
 
-ghost use Rattle.core.specs.Prelude.{◌≡◌, ◌+◌, ◌≤◌, true, length, drop};
+ghost use Rattle.std.specs.Prelude.{◌≡◌, ◌+◌, ◌≤◌, true, length, drop};
 ghost use Rattle.colours.specs.Palette.{of_table};
 ghost use Rattle.explain.specs.Dry.{dry_from};
 ghost use Rattle.explain.specs.Explained.{placeless_for, told_for, explained_in, part_explained, pending_explained};

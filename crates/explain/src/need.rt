@@ -1,6 +1,6 @@
 // What a refused byte needed (rule 5.10), from the frame that the refusal left: the pending command is the refused one, and where none is
 // pending it is the next sixel.
-ghost use Rattle.core.specs.Prelude.{◌≡◌, ◌+◌, min};
+ghost use Rattle.std.specs.Prelude.{◌≡◌, ◌+◌, min};
 ghost use Rattle.explain.specs.Need.{largest, short_of, pixels_short, size_short, sixel_short, raster_short, repeat_short, need_of};
 
 use frame::rasters::raster_after;

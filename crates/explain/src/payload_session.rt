@@ -1,5 +1,5 @@
 // What a payload session's calls are refused with, from the session before the call.
-ghost use Rattle.core.specs.Prelude.{◌≡◌, ◌≤◌, length, drop};
+ghost use Rattle.std.specs.Prelude.{◌≡◌, ◌≤◌, length, drop};
 ghost use Rattle.colours.specs.Palette.{of_table};
 ghost use Rattle.payload.specs.Core.{over};
 ghost use Rattle.explain.specs.Explained.{fed_explained_in, fed_explained, payload_feed_explained, payload_finish_explained};

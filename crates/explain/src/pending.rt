@@ -1,6 +1,6 @@
 // A pending command carried out, as `end_command` and `measure` of `frame` do it. The loop is their one caller, so that the compiler makes them part of
 // it. Called from here too they would stand outside of it, and a feed of one byte would take a third longer.
-ghost use Rattle.core.specs.Prelude.{◌≡◌};
+ghost use Rattle.std.specs.Prelude.{◌≡◌};
 ghost use Rattle.colours.specs.Palette.{of_table};
 ghost use Rattle.numbers.specs.Step.{finished};
 ghost use Rattle.frame.specs.Commands.{ended, measured_by, raster_by};

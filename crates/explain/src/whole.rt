@@ -1,5 +1,5 @@
 // What reading all at once is refused with. Places are counted from the start of the input.
-ghost use Rattle.core.specs.Prelude.{◌≡◌, ◌≤◌, length, drop};
+ghost use Rattle.std.specs.Prelude.{◌≡◌, ◌≤◌, length, drop};
 ghost use Rattle.colours.specs.Palette.{of_table};
 ghost use Rattle.frame.specs.declared.Frame as Drawn;
 ghost use Rattle.payload.specs.declared.Life.{Life};

@@ -1,5 +1,5 @@
 -- Laws of moves: one for each path through a function that moves a session of the code.
-use Rattle.core.specs.Prelude.{◌≡◌, ℕ, ◌<◌, ◌≤◌, Bool, true, false, not, ◌&&◌, leb}
+use Rattle.std.specs.Prelude.{◌≡◌, ℕ, ◌<◌, ◌≤◌, Bool, true, false, not, ◌&&◌, leb}
 use mathlib.Core.Path.{refl, sym, ap, ap₂, ◌∙◌}
 use borrow.Author.Tests.{lt-leb, le-leb, not-true, not-false}
 use Rattle.numbers.proofs.Laws.{cond_yes, cond_no}

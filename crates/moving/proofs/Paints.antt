@@ -1,6 +1,6 @@
 -- Paints laid on a canvas in turn: what they touch, what they leave, and which canvases they make one.
 -- Assumes nothing.
-use Rattle.core.specs.Prelude.{◌≡◌, ℕ, ◌/◌, ◌%◌, ◌<◌, Bool, false, cond, ◌||◌, List, [], ◌∷◌, ◌++◌, length, get_or}
+use Rattle.std.specs.Prelude.{◌≡◌, ℕ, ◌/◌, ◌%◌, ◌<◌, Bool, false, cond, ◌||◌, List, [], ◌∷◌, ◌++◌, length, get_or}
 use mathlib.Core.Path.{refl, sym, ap, ◌∙◌}
 use lib.Seq.{ext_get_or}
 use Rattle.canvas.specs.Picture.{grid}

@@ -1,6 +1,6 @@
 -- Carrying a picture from one canvas to another (docs/RULES.md, section 14): 12 where either canvas has no such picture; else each pixel of
 -- the picture stands at its column and row on the other canvas, whatever the two strides are, and every other byte there stays.
-use Rattle.core.specs.Prelude.{ℕ, ◌+◌, ◌*◌, ◌/◌, ◌%◌, cond, ◌&&◌, List, length, slice_index}
+use Rattle.std.specs.Prelude.{ℕ, ◌+◌, ◌*◌, ◌/◌, ◌%◌, cond, ◌&&◌, List, length, slice_index}
 use Rattle.canvas.specs.Copy.{has_picture}
 use Rattle.canvas.specs.Picture.{Area, grid, replaced, visible}
 

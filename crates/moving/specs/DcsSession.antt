@@ -1,5 +1,5 @@
 -- What a move makes of a DCS session of the code: its payload session moves, and header and phase stay.
-use Rattle.core.specs.Prelude.{ℕ}
+use Rattle.std.specs.Prelude.{ℕ}
 use Rattle.frame.specs.declared.VisibleArea.{VisibleArea}
 use Rattle.dcs.specs.declared.Phase.{Phase}
 use Rattle.dcs.specs.declared.Phase.TheVariants as phases

@@ -1,5 +1,5 @@
 -- A session moves to another canvas (docs/RULES.md, section 14). Said once for a payload and a DCS session: `S` is what the session reads with.
-use Rattle.core.specs.Prelude.{ℕ, Bool, not, List, [], ◌∷◌}
+use Rattle.std.specs.Prelude.{ℕ, Bool, not, List, [], ◌∷◌}
 use Rattle.std.proofs.Math.Option.{Option, none, some}
 use Rattle.canvas.specs.Picture.{Area, fits}
 use Rattle.meaning.specs.Calls.{first_of, opens, setting_for, Session}

@@ -1,6 +1,7 @@
 -- What a move makes of a session of the code, on its own records: the session for a canvas of another stride and length, or a refusal.
-use Rattle.core.specs.Prelude.{ℕ, Bool, cond, not, ◌&&◌, nat_le}
+use Rattle.std.specs.Prelude.{ℕ, Bool, cond, not, ◌&&◌, nat_le}
 use Rattle.canvas.specs.Picture.{rows_of}
+use Rattle.frame.specs.declared.Ground.{Ground}
 use Rattle.frame.specs.declared.Refusal.TheVariants as refusals
 use Rattle.frame.specs.declared.VisibleArea.{VisibleArea}
 use Rattle.payload.specs.declared.Session.{Session}

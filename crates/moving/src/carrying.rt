@@ -1,5 +1,5 @@
 // A picture's rows from one canvas to another.
-ghost use Rattle.core.specs.Prelude.{◌≡◌, ◌+◌, ◌*◌, ◌≤◌, length, drop};
+ghost use Rattle.std.specs.Prelude.{◌≡◌, ◌+◌, ◌*◌, ◌≤◌, length, drop};
 ghost use Rattle.std.proofs.Math.Seq.{paste};
 ghost use Rattle.canvas.specs.Copy.{number_of};
 ghost use Rattle.canvas.specs.Picture.{area_of, rows_of};

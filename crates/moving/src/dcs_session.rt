@@ -1,5 +1,5 @@
 // A DCS session that moves. Before the `q` of its header there is no picture, and nothing to carry over.
-ghost use Rattle.core.specs.Prelude.{◌≡◌};
+ghost use Rattle.std.specs.Prelude.{◌≡◌};
 ghost use Rattle.colours.specs.declared.Palette.{Palette};
 ghost use Rattle.dcs.specs.Core.{over};
 ghost use Rattle.moving.specs.DcsSession.{shown_size, move_answer, moved_by};

@@ -6,7 +6,7 @@ pub mod carrying;
 pub mod dcs_session;
 pub mod payload_session;
 
-ghost use Rattle.core.specs.Prelude.{◌≡◌};
+ghost use Rattle.std.specs.Prelude.{◌≡◌};
 ghost use Rattle.colours.specs.declared.Palette.{Palette};
 ghost use Rattle.payload.specs.Core.{over};
 ghost use Rattle.payload.specs.Refusals.{is_failed};

@@ -1,5 +1,5 @@
 // A payload session that moves.
-ghost use Rattle.core.specs.Prelude.{◌≡◌};
+ghost use Rattle.std.specs.Prelude.{◌≡◌};
 ghost use Rattle.colours.specs.declared.Palette.{Palette};
 ghost use Rattle.payload.specs.Core.{over};
 ghost use Rattle.moving.specs.Session.{move_answer, moved_by};

@@ -1,5 +1,5 @@
 -- A session in parts, as the loop over a part has it: it passes 9, 12 and 13 at every turn, and it is finished for the owner of the registers.
-use Rattle.core.specs.Prelude.{◌≡◌, ℕ, ◌*◌, ◌≤◌, List, [], ◌∷◌, length}
+use Rattle.std.specs.Prelude.{◌≡◌, ℕ, ◌*◌, ◌≤◌, List, [], ◌∷◌, length}
 use mathlib.Core.Option.{none}
 use mathlib.Core.Path.{refl, ◌∙◌}
 use borrow.Author.Tests.{le-ltb}

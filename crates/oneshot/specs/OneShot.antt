@@ -1,5 +1,5 @@
 -- What the code finds, and the whole outcome of reading all at once, in the definition's terms (docs/RULES.md, section 8).
-use Rattle.core.specs.Prelude.{ℕ, ◌+◌, ◌-◌, cond, List, length, drop, ◌==◌, nat_le}
+use Rattle.std.specs.Prelude.{ℕ, ◌+◌, ◌-◌, cond, List, length, drop, ◌==◌, nat_le}
 use Rattle.std.proofs.Math.Option.{some}
 use Rattle.colours.specs.declared.Palette.{Palette}
 use Rattle.frame.specs.Numbers.{number_of}

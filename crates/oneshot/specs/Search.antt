@@ -1,5 +1,5 @@
 -- Where the search for a payload comes to, on the code's own records.
-use Rattle.core.specs.Prelude.{ℕ, ◌+◌, cond, ◌&&◌, List, [], ◌∷◌, drop, ◌==◌, nat_lt, slice_index}
+use Rattle.std.specs.Prelude.{ℕ, ◌+◌, cond, ◌&&◌, List, [], ◌∷◌, drop, ◌==◌, nat_lt, slice_index}
 use Rattle.numbers.specs.Step.{opened}
 use Rattle.frame.specs.declared.Refusal.TheVariants.{Unfinished}
 use Rattle.payload.specs.Deferred.{no_settings}

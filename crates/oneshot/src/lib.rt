@@ -4,7 +4,7 @@
 
 pub mod search;
 
-ghost use Rattle.core.specs.Prelude.{◌≡◌, ◌*◌, ◌≤◌, true, length};
+ghost use Rattle.std.specs.Prelude.{◌≡◌, ◌*◌, ◌≤◌, true, length};
 ghost use Rattle.colours.specs.Palette.{of_table};
 ghost use Rattle.meaning.specs.Calls.{part_handed_back};
 ghost use Rattle.payload.specs.Core.{over, fed_over, finished_over, Passed};

@@ -1,5 +1,5 @@
 // Where an input's payload begins, and with which parameters: the Rust's AnsiPayload::parse, its settings apart from its part.
-ghost use Rattle.core.specs.Prelude.{◌≡◌, drop};
+ghost use Rattle.std.specs.Prelude.{◌≡◌, drop};
 ghost use Rattle.oneshot.specs.Search.{introducer_at, start_from, header_from, found_in};
 
 use frame::Refusal;

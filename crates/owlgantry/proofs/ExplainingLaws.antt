@@ -1,5 +1,5 @@
 -- What is told of the calls over a session in memory: one law for each path.
-use Rattle.core.specs.Prelude.{◌≡◌, ℕ, List, ◌∷◌, get_or, replicate}
+use Rattle.std.specs.Prelude.{◌≡◌, ℕ, List, ◌∷◌, get_or, replicate}
 use native.Mathlib.Omega.{arith}
 use mathlib.Core.Option.{Option, none, some}
 use mathlib.Core.Path.{refl, sym, ap, ◌∙◌}

@@ -1,5 +1,5 @@
 -- Whatever the caller's memory holds: the number that is told of a call is the number that the call answers.
-use Rattle.core.specs.Prelude.{◌≡◌, ℕ, List, length}
+use Rattle.std.specs.Prelude.{◌≡◌, ℕ, List, length}
 use mathlib.Core.Option.{Option, none, some}
 use mathlib.Core.Path.{refl, sym, ap, ◌∙◌}
 use Rattle.colours.specs.Palette.{of_table}

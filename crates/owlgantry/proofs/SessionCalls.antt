@@ -1,5 +1,5 @@
 -- What the calls over a session in memory come to: one law for each path.
-use Rattle.core.specs.Prelude.{◌≡◌, ℕ, List, [], ◌∷◌, get_or, replicate}
+use Rattle.std.specs.Prelude.{◌≡◌, ℕ, List, [], ◌∷◌, get_or, replicate}
 use mathlib.Core.Path.{refl, sym, ap, ap₂, ◌∙◌}
 use Rattle.colours.specs.declared.Palette.{Palette}
 use Rattle.colours.specs.Marks.{lasting}

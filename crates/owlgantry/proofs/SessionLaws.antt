@@ -1,6 +1,6 @@
 -- A session in memory is the session: what the memory holds after a call is what the call by value hands back, so that
 -- histories over the exports are the histories of `payload` and `dcs`. And 48 zeros are a failed session, which answers 9.
-use Rattle.core.specs.Prelude.{◌≡◌, ℕ, List, replicate}
+use Rattle.std.specs.Prelude.{◌≡◌, ℕ, List, replicate}
 use mathlib.Core.Path.{refl, ap, ap₂, ◌∙◌}
 use Rattle.colours.specs.Palette.{of_table}
 use Rattle.frame.specs.declared.Limits.{Limits}

@@ -1,6 +1,6 @@
 -- What a call over a session in the caller's memory is refused with, as numbers (docs/RULES.md, rules 5.9 to 5.11): the number that the call
 -- answers, and the seven of what is told. Each is what `explain` tells of the session that the memory holds.
-use Rattle.core.specs.Prelude.{ℕ, List, replicate}
+use Rattle.std.specs.Prelude.{ℕ, List, replicate}
 use Rattle.text.specs.Text.{put}
 use Rattle.colours.specs.Palette.{of_table}
 use Rattle.frame.specs.declared.Limits.{Limits}

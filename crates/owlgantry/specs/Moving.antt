@@ -1,6 +1,6 @@
 -- What moving a session in the caller's memory comes to: the number that is answered, the session's numbers, and the report. It is the move by
 -- value of the session that the memory holds, whatever its registers: of the 48 numbers, stride, rows and length alone are others.
-use Rattle.core.specs.Prelude.{ℕ, List, [], ◌∷◌, slice_set}
+use Rattle.std.specs.Prelude.{ℕ, List, [], ◌∷◌, slice_set}
 use Rattle.canvas.specs.Picture.{rows_of}
 use Rattle.frame.specs.Numbers.{number_of}
 use Rattle.payload.specs.Memory as payload_memory

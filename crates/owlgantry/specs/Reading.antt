@@ -1,5 +1,5 @@
 -- What reading all at once answers, as numbers, in the definition's terms (docs/RULES.md, section 8).
-use Rattle.core.specs.Prelude.{ℕ, ◌-◌, cond, List, [], ◌∷◌, length}
+use Rattle.std.specs.Prelude.{ℕ, ◌-◌, cond, List, [], ◌∷◌, length}
 use Rattle.std.proofs.Math.Option.{Option, none, some}
 use Rattle.colours.specs.declared.Palette.{Palette}
 use Rattle.meaning.specs.Calls.{part_handed_back}

@@ -1,6 +1,6 @@
 -- What the calls over a session in the caller's memory come to: the number that is answered, the session's numbers and
 -- registers, the canvas and the report after it. Each is the call by value on the session that the memory holds.
-use Rattle.core.specs.Prelude.{ℕ, List, [], ◌∷◌, take, replicate}
+use Rattle.std.specs.Prelude.{ℕ, List, [], ◌∷◌, take, replicate}
 use Rattle.colours.specs.Palette.{of_table}
 use Rattle.frame.specs.declared.Limits.{Limits}
 use Rattle.frame.specs.Numbers.{number_of}

@@ -1,5 +1,5 @@
 // What the calls over a session answer, as numbers.
-ghost use Rattle.core.specs.Prelude.{◌≡◌};
+ghost use Rattle.std.specs.Prelude.{◌≡◌};
 ghost use Rattle.colours.specs.declared.Palette.{Palette};
 ghost use Rattle.payload.specs.Meant.{finish_meant};
 ghost use Rattle.owlgantry.specs.Sessions.{opening_number, payload_number, payload_report, ending_kind, ending_byte, dcs_number, dcs_report, finish_report};

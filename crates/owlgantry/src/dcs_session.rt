@@ -1,5 +1,5 @@
 // A session of a whole DCS sequence in the caller's memory: 48 numbers and 256 registers, as a payload session has them.
-ghost use Rattle.core.specs.Prelude.{◌≡◌};
+ghost use Rattle.std.specs.Prelude.{◌≡◌};
 ghost use Rattle.owlgantry.specs.Sessions.{dcs_opened, dcs_fed, dcs_finished};
 
 use crate::answers::{dcs_number, dcs_report, finish_report, opening_number};

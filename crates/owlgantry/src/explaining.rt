@@ -2,7 +2,7 @@
 // 1 repeats, 2 columns, 3 rows, 4 pixels); how much was needed; 1 for more than that, else 0; how much is allowed. Each function answers the number
 // that the call itself answers, on a canvas of `length` bytes; where that is 0, all seven are. Nothing else is written: a session is read as it is
 // before the call.
-ghost use Rattle.core.specs.Prelude.{◌≡◌};
+ghost use Rattle.std.specs.Prelude.{◌≡◌};
 ghost use Rattle.dcs.specs.Memory.{core_from};
 ghost use Rattle.owlgantry.specs.Explaining.{told_numbers, payload_feed_told, payload_finish_told, dcs_feed_told, dcs_finish_told, read_told, words_put};
 

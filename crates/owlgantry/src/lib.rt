@@ -9,7 +9,7 @@ pub mod moves;
 pub mod payload_session;
 mod report;
 
-ghost use Rattle.core.specs.Prelude.{◌≡◌};
+ghost use Rattle.std.specs.Prelude.{◌≡◌};
 ghost use Rattle.colours.specs.Palette.{of_table, standard};
 ghost use Rattle.canvas.specs.Copy.{copied};
 ghost use Rattle.canvas.specs.Picture.{area_of};

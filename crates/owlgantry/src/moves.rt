@@ -1,5 +1,5 @@
 // A session in the caller's memory that moves to another canvas, and the picture that goes with it.
-ghost use Rattle.core.specs.Prelude.{◌≡◌};
+ghost use Rattle.std.specs.Prelude.{◌≡◌};
 ghost use Rattle.canvas.specs.Picture.{area_of};
 ghost use Rattle.moving.specs.Carry.{carried_to};
 ghost use Rattle.owlgantry.specs.Moving.{moving_number, moving_report, placed_as, payload_moved, dcs_moved};

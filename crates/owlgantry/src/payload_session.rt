@@ -1,6 +1,6 @@
 // A payload session in the caller's memory: 48 numbers and 256 registers. Any content of them has a stated answer; 48 zeros are a failed
 // session, which answers 9. An abort needs no call: the caller drops the session.
-ghost use Rattle.core.specs.Prelude.{◌≡◌};
+ghost use Rattle.std.specs.Prelude.{◌≡◌};
 ghost use Rattle.owlgantry.specs.Sessions.{payload_opened, payload_fed, payload_finished};
 
 use crate::answers::{finish_report, opening_number, payload_number, payload_report};

@@ -1,5 +1,5 @@
 // What a finish answers, as numbers.
-ghost use Rattle.core.specs.Prelude.{◌≡◌};
+ghost use Rattle.std.specs.Prelude.{◌≡◌};
 ghost use Rattle.colours.specs.declared.Palette.{Palette};
 ghost use Rattle.colours.specs.Palette.{of_table};
 ghost use Rattle.payload.specs.Core.{handed_back};

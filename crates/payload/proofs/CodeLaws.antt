@@ -1,5 +1,5 @@
 -- What the functions over numbers in memory come to: one law for each of them.
-use Rattle.core.specs.Prelude.{◌≡◌, ℕ, List, [], ◌∷◌, get_or}
+use Rattle.std.specs.Prelude.{◌≡◌, ℕ, List, [], ◌∷◌, get_or}
 use mathlib.Core.Path.{refl, sym, ap, ◌∙◌}
 use Rattle.numbers.specs.declared.Parameters.{Parameters}
 use Rattle.numbers.specs.Memory as parameters

@@ -1,5 +1,5 @@
 -- A call by value is the call over the session's parts.
-use Rattle.core.specs.Prelude.{◌≡◌, ℕ, List, [], ◌∷◌, length}
+use Rattle.std.specs.Prelude.{◌≡◌, ℕ, List, [], ◌∷◌, length}
 use mathlib.Core.Path.{refl, sym, ap, ◌∙◌}
 use denote.Enum.Declared.{tag_of}
 use types.Run.{OneOf, miss}

@@ -1,5 +1,5 @@
 -- Laws of a session that starts later: one for each path through a function of `deferred`.
-use Rattle.core.specs.Prelude.{◌≡◌, ℕ, Bool, true, false, cond, leb, List, length}
+use Rattle.std.specs.Prelude.{◌≡◌, ℕ, Bool, true, false, cond, leb, List, length}
 use mathlib.Core.Path.{refl}
 use Rattle.colours.specs.declared.Palette.{Palette}
 use Rattle.colours.specs.Palette.{register_of}

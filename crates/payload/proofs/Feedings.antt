@@ -1,5 +1,5 @@
 -- A feed of the code is the definition's.
-use Rattle.core.specs.Prelude.{◌≡◌, ℕ, ◌-◌, Bool, true, false, cond, leb, List, [], ◌∷◌, length}
+use Rattle.std.specs.Prelude.{◌≡◌, ℕ, ◌-◌, Bool, true, false, cond, leb, List, [], ◌∷◌, length}
 use Prim.Native.Nat.{zero-le}
 use native.Mathlib.Nat.{zero-add, sub-zero}
 use mathlib.Core.Bool.{true≢false}

@@ -1,5 +1,5 @@
 -- A finish of the code is the definition's.
-use Rattle.core.specs.Prelude.{◌≡◌, ℕ, Bool, false, eqb, List, length}
+use Rattle.std.specs.Prelude.{◌≡◌, ℕ, Bool, false, eqb, List, length}
 use mathlib.Core.Path.{refl, sym, ap, ap₂, ◌∙◌, subst}
 use Rattle.colours.specs.declared.Palette.{Palette}
 use Rattle.colours.specs.Marks.{lasting, defined_count}

@@ -1,5 +1,5 @@
 -- Any calls of the code, the canvas given back each time as it was left, are the definition's; and so demands 2 and 3 hold of the code.
-use Rattle.core.specs.Prelude.{◌≡◌, ℕ, ◌+◌, ◌-◌, ◌*◌, ◌/◌, ◌≤◌, true, false, ◌↔◌, List, length, take}
+use Rattle.std.specs.Prelude.{◌≡◌, ℕ, ◌+◌, ◌-◌, ◌*◌, ◌/◌, ◌≤◌, true, false, ◌↔◌, List, length, take}
 use mathlib.Core.Option.{some}
 use mathlib.Core.Logic.Iff
 use mathlib.Core.Path.{refl, sym, ap, ap₂, ◌∙◌, subst}

@@ -1,5 +1,5 @@
 -- Every session that a call hands back has its fields in their ranges, where the session that it is given has.
-use Rattle.core.specs.Prelude.{ℕ, ltb, List, [], ◌∷◌}
+use Rattle.std.specs.Prelude.{ℕ, ltb, List, [], ◌∷◌}
 use native.Mathlib.Omega.{arith}
 use borrow.Author.Tests.{ltb-true}
 use mathlib.Core.Path.{refl}

@@ -1,6 +1,6 @@
 -- A parameter, a life, a kind and a colour as one number each, and back: for a session that lies in a caller's memory. Every number is one
 -- of each.
-use Rattle.core.specs.Prelude.{ℕ, ◌+◌, ◌-◌, ◌*◌, ◌/◌, ◌%◌, cond, List, [], ◌∷◌, ◌==◌, nat_lt, slice_index}
+use Rattle.std.specs.Prelude.{ℕ, ◌+◌, ◌-◌, ◌*◌, ◌/◌, ◌%◌, cond, List, [], ◌∷◌, ◌==◌, nat_lt, slice_index}
 use Rattle.colours.specs.Packing.{packed}
 use Rattle.frame.specs.declared.Kind.{Kind}
 use Rattle.frame.specs.declared.Kind.TheVariants as kinds

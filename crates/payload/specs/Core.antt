@@ -1,8 +1,9 @@
 -- A session in parts: its setup, its life, its frame, and the palette that is lent beside them. What a call over the parts comes to is
 -- said by the session that they make.
-use Rattle.core.specs.Prelude.{◌≡◌, ℕ, List}
+use Rattle.std.specs.Prelude.{◌≡◌, ℕ, List}
 use Rattle.colours.specs.declared.Palette.{Palette}
 use Rattle.colours.specs.Palette.{of_table}
+use Rattle.frame.specs.declared.Ground.{Ground}
 use Rattle.frame.specs.declared.Frame.{Frame}
 use Rattle.frame.specs.declared.Limits.{Limits}
 use Rattle.payload.specs.declared.Fed as session

@@ -1,5 +1,5 @@
 -- A payload session inside a DCS session: before `q`, at it, and failed.
-use Rattle.core.specs.Prelude.{ℕ, cond, List, length, nat_le}
+use Rattle.std.specs.Prelude.{ℕ, cond, List, length, nat_le}
 use Rattle.colours.specs.declared.Palette.{Palette}
 use Rattle.canvas.specs.Picture.{span}
 use Rattle.canvas.specs.Paint.{painted}

@@ -1,5 +1,5 @@
 -- The simulation relation: when a session of the code and its canvas stand for a session of the definition, and its callers.
-use Rattle.core.specs.Prelude.{◌≡◌, ℕ, Bool, true, false, List}
+use Rattle.std.specs.Prelude.{◌≡◌, ℕ, Bool, true, false, List}
 use Rattle.std.proofs.Math.Option.{Option, none, some}
 use Rattle.colours.specs.declared.Palette.{Palette}
 use Rattle.frame.specs.declared.Refusal.{Refusal}

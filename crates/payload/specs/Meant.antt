@@ -1,6 +1,6 @@
 -- What the code's answers mean: a payload session's parameters, limits, answers and report in the definition's terms. A refusal is known by its
 -- number (`number_of`).
-use Rattle.core.specs.Prelude.{ℕ}
+use Rattle.std.specs.Prelude.{ℕ}
 use Rattle.std.proofs.Math.Option.{Option, none, some}
 use Rattle.colours.specs.declared.Palette.{Palette}
 use Rattle.canvas.specs.Picture.{area_of}

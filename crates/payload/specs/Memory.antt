@@ -1,6 +1,6 @@
 -- A session as 48 numbers and 256 registers, and back. Of the numbers the first 34 are a payload session's; those after them are 0, and a
 -- DCS session has its own there. All that `session_from` is given makes a session.
-use Rattle.core.specs.Prelude.{ℕ, ◌+◌, ◌%◌, List, [], ◌∷◌, ◌++◌, slice_index}
+use Rattle.std.specs.Prelude.{ℕ, ◌+◌, ◌%◌, List, [], ◌∷◌, ◌++◌, slice_index}
 use Rattle.numbers.specs.Memory as parameters
 use Rattle.colours.specs.Palette.{of_table}
 use Rattle.frame.specs.declared.Command.{Command}

@@ -1,5 +1,5 @@
 -- What each session of the code is: its fields are in the ranges of their types. Those of 64 bits are numbers as they are.
-use Rattle.core.specs.Prelude.{◌≡◌, ℕ, ◌<◌, List, length, slice_index_or}
+use Rattle.std.specs.Prelude.{◌≡◌, ℕ, ◌<◌, List, length, slice_index_or}
 use Rattle.numbers.specs.Memory as parameters
 use Rattle.frame.specs.declared.Frame.{Frame}
 use Rattle.payload.specs.declared.Given.{Given}

@@ -1,5 +1,5 @@
 -- The whole outcome of each function over a payload session: its answer, the session, the palette and every byte of the canvas.
-use Rattle.core.specs.Prelude.{ℕ, Bool, false, cond, List, [], ◌∷◌, length, ◌==◌}
+use Rattle.std.specs.Prelude.{ℕ, Bool, false, cond, List, [], ◌∷◌, length, ◌==◌}
 use Rattle.numbers.specs.Step as numbers
 use Rattle.colours.specs.declared.Palette.{Palette}
 use Rattle.colours.specs.Palette.{of_table, register_of}

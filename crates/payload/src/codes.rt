@@ -1,5 +1,5 @@
 // A parameter, a life, a kind and a colour as one number each, for a session that lies in a caller's memory.
-ghost use Rattle.core.specs.Prelude.{◌≡◌, ◌+◌, ◌*◌};
+ghost use Rattle.std.specs.Prelude.{◌≡◌, ◌+◌, ◌*◌};
 ghost use Rattle.colours.specs.Packing.{packed};
 ghost use Rattle.payload.specs.Codes.{given_number, given_from, life_number, life_from, kind_number, kind_from, color_number, color_from};
 

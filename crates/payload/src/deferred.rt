@@ -1,6 +1,6 @@
 // What a DCS session needs of a payload session, which starts later: one that has not begun, and its start at `q`.
 // Inner: for the crate dcs alone.
-ghost use Rattle.core.specs.Prelude.{◌≡◌};
+ghost use Rattle.std.specs.Prelude.{◌≡◌};
 ghost use Rattle.colours.specs.Palette.{of_table};
 ghost use Rattle.frame.specs.declared.Frame.{Frame};
 ghost use Rattle.payload.specs.declared.Life.{Life};

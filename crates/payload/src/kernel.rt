@@ -4,7 +4,7 @@ pub mod feeding;
 pub mod finishing;
 pub mod opening;
 
-ghost use Rattle.core.specs.Prelude.{◌≡◌};
+ghost use Rattle.std.specs.Prelude.{◌≡◌};
 ghost use Rattle.payload.specs.Core.{setup_of, over};
 
 use crate::{Life, Session, Settings};

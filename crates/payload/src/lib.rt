@@ -10,7 +10,7 @@ pub mod memory;
 pub mod places;
 pub mod refusals;
 
-ghost use Rattle.core.specs.Prelude.{◌≡◌};
+ghost use Rattle.std.specs.Prelude.{◌≡◌};
 ghost use Rattle.meaning.specs.Drawing.{house_limits, crate_limits};
 ghost use Rattle.payload.specs.Deferred.{no_settings};
 ghost use Rattle.payload.specs.Meant.{limits_coded};

@@ -1,6 +1,6 @@
 // A session as 48 numbers and 256 registers, for a caller that keeps it in its own memory. Any numbers are a session: one that was
 // never opened here answers as its fields say, and 48 zeros are a failed one. 34 to 43 are those of a DCS session.
-ghost use Rattle.core.specs.Prelude.{◌≡◌};
+ghost use Rattle.std.specs.Prelude.{◌≡◌};
 ghost use Rattle.colours.specs.declared.Palette.{Palette};
 ghost use Rattle.payload.specs.Core.{over};
 ghost use Rattle.payload.specs.Memory.{ground_from, settings_from, pen_from, area_from, extent_from, raster_from, command_from, frame_from, numbers_of, setup_from};

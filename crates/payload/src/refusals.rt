@@ -1,5 +1,5 @@
 // The refusals that a session gives before it reads a byte, in the order of rules 5.2 and 5.3.
-ghost use Rattle.core.specs.Prelude.{◌≡◌};
+ghost use Rattle.std.specs.Prelude.{◌≡◌};
 ghost use Rattle.colours.specs.declared.Palette.{Palette};
 ghost use Rattle.payload.specs.Core.{over};
 ghost use Rattle.payload.specs.Refusals.{in_range, limits_fit, openable, is_failed, misfitting, feed_judged, finish_judged};

@@ -1,5 +1,5 @@
 // How a session reads: introducer, header, payload and end.
-ghost use Rattle.core.specs.Prelude.{◌≡◌, ◌+◌, ◌≤◌, length, drop};
+ghost use Rattle.std.specs.Prelude.{◌≡◌, ◌+◌, ◌≤◌, length, drop};
 ghost use Rattle.colours.specs.declared.Palette.{Palette};
 ghost use Rattle.colours.specs.Palette.{of_table};
 ghost use Rattle.payload.specs.Core as payload;

@@ -1,5 +1,5 @@
 // How a session is finished.
-ghost use Rattle.core.specs.Prelude.{◌≡◌};
+ghost use Rattle.std.specs.Prelude.{◌≡◌};
 ghost use Rattle.numbers.specs.declared.Parameters.{Parameters};
 ghost use Rattle.colours.specs.Palette.{of_table};
 ghost use Rattle.payload.specs.Core as payload;

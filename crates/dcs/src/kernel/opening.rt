@@ -1,5 +1,5 @@
 // How a session begins.
-ghost use Rattle.core.specs.Prelude.{◌≡◌};
+ghost use Rattle.std.specs.Prelude.{◌≡◌};
 ghost use Rattle.colours.specs.Palette.{of_table};
 ghost use Rattle.dcs.specs.Core.{opened_over};
 ghost use Rattle.dcs.specs.Session.{opened_on};

@@ -1,5 +1,5 @@
 -- `explain_part` meets its contract: reading counts no more bytes than there are, and what it comes to is told.
-use Rattle.core.specs.Prelude.{true}
+use Rattle.std.specs.Prelude.{true}
 use native.Mathlib.Omega.{arith}
 use borrow.Author.Rules.{rules}
 use Rattle.explain.proofs.ExplainLaws.{telling, part-within}

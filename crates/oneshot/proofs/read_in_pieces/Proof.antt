@@ -1,7 +1,7 @@
 -- `read_in_pieces` meets its contract: its loop stays `Midway`, so that each turn passes 9, 12 and 13, what is left of the part grows
 -- shorter with each turn, and the laws of ReadLaws say of a `Turn` what each answer of its feed leads to.
 use borrow.Author.Rules.{rules}
-use Rattle.core.specs.Prelude.{◌≡◌, ℕ, ◌-◌, ◌≤◌, length}
+use Rattle.std.specs.Prelude.{◌≡◌, ℕ, ◌-◌, ◌≤◌, length}
 use native.Mathlib.Omega.{arith}
 use mir.Syntax.{w64}
 use mir.Val.{Fits}

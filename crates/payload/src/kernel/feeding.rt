@@ -1,5 +1,5 @@
 // How a session reads.
-ghost use Rattle.core.specs.Prelude.{◌≡◌, length};
+ghost use Rattle.std.specs.Prelude.{◌≡◌, length};
 ghost use Rattle.colours.specs.Palette.{of_table};
 ghost use Rattle.reference.specs.Step.{Fits};
 ghost use Rattle.payload.specs.declared.Life.{Life};

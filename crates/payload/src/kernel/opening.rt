@@ -1,5 +1,5 @@
 // How a session begins.
-ghost use Rattle.core.specs.Prelude.{◌≡◌, ◌≤◌, true, length};
+ghost use Rattle.std.specs.Prelude.{◌≡◌, ◌≤◌, true, length};
 ghost use Rattle.colours.specs.Palette.{of_table};
 ghost use Rattle.payload.specs.Core.{opened_over, setup_for};
 ghost use Rattle.payload.specs.Session.{clear_for, background_for, blank_frame, opening_for, first_life, opened_if, first_painted, opened_on};

@@ -1,5 +1,5 @@
 -- `read_on` meets its contract. The loop's invariant is `Going`: the bytes that are left lead to where all lead.
-use Rattle.core.specs.Prelude.{◌-◌, length}
+use Rattle.std.specs.Prelude.{◌-◌, length}
 use borrow.Author.Rules.{rules}
 use native.Mathlib.Omega.{arith}
 use Rattle.colours.specs.Palette.{of_table}

@@ -1,5 +1,5 @@
 -- `explain_payload` meets its contract: where all bytes are read, the pending command is ended; else what reading came to is told.
-use Rattle.core.specs.Prelude.{false}
+use Rattle.std.specs.Prelude.{false}
 use native.Mathlib.Omega.{arith}
 use borrow.Author.Rules.{rules}
 use Rattle.explain.proofs.ExplainLaws.{wholes, part-within}

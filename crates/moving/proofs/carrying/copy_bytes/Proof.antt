@@ -1,5 +1,5 @@
 -- `moving::carrying::copy_bytes` meets its contract. The loop's invariant: the first j bytes are pasted. Assumes nothing.
-use Rattle.core.specs.Prelude.{◌≡◌, ℕ, ◌+◌, ◌-◌, ◌<◌, ◌≤◌, List, length, drop, set}
+use Rattle.std.specs.Prelude.{◌≡◌, ℕ, ◌+◌, ◌-◌, ◌<◌, ◌≤◌, List, length, drop, set}
 use mathlib.Core.Path.{refl, sym, ap, ap₂, ◌∙◌}
 use Prim.Native.Nat.{zero-le}
 use native.Mathlib.Numerals.{add-one}

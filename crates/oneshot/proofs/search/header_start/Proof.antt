@@ -1,7 +1,7 @@
 -- `header_start` meets its contract: the loop has found no introducer before `at` (`Looking`), and each turn goes one byte on.
 use borrow.Author.Rules.{rules}
 use Rattle.oneshot.proofs.SearchLaws.{lookings, introducer-short, Looking}
-use Rattle.core.specs.Prelude.{◌-◌, length}
+use Rattle.std.specs.Prelude.{◌-◌, length}
 use native.Mathlib.Omega.{arith}
 use Rattle.oneshot.proofs.search.header_start.Statement.{statement}
 use Rattle.oneshot.proofs.search.header_start.Tie as tie

@@ -1,0 +1,7 @@
+-- `settings_from` meets its contract: two reads, each a parameter.
+use Rattle.payload.proofs.CodeLaws.{read_back}
+use borrow.Author.Rules.{rules}
+use Rattle.payload.proofs.memory.settings_from.Goals as goal
+
+pub returns : goal.returns
+returns c = search (rules, read_back)

@@ -1,0 +1,7 @@
+-- `setup_from` meets its contract: its parts' contracts, put together by one law.
+use Rattle.payload.proofs.CodeLaws.{read_back}
+use borrow.Author.Rules.{rules}
+use Rattle.payload.proofs.memory.setup_from.Goals as goal
+
+pub returns : goal.returns
+returns c = search (rules, read_back)
