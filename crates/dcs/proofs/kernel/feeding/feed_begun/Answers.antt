@@ -1,0 +1,27 @@
+-- `feed_begun` meets its contract: a refusal, or the payload session is fed the bytes from `from` on, and its answer is passed on.
+use mathlib.Core.Path.{sym, ◌∙◌}
+use Rattle.dcs.proofs.SessionLaws.{part-drop, passed-bound, payload-fed, begun-refused}
+use borrow.Author.Rules.{rules}
+use Rattle.dcs.proofs.kernel.feeding.feed_begun.Goals as goal
+
+pub returns-in-Refused : goal.returns-in-Refused
+returns-in-Refused c =
+    begun-refused _ _ _ c.args.bytes.now c.args.from c.args.allowance (c.feed_refusal-verdict.ensures _) c.in-Refused.is (c.tell.ensures _)
+
+-- TODO part-part-start : tie.Need-slice-bounds-part-start
+-- TODO part-part-start c = search rules
+
+-- TODO part-part-end : tie.Need-slice-bounds-part-end
+-- TODO part-part-end c = search rules
+
+pub feed_passed-call-requires : goal.feed_passed-call-requires
+feed_passed-call-requires c p =
+    sym c.in_default.is ∙ c.feed_refusal-verdict.ensures p
+
+pub pass_on-requires : goal.pass_on-requires
+pass_on-requires c =
+    passed-bound _ _ c.args.bytes.now c.args.from _ (part-drop c.args.bytes.now c.args.from) c.feed_passed-call.ensures c.requires
+
+pub returns : goal.returns
+returns c =
+    payload-fed _ _ c.args.bytes.now c.args.from _ (part-drop c.args.bytes.now c.args.from) c.feed_passed-call.ensures _ c.pass_on.ensures (c.tell-2.ensures _)
