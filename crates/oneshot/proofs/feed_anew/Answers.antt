@@ -1,0 +1,6 @@
+-- `feed_anew` meets its contract: a frame that is made anew is the frame.
+use borrow.Author.Rules.{rules}
+use Rattle.oneshot.proofs.feed_anew.Goals as goal
+
+pub returns : goal.returns
+returns c = rw c.renewed.ensures c.feed_passed-fed.ensures
