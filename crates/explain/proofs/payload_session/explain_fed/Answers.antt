@@ -1,0 +1,10 @@
+-- `explain_fed` meets its contract: a refusal at once has no place; else the bytes are read.
+use borrow.Author.Rules.{rules}
+use Rattle.explain.proofs.ExplainLaws.{payloads}
+use Rattle.explain.proofs.payload_session.explain_fed.Goals as goal
+
+pub returns-in-Refused : goal.returns-in-Refused
+returns-in-Refused c = search (rules, payloads, c.feed_refusal-verdict.ensures)
+
+pub returns : goal.returns
+returns c = search (rules, payloads, c.feed_refusal-verdict.ensures)

@@ -1,0 +1,13 @@
+-- `move_to` meets its contract: a refusal, or the session of the moved parts.
+use borrow.Author.Rules.{rules}
+use Rattle.moving.proofs.MoveLaws.{dcs-refused, dcs-made}
+use Rattle.moving.proofs.dcs_session.move_to.Goals as goal
+
+pub returns-in-Refused : goal.returns-in-Refused
+returns-in-Refused c =
+    dcs-refused _ _ _ c.core_of-core.ensures c.move_answer-answer.ensures c.in-Refused.is
+
+pub returns : goal.returns
+returns c =
+    dcs-made _ _ _ c.core_of-core.ensures c.move_answer-answer.ensures c.in_default.is
+    c.moved_setup.ensures c.palette_of.ensures c.with_palette.ensures

@@ -1,0 +1,15 @@
+-- `move_to` meets its contract: a refusal, or the session of the moved setup.
+use borrow.Author.Rules.{rules}
+use Rattle.moving.proofs.MoveLaws.{moved-refused, moved_made}
+use Rattle.moving.proofs.payload_session.move_to.Goals as goal
+
+pub returns-in-Refused : goal.returns-in-Refused
+returns-in-Refused c =
+    moved-refused _ _ _ c.setup_of-setup.ensures c.life_of-life.ensures c.frame_of-frame.ensures
+    c.move_answer-answer.ensures c.in-Refused.is
+
+pub returns : goal.returns
+returns c =
+    moved_made _ _ _ c.setup_of-setup.ensures c.life_of-life.ensures c.frame_of-frame.ensures
+    c.move_answer-answer.ensures c.in_default.is c.moved_setup.ensures
+    c.palette_of.ensures c.session_of.ensures
