@@ -16,8 +16,7 @@ use payload::places;
 
 // Opens a session for a canvas of `length` bytes, with a copy of the owner's registers, their colours and marks.
 // Answers 0, or 11.
-#[unsafe(no_mangle)]
-pub extern "C" fn owlgantry_raw_dcs_open(
+pub fn owlgantry_raw_dcs_open(
     width: usize,
     height: usize,
     repeats: usize,
@@ -48,8 +47,7 @@ pub extern "C" fn owlgantry_raw_dcs_open(
 // Reads bytes. Answers 0 or the refusal's number, and reports four numbers: how the call went (0: all bytes read, 1: stopped for ink,
 // 2: complete, 3: cancelled, 4: interrupted), bytes consumed, ink, and the byte that cancelled or interrupted the sequence. On a
 // refusal they are 0.
-#[unsafe(no_mangle)]
-pub extern "C" fn owlgantry_raw_dcs_feed(
+pub fn owlgantry_raw_dcs_feed(
     session: &mut [u64; 48],
     registers: &mut [u32; 256],
     canvas: &mut [u8],
@@ -69,8 +67,7 @@ pub extern "C" fn owlgantry_raw_dcs_feed(
 }
 
 // Finishes a sequence that has come to its end, as a payload session is finished.
-#[unsafe(no_mangle)]
-pub extern "C" fn owlgantry_raw_dcs_finish(
+pub fn owlgantry_raw_dcs_finish(
     session: &mut [u64; 48],
     registers: &[u32; 256],
     canvas: &mut [u8],

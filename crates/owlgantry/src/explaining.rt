@@ -53,8 +53,7 @@ fn held_core(numbers: &[u64; 48]) -> Core
 }
 
 // A feed of a payload session. The place is counted from the start of the bytes.
-#[unsafe(no_mangle)]
-pub extern "C" fn owlgantry_raw_payload_explain(
+pub fn owlgantry_raw_payload_explain(
     session: &[u64; 48],
     registers: &[u32; 256],
     length: usize,
@@ -77,8 +76,7 @@ pub extern "C" fn owlgantry_raw_payload_explain(
 }
 
 // A finish of a payload session. It is given no byte, and its place is 0: where the bytes before it end.
-#[unsafe(no_mangle)]
-pub extern "C" fn owlgantry_raw_payload_explain_finish(
+pub fn owlgantry_raw_payload_explain_finish(
     session: &[u64; 48],
     registers: &[u32; 256],
     length: usize,
@@ -96,8 +94,7 @@ pub extern "C" fn owlgantry_raw_payload_explain_finish(
 }
 
 // A feed of a DCS session, as of a payload session.
-#[unsafe(no_mangle)]
-pub extern "C" fn owlgantry_raw_dcs_explain(
+pub fn owlgantry_raw_dcs_explain(
     session: &[u64; 48],
     registers: &[u32; 256],
     length: usize,
@@ -116,8 +113,7 @@ pub extern "C" fn owlgantry_raw_dcs_explain(
 }
 
 // A finish of a DCS session, as of a payload session.
-#[unsafe(no_mangle)]
-pub extern "C" fn owlgantry_raw_dcs_explain_finish(
+pub fn owlgantry_raw_dcs_explain_finish(
     session: &[u64; 48],
     registers: &[u32; 256],
     length: usize,
@@ -133,8 +129,7 @@ pub extern "C" fn owlgantry_raw_dcs_explain_finish(
 }
 
 // Reading all at once. The place is counted from the start of the bytes, with whatever stands before the introducer.
-#[unsafe(no_mangle)]
-pub extern "C" fn owlgantry_raw_read_explain(
+pub fn owlgantry_raw_read_explain(
     width: usize,
     height: usize,
     repeats: usize,
@@ -163,8 +158,7 @@ pub extern "C" fn owlgantry_raw_read_explain(
 
 // Writes the line of English that seven numbers tell to the front of `out`, as much of it as there is room for, and answers how many bytes were
 // written. Where no refusal has the first number, that is 0.
-#[unsafe(no_mangle)]
-pub extern "C" fn owlgantry_raw_words(telling: &[u64; 7], out: &mut [u8]) -> u64
+pub fn owlgantry_raw_words(telling: &[u64; 7], out: &mut [u8]) -> u64
     ensures { (result, out.new) ≡ words_put telling.now out.old }
 {
     put_numbers(out, 0, telling) as u64

@@ -26,8 +26,7 @@ use report::{refusal_number, report_numbers};
 // to P1's number; 2: the raster's, number : 1); 1 for a transparent background; how many registers the picture defined; the
 // declared width and height, each 0 where there is none; how many definitions had a held value; and the place and the length of the
 // payload among the bytes. On a refusal the first eleven are 0.
-#[unsafe(no_mangle)]
-pub extern "C" fn owlgantry_raw_read(
+pub fn owlgantry_raw_read(
     width: usize,
     height: usize,
     repeats: usize,
@@ -55,8 +54,7 @@ pub extern "C" fn owlgantry_raw_read(
 }
 
 // Copies a picture's rows without gaps to the front of `out`. Answers 0, 12 or 14.
-#[unsafe(no_mangle)]
-pub extern "C" fn owlgantry_raw_copy(
+pub fn owlgantry_raw_copy(
     canvas: &[u8],
     stride: usize,
     width: usize,
@@ -73,8 +71,7 @@ pub extern "C" fn owlgantry_raw_copy(
 }
 
 // The standard palette's 256 registers, each a packed colour without a mark.
-#[unsafe(no_mangle)]
-pub extern "C" fn owlgantry_raw_standard_palette(out: &mut [u32; 256])
+pub fn owlgantry_raw_standard_palette(out: &mut [u32; 256])
     ensures { of_table out.new ≡ standard }
 {
     let registers = Palette::standard();

@@ -50,8 +50,7 @@ fn place(answer: Moving, session: &mut [u64; 48], stride: usize, length: usize)
 
 // Moves a payload session to a canvas of `stride` pixels a row and `length` bytes. Answers 0, or 9, 11 or 12, and then the session is as it
 // was. Reports two numbers: width and height of the picture that has to be carried over; 0 on a refusal.
-#[unsafe(no_mangle)]
-pub extern "C" fn owlgantry_raw_payload_move(
+pub fn owlgantry_raw_payload_move(
     session: &mut [u64; 48],
     stride: usize,
     length: usize,
@@ -73,8 +72,7 @@ pub extern "C" fn owlgantry_raw_payload_move(
 }
 
 // Moves a DCS session, as a payload session is moved. Before the `q` of its header there is no picture, and both numbers are 0.
-#[unsafe(no_mangle)]
-pub extern "C" fn owlgantry_raw_dcs_move(
+pub fn owlgantry_raw_dcs_move(
     session: &mut [u64; 48],
     stride: usize,
     length: usize,
@@ -91,8 +89,7 @@ pub extern "C" fn owlgantry_raw_dcs_move(
 
 // Carries a picture's rows from one canvas to another, each at its canvas's stride; all other bytes of the other canvas stay. Answers 0, or 12
 // where either canvas has no such picture.
-#[unsafe(no_mangle)]
-pub extern "C" fn owlgantry_raw_carry(
+pub fn owlgantry_raw_carry(
     canvas: &[u8],
     stride: usize,
     width: usize,

@@ -15,8 +15,7 @@ use payload::memory::{frame_from, numbers_of, setup_from};
 use payload::{Settings, places};
 
 // Opens a session with a copy of the owner's registers, their colours and marks. A P1 or P2 above 65,535 is a missing one. Answers 0, or 11.
-#[unsafe(no_mangle)]
-pub extern "C" fn owlgantry_raw_payload_open(
+pub fn owlgantry_raw_payload_open(
     width: usize,
     height: usize,
     repeats: usize,
@@ -54,8 +53,7 @@ pub extern "C" fn owlgantry_raw_payload_open(
 
 // Reads bytes. Answers 0 or the refusal's number, and reports four numbers: how the call went (0: all bytes read, 1: stopped for ink,
 // 2: ended), bytes consumed, ink, and the byte that ended the payload. On a refusal they are 0.
-#[unsafe(no_mangle)]
-pub extern "C" fn owlgantry_raw_payload_feed(
+pub fn owlgantry_raw_payload_feed(
     session: &mut [u64; 48],
     registers: &mut [u32; 256],
     canvas: &mut [u8],
@@ -91,8 +89,7 @@ pub extern "C" fn owlgantry_raw_payload_feed(
 // height, right, bottom; the ratio's kind and number (0: left to P1, which is missing; 1: left to P1's number; 2: the raster's, number : 1);
 // 1 for a transparent background; how many registers the picture defined; the declared width and height, each 0 where there is none; and how
 // many definitions had a held value.
-#[unsafe(no_mangle)]
-pub extern "C" fn owlgantry_raw_payload_finish(
+pub fn owlgantry_raw_payload_finish(
     session: &mut [u64; 48],
     registers: &[u32; 256],
     canvas: &mut [u8],

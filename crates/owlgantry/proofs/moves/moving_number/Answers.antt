@@ -1,0 +1,13 @@
+-- `moving_number` meets its contract: each of the two answers, by `by-case`.
+use Rattle.owlgantry.specs.Moving.{moving_number}
+use Rattle.owlgantry.proofs.ReportLaws.{by-case}
+use borrow.Author.Rules.{rules}
+use Rattle.owlgantry.proofs.moves.moving_number.Goals as goal
+
+pub returns-in-Done : goal.returns-in-Done
+unfolding moving_number
+returns-in-Done c = search (rules, by-case moving_number)
+
+pub returns-in-Refused : goal.returns-in-Refused
+unfolding moving_number
+returns-in-Refused c = search (rules, by-case moving_number)

@@ -1,0 +1,10 @@
+-- `place` meets its contract: a refusal leaves all numbers, and else three are stored.
+use Rattle.owlgantry.proofs.MovingLaws.{placing}
+use borrow.Author.Rules.{rules}
+use Rattle.owlgantry.proofs.moves.place.Goals as goal
+
+pub returns-in-Refused : goal.returns-in-Refused
+returns-in-Refused c = search (rules, placing)
+
+pub returns : goal.returns
+returns c = search (rules, placing)

@@ -1,0 +1,14 @@
+-- `refusal_number` meets its contract: a finish is a picture or refused (`refusal-as`).
+use Rattle.owlgantry.proofs.ReportLaws.{refusal-as}
+use Rattle.payload.specs.Meant.{finish_meant}
+use Rattle.owlgantry.specs.Reading.{refusal_number}
+use borrow.Author.Rules.{rules}
+use Rattle.owlgantry.proofs.report.refusal_number.Goals as goal
+
+pub returns-in-Picture : goal.returns-in-Picture
+unfolding refusal_number finish_meant
+returns-in-Picture c p = search (rules, refusal-as)
+
+pub returns-in-Refused : goal.returns-in-Refused
+unfolding refusal_number finish_meant
+returns-in-Refused c p = search (rules, refusal-as)
