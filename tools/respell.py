@@ -23,8 +23,13 @@ def snake(name):
     return re.sub(r"(?<=[a-z0-9])[A-Z]|(?<=[A-Z])[A-Z](?=[a-z])", lambda m: "_" + m.group(0), name).lower()
 
 
+STRING = re.compile(r'("(?:[^"\\\n]|\\.)*")')
+
+
 def camel(text):
-    return CAMEL.sub(lambda m: snake(m.group(0)), text)
+    """Outside strings."""
+    parts = STRING.split(text)
+    return "".join(part if i % 2 else CAMEL.sub(lambda m: snake(m.group(0)), part) for i, part in enumerate(parts))
 
 
 def lemmas(path, text):

@@ -36,8 +36,8 @@ canvas = red ++ red ++ black ++ black ++ black ++ black
 
 pub sample : picture_text endings.Complete 20 4 report 3 canvas
     ≡ words "complete 20\nsize 2 6\nextent 2 2\nratio p1 none\nbackground opaque\nink 4\n"
-    ++ words "FF0000FF FF0000FF\n_ff0000_ff FF0000FF\n"
-    ++ words "000000FF 000000FF\n000000_ff 000000FF\n000000_ff 000000FF\n000000_ff 000000FF\n"
+    ++ words "FF0000FF FF0000FF\nFF0000FF FF0000FF\n"
+    ++ words "000000FF 000000FF\n000000FF 000000FF\n000000FF 000000FF\n000000FF 000000FF\n"
 unfolding picture_text status_line size_line extent_line ratio_line background_line ink_line count_line pair_line
     picture_rows rows_text row_text further_text pixel_text has_picture fits rows_of decimal digits hex hex_digit words
     report canvas red black

@@ -1,0 +1,18 @@
+use mathlib.Core.Path.{◌≡◌, refl}
+use Prim.Native.Nat.{◌+◌, ◌-◌, ◌≤◌}
+use native.Mathlib.Omega.{arith}
+use lib.ListN.{length}
+use borrow.Author.Rules.{rules}
+use Rattle.text.specs.Text.{put}
+use Rattle.dump.specs.Dump.{further_text}
+use Rattle.dump.proofs.RowLaws.{pixel-more, row_put}
+use Rattle.dump.proofs.put_row.Goals as goal
+
+pub loop-x-init : goal.loop-x-init
+loop-x-init c = (refl, refl, omega arith, omega arith)
+
+pub loop-x-preserved : goal.loop-x-preserved
+loop-x-preserved c = search (rules, pixel-more)
+
+pub returns : goal.returns
+returns c = search (rules, row_put)

@@ -1,0 +1,18 @@
+-- `dump::put_row` meets its contract. The loop's invariant: with the pixels that are left put, all after the first are.
+-- Assumes nothing.
+use mathlib.Core.Path.{◌≡◌, refl}
+use Prim.Native.Nat.{◌+◌, ◌-◌, ◌≤◌}
+use native.Mathlib.Omega.{arith}
+use lib.ListN.{length}
+use borrow.Author.Rules.{rules}
+use Rattle.text.specs.Text.{put}
+use Rattle.dump.specs.Dump.{further_text}
+use Rattle.dump.proofs.RowLaws.{pixel-more, row_put}
+use Rattle.dump.proofs.put_row.Given as goal
+
+abbrev pub invariant-loop-x : goal.invariant-loop-x
+invariant-loop-x l =
+    (put (further_text l.canvas (l.p + l.x) (l.width - l.x)) (l.place, l.out) ≡ put (further_text l.canvas (l.p + 1) (l.width - 1)) (l.initial.place, l.initial.out))
+    × (length l.out ≡ length l.initial.out)
+    × (l.x ≤ l.width)
+    × (1 ≤ l.x)

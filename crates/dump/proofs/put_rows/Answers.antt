@@ -1,0 +1,42 @@
+use mathlib.Core.Path.{◌≡◌, refl, ◌∙◌}
+use Prim.Native.Nat.{◌+◌, ◌-◌, ◌*◌, ◌≤◌}
+use native.Mathlib.Nat.{sub-zero}
+use native.Mathlib.Omega.{arith}
+use lib.ListN.{length}
+use borrow.Author.Rules.{rules}
+use Rattle.canvas.proofs.Growth.{rectangle-room}
+use Rattle.text.specs.Text.{put}
+use Rattle.dump.specs.Dump.{rows_text}
+use Rattle.dump.proofs.RowLaws.{row_more, rows-done}
+use Rattle.dump.proofs.put_rows.Goals as goal
+use Rattle.dump.proofs.put_rows.Goals.{In-loop-y}
+
+-- the row that a turn writes lies on the canvas
+room : (c : In-loop-y)
+    → 4 * (c.loop-y.y * c.args.stride + c.args.width)
+    ≤ length c.args.canvas.now
+room c =
+    rectangle-room _ _ _ c.args.height c.loop-y.y c.requires.1 c.requires.2 c.loop-y-test.true
+
+pub loop-y-init : goal.loop-y-init
+loop-y-init c = (rw (sub-zero c.args.height), refl, omega arith)
+
+pub overflow_mul-y : goal.overflow_mul-y
+overflow_mul-y c = omega (arith, room (goal.at.overflow_mul-y c).In-loop-y)
+
+pub put_row-place-requires : goal.put_row-place-requires
+put_row-place-requires c = (omega arith, room (goal.at.put_row-place-requires c).In-loop-y)
+
+pub loop-y-preserved : goal.loop-y-preserved
+loop-y-preserved c =
+    let now-at = c.loop-y in (
+      row_more _ _ _ _ now-at.y _ _ _ (omega arith) c.put_row-place.ensures now-at.invariant.0,
+      c.put_row-place.auto.out ∙ now-at.invariant.1,
+      omega arith,
+    )
+
+pub shape_of-out : goal.shape_of-out
+shape_of-out c = c.loop-y.invariant.1
+
+pub returns : goal.returns
+returns c = search (rules, rows-done)
