@@ -71,9 +71,9 @@ module _ {H K E : Type 0} {f : Feed H (Answer E)} {g : Feed K (Answer E)} {canva
       → ((fed_all g k cs).answers ≡ (fed_all f h cs).answers) × Alike (fed_all f h cs).state (fed_all g k cs).state
   unfolding fed_all
   calls-alike l [] good = (refl, l)
-  calls-alike l (c ∷ cs) good =
+  calls-alike {h = h} {k = k} l (c ∷ cs) good =
       let first = both.fed l c.bytes good.0 c.allowance in
-      let later = calls-alike first.1 cs good.1 in
+      let later = calls-alike {h = (f h c.bytes c.allowance).0} {k = (g k c.bytes c.allowance).0} first.1 cs good.1 in
       (ap₂ ◌∷◌ first.0 later.0, later.1)
 
   -- ---- a caller that presents what was left unread
@@ -123,7 +123,8 @@ module _ {H K E : Type 0} {f : Feed H (Answer E)} {g : Feed K (Answer E)} {canva
       → CallersAlike (calls_of f c ts) (calls_of g d ts)
   unfolding calls_of
   turns-alike l [] good = l
-  turns-alike l (t ∷ ts) good = turns-alike (called-alike l t good.0) ts good.1
+  turns-alike {c = c} {d = d} l (t ∷ ts) good =
+      turns-alike {c = called f c t} {d = called g d t} (called-alike l t good.0) ts good.1
 
   -- the same status is told last
   pub status-alike : {c : Caller H} {d : Caller K} → CallersAlike c d → (ts : List Turn) → GoodPieces Good ts → {was is : Status E}
@@ -131,16 +132,20 @@ module _ {H K E : Type 0} {f : Feed H (Answer E)} {g : Feed K (Answer E)} {canva
       → last_status g is d ts ≡ last_status f was c ts
   unfolding last_status
   status-alike l [] good e = e
-  status-alike l (t ∷ ts) good e = status-alike (called-alike l t good.0) ts good.1 (ap₂ status_told e (told-alike l t good.0))
+  status-alike {c = c} {d = d} l (t ∷ ts) good {was = was} {is = is} e =
+      status-alike {c = called f c t} {d = called g d t} (called-alike l t good.0) ts good.1
+      {was = status_told was (f c.state (c.unread ++ piece_of t) (allowance_of t)).1}
+      {is = status_told is (g d.state (d.unread ++ piece_of t) (allowance_of t)).1}
+      (ap₂ status_told e (told-alike l t good.0))
 
   -- and the same calls may be made
   pub proper-alike : (A : ℕ) {c : Caller H} {d : Caller K} → CallersAlike c d → (ts : List Turn) → GoodPieces Good ts
       → proper_calls g A d ts ≡ proper_calls f A c ts
   unfolding proper_calls
   proper-alike A l [] good = refl
-  proper-alike A l (t ∷ ts) good =
+  proper-alike A {c = c} {d = d} l (t ∷ ts) good =
       ap₂ (λ (may later : Bool). leb A (allowance_of t) && (may && later)) (ap (may_call t) l.how)
-      (proper-alike A (called-alike l t good.0) ts good.1)
+      (proper-alike A {c = called f c t} {d = called g d t} (called-alike l t good.0) ts good.1)
 
   -- ---- the demands
 
