@@ -11,7 +11,9 @@ use colours::Palette;
 use frame::Frame;
 use numbers::Parameters;
 use payload::Life;
-use payload::kernel::{Setup, frame_of, life_of, palette_of as inner_palette, session_of, setup_of};
+use payload::kernel::{
+    Setup, frame_of, life_of, palette_of as inner_palette, session_of, setup_of,
+};
 
 #[derive(Clone, Copy)]
 pub struct Core {

@@ -4,8 +4,8 @@
 #![tactic(auto)]
 
 pub mod codes;
-pub mod kernel;
 pub mod deferred;
+pub mod kernel;
 pub mod memory;
 pub mod places;
 pub mod refusals;

@@ -17,12 +17,7 @@ const LEAST: usize = 6_144;
 
 // Reads a payload under the house's limits, with the standard palette and no parameters, in pieces of `chunk` bytes (0: all
 // at once), each with the smallest allowance. Answers width x 2^32 + height, or the refusal's number.
-pub fn sixbench_decode(
-    canvas: &mut [u8],
-    stride: usize,
-    bytes: &[u8],
-    chunk: usize,
-) -> u64
+pub fn sixbench_decode(canvas: &mut [u8], stride: usize, bytes: &[u8], chunk: usize) -> u64
     ensures { (result, canvas.new) ≡ bench_decoded stride canvas.old bytes.now }
 {
     let limits = house_limits();

@@ -11,11 +11,10 @@ pub loop-i-init : goal.loop-i-init
 loop-i-init c = (search rules, refl)
 
 pub loop-i-preserved : goal.loop-i-preserved
-loop-i-preserved c =
-    (
-      search rules,
-      one_more c.args.bytes.now c.loop-i.i _ _ _ c.with_byte-sum.ensures c.loop-i.invariant.1 (omega arith),
-    )
+loop-i-preserved c = (
+  search rules,
+  one_more c.args.bytes.now c.loop-i.i _ _ _ c.with_byte-sum.ensures c.loop-i.invariant.1 (omega arith),
+)
 
 pub returns : goal.returns
 returns c =

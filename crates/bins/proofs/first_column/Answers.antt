@@ -17,7 +17,6 @@ returns-then-setting-bin c = place-past _ _ _ c.judge.ensures (search rules) _ c
 
 -- the bin is one of the setting's
 module _ (c : Else-setting-bin) where
-
   inside : c.args.setting.origin + c.args.bin * c.args.setting.width + c.args.setting.width
       ≤ c.args.shape.width
   inside = place_inside _ _ _ c.judge.ensures (search rules) _ c.if-setting-bin.false

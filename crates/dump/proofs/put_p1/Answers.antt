@@ -5,12 +5,6 @@ use Rattle.dump.proofs.LineLaws.{p1-as}
 use borrow.Author.Rules.{rules}
 use Rattle.dump.proofs.put_p1.Goals as goal
 
--- TODO slice-aggregate-put-words : tie.Need-slice-aggregate-put-words
--- TODO slice-aggregate-put-words c = search rules
-
--- TODO slice-aggregate-put-count : tie.Need-slice-aggregate-put-count
--- TODO slice-aggregate-put-count c = search rules
-
 pub returns-in-Nothing : goal.returns-in-Nothing
 unfolding ratio_line words
 returns-in-Nothing c = search (rules, p1-as)

@@ -5,15 +5,6 @@ use Rattle.dump.proofs.LineLaws.{status-as}
 use borrow.Author.Rules.{rules}
 use Rattle.dump.proofs.put_status.Goals as goal
 
--- TODO slice-aggregate-put-count : tie.Need-slice-aggregate-put-count
--- TODO slice-aggregate-put-count c = search rules
-
--- TODO slice-aggregate-put-stop : tie.Need-slice-aggregate-put-stop
--- TODO slice-aggregate-put-stop c = search rules
-
--- TODO slice-aggregate-put-stop-2 : tie.Need-slice-aggregate-put-stop-2
--- TODO slice-aggregate-put-stop-2 c = search rules
-
 pub returns-in-Complete : goal.returns-in-Complete
 unfolding status_line words
 returns-in-Complete c = search (rules, status-as)

@@ -20,7 +20,6 @@ piece_of c = piece-end c.args.chunk c.loop-consumed.invariant.within c.piece_end
 
 -- a turn of the loop, once its piece is fed
 module _ (c : After-frame-in-loop-consumed-1) where
-
   -- what was opened, what the turn began with and what its feed came to, as sessions
   abbrev whole : Opened
   whole = opened_over c.open-opened.result (of_table c.begin.new.colors)

@@ -4,9 +4,6 @@ use borrow.Author.Rules.{rules}
 use Rattle.reading.specs.Loop.{joined_to}
 use Rattle.reading.proofs.joined.Goals as goal
 
--- TODO sum_fits : tie.Need-overflow-add-t7
--- TODO sum_fits c = search rules
-
 pub returns : goal.returns
 unfolding joined_to
 returns c =

@@ -44,11 +44,10 @@ loop-done-smaller c =
     omega (arith, c.read_ahead-next.ensures.onward, c.read_ahead-next.ensures.within, c.if-done-here.false, joined_end _ _ c.joined-done.ensures)
 
 pub loop-done-preserved : goal.loop-done-preserved
-loop-done-preserved c =
-    (
-      joined-advances c.loop-done.invariant.0 c.resume-now.ensures c.read_ahead-next.ensures c.joined-done.ensures,
-      c.read_ahead-next.auto.canvas ∙ c.loop-done.invariant.1,
-    )
+loop-done-preserved c = (
+  joined-advances c.loop-done.invariant.0 c.resume-now.ensures c.read_ahead-next.ensures c.joined-done.ensures,
+  c.read_ahead-next.auto.canvas ∙ c.loop-done.invariant.1,
+)
 
 pub shape_of-canvas : goal.shape_of-canvas
 shape_of-canvas c = c.loop-done.invariant.1

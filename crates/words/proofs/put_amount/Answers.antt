@@ -4,9 +4,6 @@ use Rattle.text.specs.Text.{words}
 use borrow.Author.Rules.{rules}
 use Rattle.words.proofs.put_amount.Goals as goal
 
--- TODO slice-aggregate-put-words : tie.Need-slice-aggregate-put-words
--- TODO slice-aggregate-put-words c = search rules
-
 pub returns-then-more : goal.returns-then-more
 unfolding words
 returns-then-more c = search (rules, more-than, exactly)

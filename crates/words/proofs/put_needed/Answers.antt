@@ -5,18 +5,6 @@ use Rattle.words.specs.Words.{needed_text}
 use borrow.Author.Rules.{rules}
 use Rattle.words.proofs.put_needed.Goals as goal
 
--- TODO slice-aggregate-put-words : tie.Need-slice-aggregate-put-words
--- TODO slice-aggregate-put-words c = search rules
-
--- TODO slice-aggregate-put-words-2 : tie.Need-slice-aggregate-put-words-2
--- TODO slice-aggregate-put-words-2 c = search rules
-
--- TODO slice-aggregate-put-words-3 : tie.Need-slice-aggregate-put-words-3
--- TODO slice-aggregate-put-words-3 c = search rules
-
--- TODO slice-aggregate-put-words-4 : tie.Need-slice-aggregate-put-words-4
--- TODO slice-aggregate-put-words-4 c = search rules
-
 pub returns-in-Repeats : goal.returns-in-Repeats
 unfolding words needed_text
 returns-in-Repeats c = search (rules, needed-as)

@@ -4,9 +4,6 @@ use Rattle.text.specs.Text.{words}
 use borrow.Author.Rules.{rules}
 use Rattle.words.proofs.put_place.Goals as goal
 
--- TODO slice-aggregate-put-words : tie.Need-slice-aggregate-put-words
--- TODO slice-aggregate-put-words c = search rules
-
 pub returns-in-Nowhere : goal.returns-in-Nowhere
 unfolding words
 returns-in-Nowhere c = search (rules, nowhere)

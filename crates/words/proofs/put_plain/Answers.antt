@@ -5,48 +5,6 @@ use Rattle.words.specs.Words.{plain_sentence}
 use borrow.Author.Rules.{rules}
 use Rattle.words.proofs.put_plain.Goals as goal
 
--- TODO slice-aggregate-put-words : tie.Need-slice-aggregate-put-words
--- TODO slice-aggregate-put-words c = search rules
-
--- TODO slice-aggregate-put-words-2 : tie.Need-slice-aggregate-put-words-2
--- TODO slice-aggregate-put-words-2 c = search rules
-
--- TODO slice-aggregate-put-words-3 : tie.Need-slice-aggregate-put-words-3
--- TODO slice-aggregate-put-words-3 c = search rules
-
--- TODO slice-aggregate-put-words-4 : tie.Need-slice-aggregate-put-words-4
--- TODO slice-aggregate-put-words-4 c = search rules
-
--- TODO slice-aggregate-put-words-5 : tie.Need-slice-aggregate-put-words-5
--- TODO slice-aggregate-put-words-5 c = search rules
-
--- TODO slice-aggregate-put-words-6 : tie.Need-slice-aggregate-put-words-6
--- TODO slice-aggregate-put-words-6 c = search rules
-
--- TODO slice-aggregate-put-words-7 : tie.Need-slice-aggregate-put-words-7
--- TODO slice-aggregate-put-words-7 c = search rules
-
--- TODO slice-aggregate-put-words-8 : tie.Need-slice-aggregate-put-words-8
--- TODO slice-aggregate-put-words-8 c = search rules
-
--- TODO slice-aggregate-put-words-9 : tie.Need-slice-aggregate-put-words-9
--- TODO slice-aggregate-put-words-9 c = search rules
-
--- TODO slice-aggregate-put-words-10 : tie.Need-slice-aggregate-put-words-10
--- TODO slice-aggregate-put-words-10 c = search rules
-
--- TODO slice-aggregate-put-words-11 : tie.Need-slice-aggregate-put-words-11
--- TODO slice-aggregate-put-words-11 c = search rules
-
--- TODO slice-aggregate-put-words-12 : tie.Need-slice-aggregate-put-words-12
--- TODO slice-aggregate-put-words-12 c = search rules
-
--- TODO slice-aggregate-put-words-13 : tie.Need-slice-aggregate-put-words-13
--- TODO slice-aggregate-put-words-13 c = search rules
-
--- TODO slice-aggregate-put-words-14 : tie.Need-slice-aggregate-put-words-14
--- TODO slice-aggregate-put-words-14 c = search rules
-
 pub returns-in-Introducer : goal.returns-in-Introducer
 unfolding words plain_sentence
 returns-in-Introducer c = search (rules, plain-as)

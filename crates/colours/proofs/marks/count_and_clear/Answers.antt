@@ -26,7 +26,7 @@ loop-block-preserved c =
     let p = c.loop-block.invariant.1 in (
       search rules,
       elim c.if-may_exceed.branch [
-        then-may_exceed+else-loop-k-test w ↦ passed-as (w.loop-k.invariant.3.on _ p) (omega arith) w.count-is w.colors-is
+        | then-may_exceed+else-loop-k-test w ↦ passed-as (w.loop-k.invariant.3.on _ p) (omega arith) w.count-is w.colors-is
         | else-may_exceed w ↦
             passed-as (passed-idle 64 p (omega arith) (c.may_exceed.ensures w.if-may_exceed.false)) (omega arith) w.count-is w.colors-is
       ],

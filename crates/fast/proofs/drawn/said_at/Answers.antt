@@ -13,15 +13,14 @@ pub returns-then-most-count : goal.returns-then-most-count
 returns-then-most-count c = none-drawn c.undrawn-then-most-count.ensures
 
 pub returns : goal.returns
-returns c some =
-    (
-      refl,
-      record {
-        number = c.number_before-number.result;
-        before = c.number_before-number.ensures (omega (arith, c.if-end-eq0.false));
-        few = omega (arith, c.if-most-count.false);
-        repeat = c.larger.ensures;
-        at = refl;
-        begins = c.requires.1;
-      },
-    )
+returns c some = (
+  refl,
+  record {
+    number = c.number_before-number.result;
+    before = c.number_before-number.ensures (omega (arith, c.if-end-eq0.false));
+    few = omega (arith, c.if-most-count.false);
+    repeat = c.larger.ensures;
+    at = refl;
+    begins = c.requires.1;
+  },
+)

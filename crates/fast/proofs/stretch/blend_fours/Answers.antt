@@ -84,12 +84,11 @@ pub loop-count-smaller : goal.loop-count-smaller
 loop-count-smaller c = omega (arith, more (goal.at.loop-count-smaller c).In-loop-count)
 
 pub loop-count-preserved : goal.loop-count-preserved
-loop-count-preserved c =
-    (
-      more (goal.at.loop-count-preserved c).In-loop-count,
-      longer (goal.at.loop-count-preserved c).Else-not-four_stand c.four_at-four.ensures c.ink_of_four-ink.ensures c.blend_four.ensures,
-      c.blend_four.auto.canvas ∙ c.loop-count.invariant.2,
-    )
+loop-count-preserved c = (
+  more (goal.at.loop-count-preserved c).In-loop-count,
+  longer (goal.at.loop-count-preserved c).Else-not-four_stand c.four_at-four.ensures c.ink_of_four-ink.ensures c.blend_four.ensures,
+  c.blend_four.auto.canvas ∙ c.loop-count.invariant.2,
+)
 
 pub shape_of-canvas : goal.shape_of-canvas
 shape_of-canvas c = c.loop-count.invariant.2

@@ -11,12 +11,11 @@ use Rattle.fast.proofs.RunLaws.{laid-joined, laid-few}
 use Rattle.fast.proofs.stretch.blend_sixels.Goals as goal
 
 pub paint_singly-rest-requires : goal.paint_singly-rest-requires
-paint_singly-rest-requires c =
-    (
-      omega (arith, c.requires.0, c.blend_fours-fours.ensures.0),
-      omega (arith, c.requires.1, c.blend_fours-fours.ensures.0),
-      rw c.blend_fours-fours.auto.canvas c.requires.2,
-    )
+paint_singly-rest-requires c = (
+  omega (arith, c.requires.0, c.blend_fours-fours.ensures.0),
+  omega (arith, c.requires.1, c.blend_fours-fours.ensures.0),
+  rw c.blend_fours-fours.auto.canvas c.requires.2,
+)
 
 pub overflow_add-result-2 : goal.overflow_add-result-2
 overflow_add-result-2 c =

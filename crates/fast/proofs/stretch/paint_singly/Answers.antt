@@ -74,12 +74,11 @@ paint_rows-requires c =
     (omega (arith, c.requires.1, c.loop-count-test.true), rw c.loop-count.invariant.2 c.requires.2, sixel-bits _ (here (goal.at.paint_rows-requires c).Else-not-is_sixel))
 
 pub loop-count-preserved : goal.loop-count-preserved
-loop-count-preserved c =
-    (
-      omega arith,
-      longer (goal.at.loop-count-preserved c).Else-not-is_sixel c.ink_of-ink.ensures c.paint_rows.ensures,
-      c.paint_rows.auto.canvas ∙ c.loop-count.invariant.2,
-    )
+loop-count-preserved c = (
+  omega arith,
+  longer (goal.at.loop-count-preserved c).Else-not-is_sixel c.ink_of-ink.ensures c.paint_rows.ensures,
+  c.paint_rows.auto.canvas ∙ c.loop-count.invariant.2,
+)
 
 pub shape_of-canvas : goal.shape_of-canvas
 shape_of-canvas c = c.loop-count.invariant.2

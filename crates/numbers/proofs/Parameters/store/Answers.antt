@@ -4,9 +4,6 @@ use Rattle.numbers.proofs.Laws.{steps}
 use borrow.Author.Rules.{rules}
 use Rattle.numbers.proofs.Parameters.store.Goals as goal
 
--- TODO count_fits : tie.Need-overflow-add-t6
--- TODO count_fits c = search rules
-
 pub returns-then-at-lt-PLACES : goal.returns-then-at-lt-PLACES
 returns-then-at-lt-PLACES c = search (rules, steps)
 

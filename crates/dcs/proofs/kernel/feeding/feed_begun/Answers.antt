@@ -8,12 +8,6 @@ pub returns-in-Refused : goal.returns-in-Refused
 returns-in-Refused c =
     begun-refused _ _ _ c.args.bytes.now c.args.from c.args.allowance (c.feed_refusal-verdict.ensures _) c.in-Refused.is (c.tell.ensures _)
 
--- TODO part-part-start : tie.Need-slice-bounds-part-start
--- TODO part-part-start c = search rules
-
--- TODO part-part-end : tie.Need-slice-bounds-part-end
--- TODO part-part-end c = search rules
-
 pub feed_passed-call-requires : goal.feed_passed-call-requires
 feed_passed-call-requires c p =
     sym c.in_default.is ∙ c.feed_refusal-verdict.ensures p

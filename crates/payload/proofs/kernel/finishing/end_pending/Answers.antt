@@ -6,8 +6,5 @@ use Rattle.payload.proofs.kernel.finishing.end_pending.Goals as goal
 pub returns-in-Data : goal.returns-in-Data
 returns-in-Data c = search (rules, carrying)
 
--- TODO slice-aggregate-process : tie.Need-slice-aggregate-process
--- TODO slice-aggregate-process c = search rules
-
 pub returns : goal.returns
 returns c = search (rules, carrying)
