@@ -50,16 +50,11 @@ fn main() {
     if let Some(files) = words.get(2..).filter(|files| !files.is_empty()) {
         return tables::recordings::run(run.rounds, files);
     }
-    if std::env::var("ONLY").is_ok() { // TEMPORARY
-        tables::owned::run(run);
-        return tables::late::run(run);
-    }
     tables::whole::run(run);
     tables::called::run(run);
     tables::small::run(run);
     tables::growth::run(run);
     tables::memory::run(run);
     tables::late::run(run);
-    tables::owned::run(run);
     memset(run.rounds);
 }

@@ -137,28 +137,6 @@ pub fn dcs_finish(memory: &mut Memory, canvas: &mut [u8], palette: &mut Register
     (answer, report)
 }
 
-pub fn payload_move(memory: &mut Memory, stride: usize, length: usize) -> (u64, [u64; 2]) {
-    let mut report = [0; 2];
-    // SAFETY: the session has 48 numbers and the report 2; both are exclusive.
-    let answer = unsafe { ffi::owlgantry_raw_payload_move(&mut memory.numbers, stride, length, &mut report) };
-    (answer, report)
-}
-
-pub fn dcs_move(memory: &mut Memory, stride: usize, length: usize) -> (u64, [u64; 2]) {
-    let mut report = [0; 2];
-    // SAFETY: as in `payload_move`.
-    let answer = unsafe { ffi::owlgantry_raw_dcs_move(&mut memory.numbers, stride, length, &mut report) };
-    (answer, report)
-}
-
-pub fn carry(from: &[u8], from_stride: usize, [width, height]: [usize; 2], to: &mut [u8], to_stride: usize) -> u64 {
-    let (at, length) = (from.as_ptr(), from.len());
-    // SAFETY: both have their slices' lengths, and `to` is exclusive.
-    unsafe {
-        ffi::owlgantry_raw_carry(at, length, from_stride, width, height, to.as_mut_ptr(), to.len(), to_stride)
-    }
-}
-
 pub fn payload_explain(memory: &Memory, length: usize, bytes: &[u8], allowance: usize) -> Told {
     let mut told = [0; 7];
     let (numbers, registers) = (&memory.numbers, &memory.registers);

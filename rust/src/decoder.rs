@@ -1,32 +1,30 @@
 use crate::room::Room;
-use crate::stream::{Session, Stream, PIECE};
+use crate::stream::Session;
 use crate::{
-    explain_read, look, read, DcsSession, DcsSettings, Limits, Palette, PayloadSession, Reading, Refusal, Result,
-    SixelDcsStreamDecoder, SixelError, SixelImage, SixelStreamDecoder,
+    explain, look, read, DcsSettings, Limits, Palette, PayloadSession, Reading, Result, SixelDcsStreamDecoder,
+    SixelImage, SixelStreamDecoder,
 };
-
-/// Ends a sequence that was cut off.
-const TERMINATOR: u8 = 0x9c;
 
 /// Owns limits and a palette, and decodes pictures one after another.
 ///
-/// What is allocated: a canvas, which becomes the image. A picture that outgrows it moves to a larger one: its rows are carried
-/// there, the old canvas is given back, and reading goes on. No byte is kept, and at most the last 4,096 are read again. A canvas
-/// that can't be had is [`SixelError::OutOfMemory`].
+/// What is allocated: a canvas, which becomes the image. A picture that outgrows it is read again from its first byte on a
+/// larger one. No canvas has twice as many pixels as the limits allow, but for a first one of 64 x 6. A canvas that can't be
+/// had is [`SixelError::OutOfMemory`](crate::SixelError::OutOfMemory).
 ///
 /// - [`Self::decode`] and [`Self::decode_from_dcs`] have all bytes before them and look ahead: at the raster where one
 ///   stands before the sixels, else at the first bands and how many there are. So nearly every picture is allocated once,
-///   in its own size.
-/// - A streaming decoder starts with 64 x 6 pixels. Each larger canvas is for what the picture needs by then and what the bytes
-///   at hand seem to add; a side that falls short again becomes at least twice as wide or three times as tall. Its finish moves
-///   the rows together, where they are not, and gives back what is left of the canvas.
-/// - At any time, also while a picture moves, no more is allocated than four times the picture's bytes, or some KiB, unless
-///   the look ahead was misled. No canvas has more pixels than the limits allow, but for the first.
+///   in its own size. Where the look was too small, a second one goes through every command.
+/// - A streaming decoder starts with a canvas of the limits' size where they allow at most 1,048,576 pixels (width x
+///   height). Else it starts with 64 x 6. A picture that outgrows this gets the size that its bytes up to there need, and
+///   at least twice the width or four times the height, whichever was too small. For that the bytes that it has read are
+///   buffered. Its finish moves the rows together and gives back what is left of the canvas.
 ///
 /// [`Self::decode_onto`] allocates nothing.
 ///
 /// A refusal comes with its place, counted from the first byte of the input or of the stream, however it was cut, and with
-/// what the refused byte needed ([`SixelError::telling`]).
+/// what the refused byte needed ([`SixelError::telling`](crate::SixelError::telling)). The bytes are read again for that. A
+/// streaming decoder has them only while it buffers them: where it starts with a canvas of the limits' size, a refusal has
+/// neither. A session on a canvas that is lent can be asked there ([`DcsSession::explain`](crate::DcsSession::explain)).
 #[derive(Clone, Debug)]
 pub struct SixelDecoder {
     limits: Limits,
@@ -75,23 +73,25 @@ impl SixelDecoder {
         let Self { limits, palette } = self;
         let payload = look::after_header(data);
         let mut room = Room::for_payload(*limits, payload)?;
-        // A short input may be read twice; and the reader itself answers where a header does not come to its end.
-        if data.len() <= PIECE || payload.is_empty() {
-            match read(*limits, room.stride(), room.canvas(), data, palette).picture {
-                Ok(picture) => return Ok(room.image(picture)),
-                Err(Refusal::Room) => {}
-                Err(refusal) => return Err(why(refusal, &mut room, data, palette)),
-            }
-        }
-        match look::introducer(data) {
-            Some(place) => decode_sequence(room, data, place, palette),
-            None => decode_payload(room, data, DcsSettings::default(), palette),
+        match room.read(payload, |limits, stride, canvas| read(limits, stride, canvas, data, palette).picture) {
+            Ok(picture) => Ok(room.image(picture)),
+            Err(error) => Err(explain::of_reading(error, &mut room, palette, data)),
         }
     }
 
     /// Reads a payload whose header was read by somebody else.
     pub fn decode_from_dcs(&mut self, payload: &[u8], settings: DcsSettings) -> Result<SixelImage> {
-        decode_payload(Room::for_payload(self.limits, payload)?, payload, settings, &mut self.palette)
+        let Self { limits, palette } = self;
+        let mut room = Room::for_payload(*limits, payload)?;
+        let answer = room.read(payload, |limits, stride, canvas| {
+            let mut session = PayloadSession::open(limits, stride, settings, canvas, palette)?;
+            let _ = session.feed_all(canvas, payload)?;
+            session.finish(canvas, palette)
+        });
+        match answer {
+            Ok(picture) => Ok(room.image(picture)),
+            Err(error) => Err(explain::of_session::<PayloadSession>(error, &mut room, palette, payload)),
+        }
     }
 
     /// Reads as [`Self::decode`] does, onto a canvas that is lent, and allocates nothing.
@@ -108,29 +108,4 @@ impl SixelDecoder {
     pub fn begin_dcs(&mut self) -> SixelDcsStreamDecoder<'_> {
         SixelDcsStreamDecoder::new(self)
     }
-}
-
-#[cold]
-fn why(refusal: Refusal, room: &mut Room, data: &[u8], palette: &Palette) -> SixelError {
-    let (limits, stride) = (room.limits(), room.stride());
-    explain_read(limits, stride, room.canvas(), data, palette).map_or(refusal.into(), SixelError::from)
-}
-
-fn decode_payload(room: Room, payload: &[u8], settings: DcsSettings, palette: &mut Palette) -> Result<SixelImage> {
-    let mut stream = Stream::<PayloadSession>::open(room, settings, palette)?;
-    let _ = stream.feed(payload)?;
-    stream.finish(palette)
-}
-
-/// The sequence that begins at a place among the data. Reading all at once needs no end.
-fn decode_sequence(room: Room, data: &[u8], place: usize, palette: &mut Palette) -> Result<SixelImage> {
-    let mut stream = Stream::<DcsSession>::open(room, DcsSettings::default(), palette)?;
-    let mut read = || {
-        if !DcsSession::is_end(&stream.feed(&data[place..])?.status) {
-            let _ = stream.feed(&[TERMINATOR])?;
-        }
-        Ok(())
-    };
-    read().map_err(|error: SixelError| error.behind(place))?;
-    stream.finish(palette)
 }

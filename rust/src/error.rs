@@ -101,14 +101,17 @@ impl fmt::Display for Refusal {
 
 impl std::error::Error for Refusal {}
 
-/// Why there is no image. A refusal comes with its place and its need, where it has one.
+/// Why there is no image.
+///
+/// A refusal comes with its place and its need where the bytes are still there to be asked: [`SixelDecoder`](crate::SixelDecoder)
+/// says when.
 #[derive(Clone, Copy, Debug, PartialEq, Eq)]
 pub enum SixelError {
     /// Refusal 1: the bytes are no DCS sequence.
     NoSixelData(Telling),
     /// Any other refusal.
     InvalidData(Telling),
-    /// The canvas can't be allocated.
+    /// The canvas or the kept bytes can't be allocated.
     OutOfMemory,
 }
 
@@ -144,10 +147,11 @@ impl SixelError {
         self.refusal().map_or(0, Refusal::number)
     }
 
-    /// The same with so many bytes more before the place.
+    /// With place and need, where they are told of the same refusal.
     #[cold]
-    pub(crate) fn behind(self, before: usize) -> Self {
-        self.telling().map_or(self, |telling| telling.behind(before).into())
+    pub(crate) fn explained(self, tell: impl FnOnce() -> Option<Telling>) -> Self {
+        let told = self.refusal().and_then(|refusal| tell().filter(|telling| telling.refusal == refusal));
+        told.map_or(self, Self::from)
     }
 }
 

@@ -100,23 +100,6 @@ extern "C" {
         palette: *mut Registers,
         report: *mut [u64; 11],
     ) -> u64;
-    pub fn owlgantry_raw_payload_move(
-        session: *mut Numbers,
-        stride: usize,
-        length: usize,
-        report: *mut [u64; 2],
-    ) -> u64;
-    pub fn owlgantry_raw_dcs_move(session: *mut Numbers, stride: usize, length: usize, report: *mut [u64; 2]) -> u64;
-    pub fn owlgantry_raw_carry(
-        from: *const u8,
-        from_length: usize,
-        from_stride: usize,
-        width: usize,
-        height: usize,
-        to: *mut u8,
-        to_length: usize,
-        to_stride: usize,
-    ) -> u64;
     pub fn owlgantry_raw_payload_explain(
         session: *const Numbers,
         registers: *const Registers,

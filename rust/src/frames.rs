@@ -1,5 +1,4 @@
 //! The streaming decoders, each a session for a decoder that owns the palette.
-use crate::room::Room;
 use crate::stream::Stream;
 use crate::{DcsSession, DcsSettings, DcsStatus, PayloadSession, PayloadStatus, Result, SixelDecoder, SixelImage};
 
@@ -67,13 +66,13 @@ pub struct SixelStreamDecoder<'a> {
 
 impl<'a> SixelStreamDecoder<'a> {
     pub(crate) fn new(decoder: &'a mut SixelDecoder, settings: DcsSettings) -> Result<Self> {
-        let stream = Stream::open(Room::for_stream(decoder.limits())?, settings, decoder.palette())?;
+        let stream = Stream::open(decoder.limits(), settings, decoder.palette())?;
         Ok(Self { decoder, stream })
     }
 
     /// Reads a piece; after the payload's end it consumes nothing and repeats the end.
     pub fn feed(&mut self, bytes: &[u8]) -> Result<SixelFeedResult> {
-        let fed = self.stream.feed(bytes)?;
+        let fed = self.stream.feed(bytes, self.decoder.palette())?;
         let status = match fed.status {
             PayloadStatus::Ended(byte) => SixelFeedStatus::Terminated(byte),
             PayloadStatus::AllRead | PayloadStatus::StoppedForInk => SixelFeedStatus::NeedMoreData,
@@ -113,14 +112,13 @@ pub struct SixelDcsStreamDecoder<'a> {
 
 impl<'a> SixelDcsStreamDecoder<'a> {
     pub(crate) fn new(decoder: &'a mut SixelDecoder) -> Self {
-        let room = Room::for_stream(decoder.limits());
-        let stream = room.and_then(|room| Stream::open(room, DcsSettings::default(), decoder.palette()));
+        let stream = Stream::open(decoder.limits(), DcsSettings::default(), decoder.palette());
         Self { decoder, stream }
     }
 
     /// Reads a piece; after the sequence's end it consumes nothing and repeats the end.
     pub fn feed(&mut self, bytes: &[u8]) -> Result<SixelDcsFeedResult> {
-        let fed = self.stream.as_mut().map_err(|error| *error)?.feed(bytes)?;
+        let fed = self.stream.as_mut().map_err(|error| *error)?.feed(bytes, self.decoder.palette())?;
         let status = match fed.status {
             DcsStatus::AllRead | DcsStatus::StoppedForInk => SixelDcsFeedStatus::NeedMoreData,
             DcsStatus::Complete => SixelDcsFeedStatus::Complete,

@@ -5,7 +5,7 @@
 //! - [`SixelDecoder`], its two streaming decoders and [`SixelImage`] are what a user of icy_sixel knows. They allocate
 //!   a canvas for the picture; the page of [`SixelDecoder`] says how much. There is no encoder.
 //! - [`PayloadSession`], [`DcsSession`], [`read`] and [`copy`] draw on a canvas that the caller lends, tell the ink, stop
-//!   at an allowance, and allocate nothing. A session can move to another canvas ([`PayloadSession::move_to`]).
+//!   at an allowance, and allocate nothing.
 //!
 //! Both answer a refusal with the number that [`Refusal`] lists, and [`Telling`] says where and why, in words too. What the reader answers and paints is proved; this crate
 //! around it is plain Rust and tested. Its unsafe code is one module: FFI calls, where slices become pointers and lengths,
@@ -25,6 +25,7 @@
 mod calls;
 mod decoder;
 mod error;
+mod explain;
 mod ffi;
 mod frames;
 mod image;
@@ -34,8 +35,6 @@ mod palette;
 mod room;
 mod session;
 mod settings;
-#[allow(unsafe_code, missing_docs)]
-mod standin; // TEMPORARY
 mod stream;
 mod telling;
 
@@ -48,8 +47,7 @@ pub use image::{BackgroundMode, PixelAspectRatio, SixelImage};
 pub use limits::Limits;
 pub use palette::Palette;
 pub use session::{
-    carry, copy, explain_read, read, DcsSession, DcsStatus, Fed, Moved, PayloadSession, PayloadStatus, Picture, Ratio,
-    Reading,
+    copy, explain_read, read, DcsSession, DcsStatus, Fed, PayloadSession, PayloadStatus, Picture, Ratio, Reading,
 };
 pub use settings::DcsSettings;
 pub use telling::{Need, Telling, Thing};

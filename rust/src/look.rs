@@ -6,10 +6,8 @@ use crate::Limits;
 pub type Size = [usize; 2];
 
 const BAND: usize = 6;
-/// So many bytes are looked at one by one, and on to the end of a band, but no further than the second number. Behind them the
-/// bands are only counted.
+/// So many bytes are looked at one by one, and on to the end of a band. Behind them the bands are only counted.
 const CLOSELY: usize = 4_096;
-const FARTHEST: usize = 65_536;
 /// So many bytes of colours are skipped at once.
 const SKIPPED: usize = 16;
 /// Above all limits: what follows of a number makes no difference.
@@ -23,54 +21,34 @@ pub fn after_header(bytes: &[u8]) -> &[u8] {
     header.iter().position(|&byte| byte == b'q').map_or(&[], |place| &header[place + 1..])
 }
 
-fn after_introducer(bytes: &[u8]) -> Option<&[u8]> {
-    match &bytes[introducer(bytes)?..] {
-        [0x90, header @ ..] | [_, _, header @ ..] => Some(header),
-        _ => None,
-    }
-}
-
-/// Where the first introducer stands.
-pub fn introducer(bytes: &[u8]) -> Option<usize> {
-    let mut start = 0;
+fn after_introducer(mut bytes: &[u8]) -> Option<&[u8]> {
     loop {
-        let place = start + bytes[start..].iter().position(|&byte| byte == 0x1b || byte == 0x90)?;
-        match bytes[place..] {
-            [0x90, ..] | [_, b'P', ..] => return Some(place),
-            _ => start = place + 1,
+        let place = bytes.iter().position(|&byte| byte == 0x1b || byte == 0x90)?;
+        match &bytes[place..] {
+            [0x90, header @ ..] | [_, b'P', header @ ..] => return Some(header),
+            _ => bytes = &bytes[place + 1..],
         }
     }
 }
 
-/// What a raster says that stands before all sixels, else what the first bands need and how many there are.
-pub fn size(payload: &[u8], limits: Limits) -> Size {
-    let mut walk = Walk::new(payload, limits);
+/// A quick look: what a raster says that stands before all sixels, else what the first bands need and how many there are.
+pub fn quick(payload: &[u8], limits: Limits) -> Size {
+    let close = payload.len().saturating_sub(CLOSELY);
+    let mut walk = Walk::new(payload, limits, Some(close));
     walk.walk();
     walk.count_bands();
     walk.size
 }
 
-/// How many columns the next bands need, with the pen that many columns to the right.
-pub fn columns(rest: &[u8], column: usize, limits: Limits) -> usize {
-    let mut walk = Walk { column, ..Walk::new(&rest[..rest.len().min(FARTHEST)], limits) };
+/// A look at every command: what they need, up to the first that the limits refuse.
+pub fn thorough(payload: &[u8], limits: Limits) -> Size {
+    let mut walk = Walk::new(payload, limits, None);
     walk.walk();
-    walk.size[0]
-}
-
-/// How many rows there are up to the last sixel, with the pen at the first.
-pub fn rows(rest: &[u8]) -> usize {
-    bands(rest).map_or(0, |count| BAND * (count + 1))
-}
-
-/// How many `-` stand before the last sixel; none of an empty payload.
-fn bands(rest: &[u8]) -> Option<usize> {
-    let (count, length) = lines(rest)?;
-    let tail = rest[..length].iter().rev().take_while(|&&byte| !is_sixel(byte));
-    Some(count - tail.filter(|&&byte| byte == b'-').count())
+    walk.size
 }
 
 /// Bytes that end a payload (rule 2.7).
-fn ends(byte: u8) -> bool {
+pub fn ends(byte: u8) -> bool {
     matches!(byte, 0x18 | 0x1a | 0x1b | 0x80..=0x9f)
 }
 
@@ -88,9 +66,8 @@ struct Walk<'a> {
     /// What is still to be looked at.
     rest: &'a [u8],
     limits: Limits,
-    /// It ends with a raster, at a band's end where no more bytes are left than the first number, and at any byte where no more are
-    /// left than the second.
-    close: [usize; 2],
+    /// A quick look ends with a raster, or a band after which no more bytes are left than this.
+    close: Option<usize>,
     size: Size,
     column: usize,
     row: usize,
@@ -100,16 +77,12 @@ struct Walk<'a> {
 }
 
 impl<'a> Walk<'a> {
-    fn new(payload: &'a [u8], limits: Limits) -> Self {
-        let close = [CLOSELY, FARTHEST].map(|bytes| payload.len().saturating_sub(bytes));
+    fn new(payload: &'a [u8], limits: Limits, close: Option<usize>) -> Self {
         Self { rest: payload, limits, close, size: [1, 1], column: 0, row: 0, repeat: 1, raster: [1, 1] }
     }
 
     fn walk(&mut self) {
         while let Some((&byte, rest)) = self.rest.split_first() {
-            if rest.len() < self.close[1] {
-                break;
-            }
             self.rest = rest;
             match byte {
                 b'?'..=b'~' => {
@@ -122,7 +95,7 @@ impl<'a> Walk<'a> {
                 b'-' => {
                     self.end_line();
                     self.row += BAND;
-                    if self.rest.len() <= self.close[0] {
+                    if self.close.is_some_and(|close| self.rest.len() <= close) {
                         return;
                     }
                 }
@@ -216,7 +189,7 @@ impl<'a> Walk<'a> {
         let [_, _, width, height] = values;
         self.raster = [(width, 0), (height, 1)].map(|(side, old)| if side > 0 { side } else { self.raster[old] });
         self.grow_to_raster();
-        if blank && self.size != [1, 1] {
+        if blank && self.close.is_some() && self.size != [1, 1] {
             self.make_whole_bands();
             self.stop();
         }
@@ -243,9 +216,10 @@ impl<'a> Walk<'a> {
 
     /// Adds the bands that the walk has left out, up to the last that has a sixel.
     fn count_bands(&mut self) {
-        if let Some(count) = bands(self.rest) {
-            self.size[1] = self.allowed_rows(self.row.saturating_add(BAND * (count + 1)));
-        }
+        let Some((mut count, length)) = lines(self.rest) else { return };
+        let tail = self.rest[..length].iter().rev().take_while(|&&byte| !is_sixel(byte));
+        count -= tail.filter(|&&byte| byte == b'-').count();
+        self.size[1] = self.allowed_rows(self.row.saturating_add(BAND * (count + 1)));
     }
 }
 
@@ -276,8 +250,8 @@ fn lines_of_part(part: &[u8]) -> (u8, bool) {
 
 #[cfg(test)]
 mod tests {
-    use super::{after_header, columns, rows, size};
-    use crate::{DcsSettings, Limits, SixelImage};
+    use super::{after_header, quick, thorough};
+    use crate::{read, DcsSettings, Limits, Palette, Refusal, SixelImage};
 
     const PARTS: [&str; 24] = [
         "~",
@@ -316,49 +290,38 @@ mod tests {
         (0..4_000).map(move |_| (0..below(25)).map(|_| PARTS[below(PARTS.len())]).collect())
     }
 
-    /// Up to a raster a look sees the size of what is short.
     #[test]
-    fn a_look_sees_the_size() {
-        for payload in payloads().filter(|payload| !payload.contains('"')) {
+    fn a_thorough_look_sees_the_size() {
+        for payload in payloads() {
             let image = SixelImage::decode_from_dcs(payload.as_bytes(), DcsSettings::default()).unwrap();
-            assert_eq!(size(payload.as_bytes(), Limits::CRATE), [image.width, image.height], "{payload:?}");
-            assert!(columns(payload.as_bytes(), 0, Limits::CRATE) == image.width, "{payload:?}");
+            assert_eq!(thorough(payload.as_bytes(), Limits::CRATE), [image.width, image.height], "{payload:?}");
         }
     }
 
-    /// No look asks for more than the limits allow.
+    /// Whatever the limits refuse, it is not for want of room; and no look asks for more than they allow.
     #[test]
     fn a_look_keeps_to_the_limits() {
         let limits = Limits { width: 60, height: 48, repeats: 29, pixels: 1_000 };
         for payload in payloads() {
-            let [width, height] = size(payload.as_bytes(), limits);
-            assert!(width <= 60 && height <= 48 && width * height <= 1_000, "{payload:?}: {width} x {height}");
+            let [width, height] = thorough(payload.as_bytes(), limits);
+            let mut canvas = vec![0; 4 * width * height];
+            let reading = read(limits, width, &mut canvas, payload.as_bytes(), &mut Palette::standard());
+            assert_ne!(reading.picture, Err(Refusal::Room), "{payload:?}");
+            for [width, height] in [[width, height], quick(payload.as_bytes(), limits)] {
+                assert!(width <= 60 && height <= 48 && width * height <= 1_000, "{payload:?}: {width} x {height}");
+            }
         }
     }
 
     #[test]
-    fn a_look_believes_the_raster_and_counts_the_bands() {
-        let look = |payload: &str| size(payload.as_bytes(), Limits::CRATE);
+    fn a_quick_look_believes_the_raster_and_counts_the_bands() {
+        let look = |payload: &str| quick(payload.as_bytes(), Limits::CRATE);
         assert_eq!(look("#1;2;1;1;1\"1;1;20;10!99~"), [20, 12]);
         assert_eq!(look("#1~\"1;1;20;10!99~"), [100, 10]);
         let many = "#1!9~-".repeat(2_000);
         assert_eq!(look(&(many.clone() + "!12~--\x1b\\-~-~")), [9, 12_006]);
         assert_eq!(look(&(many.clone() + "--")), [9, 12_000]);
-    }
-
-    /// A band without an end is not looked through.
-    #[test]
-    fn a_look_ends() {
-        let long = "~$".repeat(100_000);
-        assert_eq!(size((long.clone() + "!40~-~").as_bytes(), Limits::CRATE), [1, 12]);
-        assert_eq!(columns((long + "!40~").as_bytes(), 6, Limits::CRATE), 7);
-    }
-
-    #[test]
-    fn what_is_left_of_a_picture() {
-        assert_eq!(columns(b"~~!4~$!9~-~", 20, Limits::CRATE), 26);
-        assert_eq!(columns(b"~~!4~$!90~-~", 20, Limits::CRATE), 90);
-        assert_eq!([b"".as_slice(), b"~", b"~-~--", b"---~\x1b-~"].map(rows), [0, 6, 12, 24]);
+        assert_eq!(thorough((many + "!12~").as_bytes(), Limits::CRATE), [12, 12_006]);
     }
 
     #[test]

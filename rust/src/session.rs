@@ -103,32 +103,7 @@ impl Picture {
     }
 }
 
-/// The picture of a session that has moved to another canvas: its rows have to be carried there ([`Self::carry`]). Both are 0 where a
-/// DCS session has not come to its `q`: then there is no picture, and nothing to carry.
-#[derive(Clone, Copy, Debug, PartialEq, Eq)]
-#[must_use = "the picture is on the old canvas until it is carried"]
-pub struct Moved {
-    /// Its columns.
-    pub width: usize,
-    /// Its rows.
-    pub height: usize,
-}
-
-impl Moved {
-    fn of_report([width, height]: [u64; 2]) -> Self {
-        Self { width: width as usize, height: height as usize }
-    }
-
-    /// Carries the picture from the old canvas to the new one, as [`carry`] does; nothing where there is none.
-    pub fn carry(self, from: &[u8], from_stride: usize, to: &mut [u8], to_stride: usize) -> Result<(), Refusal> {
-        match self {
-            Self { width: 0, height: 0 } => Ok(()),
-            Self { width, height } => carry(from, from_stride, width, height, to, to_stride),
-        }
-    }
-}
-
-/// A session for a payload, without its DCS header. Every call is lent the same canvas, until the session moves to another.
+/// A session for a payload, without its DCS header. Every call is lent the same canvas.
 #[derive(Clone)]
 #[must_use]
 pub struct PayloadSession(calls::Memory);
@@ -168,52 +143,6 @@ impl PayloadSession {
         Refusal::judge(answer).map(|()| Picture::of_report(report))
     }
 
-    /// Moves the session to a canvas of that stride and length in bytes, which every later call is lent in place of the old one. The
-    /// answer says which picture has to be carried there ([`Moved::carry`]). No canvas is written to.
-    ///
-    /// Refused with 9 where the session has failed, 11 where the stride is out of range or the length has no whole row, and 12 where
-    /// there is no room for what the picture has come to. The session is then as it was.
-    ///
-    /// A session may move whenever no call is under way, to a larger canvas or a smaller one. What it reads from there on is what
-    /// it would read had it been opened on the new canvas. So a picture that outgrows its canvas is not lost: 7 fails the session,
-    /// but a clone from before the call moves, and reads the same bytes again, all of them, with the same allowance or more, on a
-    /// canvas that is neither narrower nor lower. The rows are carried from the canvas as the refused call left it.
-    ///
-    /// ```
-    /// use owlgantry::{DcsSettings, Limits, Palette, PayloadSession, Refusal, Thing};
-    /// let (limits, mut palette) = (Limits::CRATE, Palette::standard());
-    /// let (mut stride, mut rows) = (4, 6);
-    /// let mut canvas = vec![0; 4 * stride * rows];
-    /// let mut session = PayloadSession::open(limits, stride, DcsSettings::default(), &mut canvas, &palette)?;
-    /// for bytes in [&b"#1;2;100;0;0!3~"[..], b"#1;2;0;0;100!20~-~"] {
-    ///     loop {
-    ///         let before = session.clone();
-    ///         match session.feed(&mut canvas, bytes, usize::MAX) {
-    ///             Err(Refusal::Room) => session = before,
-    ///             fed => break _ = fed?,
-    ///         }
-    ///         let need = session.explain(&canvas, bytes, usize::MAX).and_then(|telling| telling.need).expect("7 has a need");
-    ///         let old_stride = stride;
-    ///         match need.thing {
-    ///             Thing::Columns => stride = (2 * stride).max(need.needed as usize),
-    ///             _ => rows = (2 * rows).max(need.needed as usize),
-    ///         }
-    ///         let mut larger = vec![0; 4 * stride * rows];
-    ///         let picture = session.move_to(stride, larger.len())?;
-    ///         picture.carry(&canvas, old_stride, &mut larger, stride)?;
-    ///         canvas = larger;
-    ///     }
-    /// }
-    /// let picture = session.finish(&mut canvas, &mut palette)?;
-    /// assert_eq!((picture.width, picture.height), (23, 12));
-    /// assert_eq!(canvas[..4], [255, 0, 0, 255]);
-    /// # Ok::<(), Refusal>(())
-    /// ```
-    pub fn move_to(&mut self, stride: usize, length: usize) -> Result<Moved, Refusal> {
-        let (answer, report) = calls::payload_move(&mut self.0, stride, length);
-        Refusal::judge(answer).map(|()| Moved::of_report(report))
-    }
-
     /// Where and why a feed would be refused, or none where it would not. The bytes are read without painting and the session
     /// stays as it is; of the canvas only the length counts. The place is counted from the first of these bytes.
     ///
@@ -245,8 +174,7 @@ impl PayloadSession {
     pub fn abort(self) {}
 }
 
-/// A session for a whole DCS sequence: introducer, header, payload and end. Every call is lent the same canvas, until the session
-/// moves to another.
+/// A session for a whole DCS sequence: introducer, header, payload and end. Every call is lent the same canvas.
 #[derive(Clone)]
 #[must_use]
 pub struct DcsSession(calls::Memory);
@@ -277,12 +205,6 @@ impl DcsSession {
     pub fn finish(mut self, canvas: &mut [u8], palette: &mut Palette) -> Result<Picture, Refusal> {
         let (answer, report) = calls::dcs_finish(&mut self.0, canvas, &mut palette.0);
         Refusal::judge(answer).map(|()| Picture::of_report(report))
-    }
-
-    /// As [`PayloadSession::move_to`]. Before the `q` of the header there is no picture, and nothing to carry.
-    pub fn move_to(&mut self, stride: usize, length: usize) -> Result<Moved, Refusal> {
-        let (answer, report) = calls::dcs_move(&mut self.0, stride, length);
-        Refusal::judge(answer).map(|()| Moved::of_report(report))
     }
 
     /// As [`PayloadSession::explain`].
@@ -326,17 +248,4 @@ pub fn explain_read(limits: Limits, stride: usize, canvas: &[u8], bytes: &[u8], 
 /// Copies a picture's rows, tightly packed, to the front of `out`, whose later bytes stay.
 pub fn copy(canvas: &[u8], stride: usize, width: usize, height: usize, out: &mut [u8]) -> Result<(), Refusal> {
     Refusal::judge(calls::copy(canvas, stride, width, height, out))
-}
-
-/// Carries a picture's rows from one canvas to another, each at its canvas's stride. All other bytes of the new one stay. Refused
-/// with 12 where one of the two canvases has no such picture; then nothing is written.
-pub fn carry(
-    from: &[u8],
-    from_stride: usize,
-    width: usize,
-    height: usize,
-    to: &mut [u8],
-    to_stride: usize,
-) -> Result<(), Refusal> {
-    Refusal::judge(calls::carry(from, from_stride, [width, height], to, to_stride))
 }

@@ -1,22 +1,11 @@
-//! A session on a canvas of its own, which grows. No byte of the stream is kept between two calls.
-//!
-//! The bytes are read in pieces, and the session is kept as it was before each. Where a piece is refused, the kept session reads it
-//! again in smaller ones, up to the few bytes that are refused, and these are explained: so the place of a refusal is known,
-//! or for want of room what is needed. All bytes before the refused one have been read again by then, on the same canvas, and have
-//! painted the same pixels as before. So the session stands between two calls, moves to a larger canvas, and goes on.
+//! A session on a canvas of its own.
 use crate::room::Room;
 use crate::{
-    DcsSession, DcsSettings, DcsStatus, Fed, Limits, Moved, Need, Palette, PayloadSession, PayloadStatus, Picture,
+    explain, look, DcsSession, DcsSettings, DcsStatus, Fed, Limits, Palette, PayloadSession, PayloadStatus, Picture,
     Refusal, Result, SixelError, SixelImage, Telling,
 };
 
 type Judged<T> = std::result::Result<T, Refusal>;
-
-/// So many bytes are read at once, and so many are read again at most where one of them is refused.
-pub const PIECE: usize = 4_096;
-/// Explaining takes some thirty times as long as reading, and so what is refused is narrowed down before, by this factor.
-const NARROWER: usize = 16;
-const CLOSE: usize = PIECE / NARROWER / NARROWER;
 
 /// Both kinds of session, with the largest allowance there is.
 pub trait Session: Clone {
@@ -28,14 +17,28 @@ pub trait Session: Clone {
         canvas: &mut [u8],
         palette: &Palette,
     ) -> Judged<Self>;
-    fn feed_some(&mut self, canvas: &mut [u8], bytes: &[u8]) -> Judged<Fed<Self::Status>>;
-    /// Whether it has ended.
-    fn is_end(status: &Self::Status) -> bool;
+    /// Whether it stopped for ink, and what it did.
+    fn feed_some(&mut self, canvas: &mut [u8], bytes: &[u8]) -> Judged<(bool, Fed<Self::Status>)>;
     fn end(self, canvas: &mut [u8], palette: &mut Palette) -> Judged<Picture>;
-    fn move_to(&mut self, stride: usize, length: usize) -> Judged<Moved>;
+    /// The part of what it has read that is payload.
+    fn payload(bytes: &[u8]) -> &[u8];
     /// What a feed of these bytes is refused with, and what a finish is.
     fn explain_piece(&self, canvas: &[u8], bytes: &[u8]) -> Option<Telling>;
     fn explain_end(&self, canvas: &[u8]) -> Option<Telling>;
+    /// What all its bytes are refused with, by the limits alone.
+    fn explain_all(limits: Limits, palette: &Palette, bytes: &[u8]) -> Option<Telling>;
+
+    /// A stop comes only where the ink would pass what a number can hold.
+    fn feed_all(&mut self, canvas: &mut [u8], bytes: &[u8]) -> Judged<Fed<Self::Status>> {
+        let mut before = 0;
+        loop {
+            let (stopped, fed) = self.feed_some(canvas, &bytes[before..])?;
+            before += fed.consumed;
+            if !stopped {
+                return Ok(Fed { consumed: before, ..fed });
+            }
+        }
+    }
 }
 
 impl Session for PayloadSession {
@@ -51,20 +54,17 @@ impl Session for PayloadSession {
         Self::open(limits, stride, settings, canvas, palette)
     }
 
-    fn feed_some(&mut self, canvas: &mut [u8], bytes: &[u8]) -> Judged<Fed<PayloadStatus>> {
-        self.feed(canvas, bytes, usize::MAX)
-    }
-
-    fn is_end(status: &PayloadStatus) -> bool {
-        matches!(status, PayloadStatus::Ended(_))
+    fn feed_some(&mut self, canvas: &mut [u8], bytes: &[u8]) -> Judged<(bool, Fed<PayloadStatus>)> {
+        let fed = self.feed(canvas, bytes, usize::MAX)?;
+        Ok((fed.status == PayloadStatus::StoppedForInk, fed))
     }
 
     fn end(self, canvas: &mut [u8], palette: &mut Palette) -> Judged<Picture> {
         self.finish(canvas, palette)
     }
 
-    fn move_to(&mut self, stride: usize, length: usize) -> Judged<Moved> {
-        self.move_to(stride, length)
+    fn payload(bytes: &[u8]) -> &[u8] {
+        bytes
     }
 
     fn explain_piece(&self, canvas: &[u8], bytes: &[u8]) -> Option<Telling> {
@@ -73,6 +73,10 @@ impl Session for PayloadSession {
 
     fn explain_end(&self, canvas: &[u8]) -> Option<Telling> {
         self.explain_finish(canvas)
+    }
+
+    fn explain_all(limits: Limits, palette: &Palette, bytes: &[u8]) -> Option<Telling> {
+        explain::payload(limits, palette, bytes)
     }
 }
 
@@ -83,20 +87,17 @@ impl Session for DcsSession {
         Self::open(limits, stride, canvas.len(), palette)
     }
 
-    fn feed_some(&mut self, canvas: &mut [u8], bytes: &[u8]) -> Judged<Fed<DcsStatus>> {
-        self.feed(canvas, bytes, usize::MAX)
-    }
-
-    fn is_end(status: &DcsStatus) -> bool {
-        !matches!(status, DcsStatus::AllRead | DcsStatus::StoppedForInk)
+    fn feed_some(&mut self, canvas: &mut [u8], bytes: &[u8]) -> Judged<(bool, Fed<DcsStatus>)> {
+        let fed = self.feed(canvas, bytes, usize::MAX)?;
+        Ok((fed.status == DcsStatus::StoppedForInk, fed))
     }
 
     fn end(self, canvas: &mut [u8], palette: &mut Palette) -> Judged<Picture> {
         self.finish(canvas, palette)
     }
 
-    fn move_to(&mut self, stride: usize, length: usize) -> Judged<Moved> {
-        self.move_to(stride, length)
+    fn payload(bytes: &[u8]) -> &[u8] {
+        look::after_header(bytes)
     }
 
     fn explain_piece(&self, canvas: &[u8], bytes: &[u8]) -> Option<Telling> {
@@ -106,92 +107,94 @@ impl Session for DcsSession {
     fn explain_end(&self, canvas: &[u8]) -> Option<Telling> {
         self.explain_finish(canvas)
     }
+
+    fn explain_all(limits: Limits, palette: &Palette, bytes: &[u8]) -> Option<Telling> {
+        explain::dcs(limits, palette, bytes)
+    }
 }
 
 /// A session and its canvas.
 pub struct Stream<S> {
+    settings: DcsSettings,
     room: Room,
     session: S,
-    /// How many bytes it has read.
-    read: usize,
+    /// A buffer of the bytes that it has read, which are read again on a larger canvas. There is none once the canvas has
+    /// room for whatever the limits allow.
+    kept: Option<Vec<u8>>,
 }
 
 impl<S: Session> Stream<S> {
-    pub fn open(mut room: Room, settings: DcsSettings, palette: &Palette) -> Result<Self> {
-        let session = S::open_on(room.limits(), room.stride(), settings, room.canvas(), palette)?;
-        Ok(Self { room, session, read: 0 })
+    pub fn open(limits: Limits, settings: DcsSettings, palette: &Palette) -> Result<Self> {
+        let mut room = Room::for_stream(limits)?;
+        let session = S::open_on(limits, room.stride(), settings, room.canvas(), palette)?;
+        let kept = room.may_retry().then(Vec::new);
+        Ok(Self { settings, room, session, kept })
     }
 
-    /// Reads all of the bytes, or up to the end.
-    pub fn feed(&mut self, bytes: &[u8]) -> Result<Fed<S::Status>> {
-        let (start, mut size) = (self.read, PIECE);
-        loop {
-            let rest = &bytes[self.read - start..];
-            let piece = &rest[..rest.len().min(size)];
-            let before = self.session.clone();
-            match self.session.feed_some(self.room.canvas(), piece) {
-                Ok(fed) => {
-                    self.read += fed.consumed;
-                    let consumed = self.read - start;
-                    if consumed == bytes.len() || S::is_end(&fed.status) {
-                        return Ok(Fed { consumed, ..fed });
-                    }
-                }
-                Err(refusal) => {
-                    self.session = before;
-                    size = self.answer(refusal, rest, piece.len())?;
-                }
+    pub fn feed(&mut self, bytes: &[u8], palette: &Palette) -> Result<Fed<S::Status>> {
+        let Some(kept) = &mut self.kept else {
+            return Ok(self.session.feed_all(self.room.canvas(), bytes)?);
+        };
+        // Before anything is read: else a larger canvas would miss these bytes.
+        kept.try_reserve(bytes.len()).map_err(|_| SixelError::OutOfMemory)?;
+        match self.session.feed_all(self.room.canvas(), bytes) {
+            Ok(fed) => {
+                kept.extend_from_slice(&bytes[..fed.consumed]);
+                Ok(fed)
+            }
+            Err(Refusal::Room) => self.feed_again(bytes, palette),
+            Err(refusal) => {
+                kept.extend_from_slice(bytes);
+                Err(self.explain(refusal.into(), palette))
             }
         }
     }
 
-    /// What to do where so many of the bytes are refused: how many to read next.
+    /// Reads everything, and these bytes, on a larger canvas.
     #[cold]
-    fn answer(&mut self, refusal: Refusal, bytes: &[u8], refused: usize) -> Result<usize> {
-        if refused > CLOSE {
-            return Ok(refused.div_ceil(NARROWER));
+    fn feed_again(&mut self, bytes: &[u8], palette: &Palette) -> Result<Fed<S::Status>> {
+        let Self { settings, room, session, kept } = self;
+        let Some(all) = kept else { return Err(Refusal::Room.into()) };
+        let before = all.len();
+        all.extend_from_slice(bytes);
+        let answer = room.retry(S::payload(all), |limits, stride, canvas| {
+            let mut larger = S::open_on(limits, stride, *settings, canvas, palette)?;
+            let fed = larger.feed_all(canvas, all)?;
+            Ok((larger, fed))
+        });
+        let (larger, fed) = match answer {
+            Ok(answer) => answer,
+            Err(error) => return Err(self.explain(error, palette)),
+        };
+        *session = larger;
+        all.truncate(fed.consumed);
+        if !room.may_retry() {
+            *kept = None;
         }
-        let (canvas, piece) = (self.room.canvas(), &bytes[..refused]);
-        let told = self.session.explain_piece(canvas, piece);
-        if let Some(Telling { refusal: Refusal::Room, place: Some(place), need: Some(need) }) = told {
-            return self.grow(bytes, place, need).map(|()| PIECE);
-        }
-        // The session that was kept has to fail too.
-        let _ = self.session.feed_some(canvas, piece);
-        Err(self.explained(refusal, told))
+        Ok(Fed { consumed: fed.consumed - before, ..fed })
     }
 
-    /// Reads up to the refused byte, and makes the room that it needs.
-    fn grow(&mut self, bytes: &[u8], place: usize, need: Need) -> Result<()> {
-        let (before, rest) = bytes.split_at(place);
-        self.read += self.session.feed_some(self.room.canvas(), before)?.consumed;
-        let grown = self.room.grow(&mut self.session, need, rest);
-        if grown.is_err() {
-            // Without memory the byte is refused for good.
-            let _ = self.session.feed_some(self.room.canvas(), &rest[..1]);
-        }
-        grown
+    /// A failed stream keeps its bytes no longer than to say where it failed.
+    #[cold]
+    fn explain(&mut self, error: SixelError, palette: &Palette) -> SixelError {
+        let all = self.kept.take().unwrap_or_default();
+        explain::of_session::<S>(error, &mut self.room, palette, &all)
     }
 
-    fn explained(&self, refusal: Refusal, told: Option<Telling>) -> SixelError {
-        let told = told.filter(|telling| telling.refusal == refusal);
-        told.map_or(refusal.into(), |telling| telling.behind(self.read).into())
-    }
-
-    pub fn finish(mut self, palette: &mut Palette) -> Result<SixelImage> {
-        loop {
-            let refusal = match self.session.clone().end(self.room.canvas(), palette) {
-                Ok(picture) => return Ok(self.room.image(picture)),
-                Err(refusal) => refusal,
-            };
-            // A raster that was pending may yet need room on both sides, one after the other.
-            let told = self.session.explain_end(self.room.canvas());
-            match told {
-                Some(Telling { refusal: Refusal::Room, need: Some(need), .. }) => {
-                    self.room.grow(&mut self.session, need, &[])?;
-                }
-                _ => return Err(self.explained(refusal, told)),
-            }
+    pub fn finish(self, palette: &mut Palette) -> Result<SixelImage> {
+        let Self { settings, mut room, session, kept } = self;
+        let answer = match (session.end(room.canvas(), palette), &kept) {
+            (Err(Refusal::Room), Some(all)) => room.retry(S::payload(all), |limits, stride, canvas| {
+                let mut larger = S::open_on(limits, stride, settings, canvas, palette)?;
+                let _ = larger.feed_all(canvas, all)?;
+                larger.end(canvas, palette)
+            }),
+            (answer, _) => answer.map_err(SixelError::from),
+        };
+        match (answer, kept) {
+            (Ok(picture), _) => Ok(room.image(picture)),
+            (Err(error), Some(all)) => Err(explain::of_session::<S>(error, &mut room, palette, &all)),
+            (Err(error), None) => Err(error),
         }
     }
 }

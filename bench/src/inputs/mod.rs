@@ -25,7 +25,7 @@ pub enum Raster {
 }
 
 impl Raster {
-    pub fn text(self, width: usize, height: usize) -> String {
+    fn text(self, width: usize, height: usize) -> String {
         match self {
             Self::Given => format!("\"1;1;{width};{height}"),
             Self::Missing => String::new(),

@@ -3,7 +3,6 @@ pub mod called;
 pub mod growth;
 pub mod late;
 pub mod memory;
-pub mod owned;
 pub mod recordings;
 pub mod small;
 pub mod whole;
