@@ -1,5 +1,5 @@
 //! Links the reader. OWLGANTRY_LIB names its archive or an object of it; without the variable it is the archive that
-//! `rt staticlib owlgantry` writes.
+//! `tools/staticlib owlgantry` writes.
 use std::{env, fs, path::Path, path::PathBuf, process::exit, process::Command};
 
 fn main() {
@@ -22,7 +22,7 @@ fn reader() -> PathBuf {
         Path::new(&here).join("../target/staticlib/libowlgantry.a")
     });
     if !path.is_file() {
-        fail(&format!("{} is missing; `rt staticlib owlgantry` writes the archive", path.display()));
+        fail(&format!("{} is missing; `tools/staticlib owlgantry` writes the archive", path.display()));
     }
     path
 }

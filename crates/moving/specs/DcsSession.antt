@@ -10,7 +10,7 @@ use Rattle.moving.specs.declared.Moving.TheVariants as moves
 use Rattle.moving.specs.declared.dcs_session.Moved.{Moved}
 use Rattle.moving.specs.Session as payload
 
--- the size of the picture: before `q` there is none
+-- rule 14.3: the size of the picture: before `q` there is none
 unfoldable pub shown_size : Phase → VisibleArea → VisibleArea
 shown_size (phases.Before t) a = record { width = 0; height = 0 }
 shown_size phases.Within a = a

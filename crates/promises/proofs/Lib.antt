@@ -49,6 +49,7 @@ pub mod OneWords
 pub mod OneDump
 pub mod OnePieces
 pub mod OneInplace
+pub mod OneMoving
 pub mod OneExplain
 pub mod OneOwlgantry
 pub mod OneTiming

@@ -79,5 +79,5 @@ bin-one κs a z z' e e' p q = known bin_from bin-back (only p q)
 pub columns-one : One columns'.ps columns'.r columns.Learnt
 columns-one κs a z z' e e' p q = known columns_from columns-back (only p q)
 
-pub top_one : One top'.ps top'.r top.Learnt
-top_one κs a z z' e e' p q = known top_from top_back (only p q)
+pub top-one : One top'.ps top'.r top.Learnt
+top-one κs a z z' e e' p q = known top_from top_back (only p q)

@@ -28,7 +28,7 @@ use Rattle.colours.proofs.Palette.of_table.Reads as palette-of-table
 use Rattle.colours.proofs.Palette.of_table.Kinds as palette-of-table'
 use Rattle.colours.proofs.marks.is_marked.Reads as marks-is-marked
 use Rattle.colours.proofs.marks.is_marked.Kinds as marks-is-marked'
-use Rattle.colours.proofs.marks.begin.Reads as Marks-begin
+use Rattle.colours.proofs.marks.begin.Reads as marks-begin
 use Rattle.colours.proofs.marks.begin.Kinds as marks-begin'
 use Rattle.colours.proofs.marks.hand_on.Reads as marks-hand-on
 use Rattle.colours.proofs.marks.hand_on.Kinds as marks-hand-on'
@@ -84,7 +84,7 @@ palette-lasting-one κs a z z' e e' p q = only p q
 pub marks-is-marked-one : One marks-is-marked'.ps marks-is-marked'.r marks-is-marked.Learnt
 marks-is-marked-one κs a z z' e e' p q = only p q
 
-pub marks-begin-one : OneLent marks-begin'.ps marks-begin'.r Marks-begin.Learnt (λ κs e. e.0.now)
+pub marks-begin-one : OneLent marks-begin'.ps marks-begin'.r marks-begin.Learnt (λ κs e. e.0.now)
 marks-begin-one κs a z z' e e' p q = table-known (only p q)
 
 pub marks-hand-on-one : OneWith marks-hand-on'.ps marks-hand-on'.r marks-hand-on.Learnt (λ κs e. e.0.now)

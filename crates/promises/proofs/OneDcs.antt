@@ -31,7 +31,7 @@ use Rattle.dcs.proofs.finish.Reads as finish
 use Rattle.dcs.proofs.finish.Kinds as finish'
 use Rattle.dcs.proofs.abort.Reads as abort
 use Rattle.dcs.proofs.abort.Kinds as abort'
-use Rattle.dcs.proofs.memory.numbers_of.Reads as Numbers-of
+use Rattle.dcs.proofs.memory.numbers_of.Reads as numbers-of
 use Rattle.dcs.proofs.memory.numbers_of.Kinds as numbers-of'
 use Rattle.dcs.proofs.memory.phase_from.Reads as phase-from
 use Rattle.dcs.proofs.memory.phase_from.Kinds as phase-from'
@@ -85,7 +85,7 @@ finish-one κs a z z' e e' p q = only p q
 pub abort-one : One abort'.ps abort'.r abort.Learnt
 abort-one κs a z z' e e' p q = only p q
 
-pub numbers-of-one : One numbers-of'.ps numbers-of'.r Numbers-of.Learnt
+pub numbers-of-one : One numbers-of'.ps numbers-of'.r numbers-of.Learnt
 numbers-of-one κs a z z' e e' p q = only (p standard) (q standard)
 
 pub phase-from-one : One phase-from'.ps phase-from'.r phase-from.Learnt

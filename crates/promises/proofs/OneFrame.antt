@@ -68,7 +68,7 @@ use Rattle.fast.proofs.nothing.Reads as nothing
 use Rattle.fast.proofs.nothing.Kinds as nothing'
 use Rattle.frame.proofs.commands.define.Reads as define
 use Rattle.frame.proofs.commands.define.Kinds as define'
-use Rattle.reference.proofs.row_below.Reads as row-Below
+use Rattle.reference.proofs.row_below.Reads as row-below
 use Rattle.reference.proofs.row_below.Kinds as row-below'
 use Rattle.frame.proofs.rasters.raster_after.Reads as raster-after
 use Rattle.frame.proofs.rasters.raster_after.Kinds as raster-after'
@@ -142,7 +142,7 @@ without-command-one κs a z z' e e' p q = only p q
 pub define-one : OneWith define'.ps define'.r define.Learnt (λ κs e. e.0.now)
 define-one κs a z z' e e' p q = told-table-known (only p q)
 
-pub row-below-one : One row-below'.ps row-below'.r row-Below.Learnt
+pub row-below-one : One row-below'.ps row-below'.r row-below.Learnt
 row-below-one κs a z z' e e' p q = only p q
 
 pub register-at-one : One register-at'.ps register-at'.r register-at.Learnt
@@ -166,8 +166,8 @@ raster-after-one κs a z z' e e' p q = only p q
 pub measure-one : One measure'.ps measure'.r measure.Learnt
 measure-one κs a z z' e e' p q = only p q
 
-pub read_one : One read'.ps read'.r read.Learnt
-read_one κs a z z' e e' p q = only p q
+pub read-one : One read'.ps read'.r read.Learnt
+read-one κs a z z' e e' p q = only p q
 
 pub unread-one : One unread'.ps unread'.r unread.Learnt
 unread-one κs a z z' e e' p q = only p q

@@ -1,7 +1,7 @@
 -- Only one outcome, of every public function of `numbers` (One.antt).
 use Rattle.numbers.proofs.is_skipped.Reads as is-skipped
 use Rattle.numbers.proofs.is_skipped.Kinds as is-skipped'
-use Rattle.numbers.proofs.is_digit.Reads as is_digit
+use Rattle.numbers.proofs.is_digit.Reads as is-digit
 use Rattle.numbers.proofs.is_digit.Kinds as is-digit'
 use Rattle.numbers.proofs.is_sixel.Reads as is-sixel
 use Rattle.numbers.proofs.is_sixel.Kinds as is-sixel'
@@ -29,7 +29,7 @@ use Rattle.numbers.proofs.more_repeat.Reads as more-repeat
 use Rattle.numbers.proofs.more_repeat.Kinds as more-repeat'
 use Rattle.numbers.proofs.hold16.Reads as hold16
 use Rattle.numbers.proofs.hold16.Kinds as hold16'
-use Rattle.numbers.proofs.memory.numbers_of.Reads as Numbers-of
+use Rattle.numbers.proofs.memory.numbers_of.Reads as numbers-of
 use Rattle.numbers.proofs.memory.numbers_of.Kinds as numbers-of'
 use Rattle.numbers.proofs.memory.parameters_from.Reads as parameters-from
 use Rattle.numbers.proofs.memory.parameters_from.Kinds as parameters-from'
@@ -38,7 +38,7 @@ use Rattle.promises.proofs.One.{only, One}
 pub is-skipped-one : One is-skipped'.ps is-skipped'.r is-skipped.Learnt
 is-skipped-one κs a z z' e e' p q = only p q
 
-pub is-digit-one : One is-digit'.ps is-digit'.r is_digit.Learnt
+pub is-digit-one : One is-digit'.ps is-digit'.r is-digit.Learnt
 is-digit-one κs a z z' e e' p q = only p q
 
 pub is-sixel-one : One is-sixel'.ps is-sixel'.r is-sixel.Learnt
@@ -80,7 +80,7 @@ more-repeat-one κs a z z' e e' p q = only p q
 pub hold16-one : One hold16'.ps hold16'.r hold16.Learnt
 hold16-one κs a z z' e e' p q = only p q
 
-pub numbers-of-one : One numbers-of'.ps numbers-of'.r Numbers-of.Learnt
+pub numbers-of-one : One numbers-of'.ps numbers-of'.r numbers-of.Learnt
 numbers-of-one κs a z z' e e' p q = only p q
 
 pub parameters-from-one : One parameters-from'.ps parameters-from'.r parameters-from.Learnt

@@ -31,8 +31,8 @@ read-onto-one κs a z z' e e' p q =
     let part = only p.1 q.1 in
     λ i. (record { answer = (read i).0.answer; part = part i }, (read i).0.palette.colors, (read i).1)
 
-pub read_one : OneWith read'.ps read'.r read.Learnt (λ κs e. e.1.1.1.0.now)
-read_one κs a z z' e e' p q = read_known (only p q)
+pub read-one : OneWith read'.ps read'.r read.Learnt (λ κs e. e.1.1.1.0.now)
+read-one κs a z z' e e' p q = read_known (only p q)
 
 pub find-one : One find'.ps find'.r find.Learnt
 find-one κs a z z' e e' p q = only p q

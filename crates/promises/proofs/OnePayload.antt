@@ -73,7 +73,7 @@ use Rattle.payload.proofs.codes.color_number.Reads as color-number
 use Rattle.payload.proofs.codes.color_number.Kinds as color-number'
 use Rattle.payload.proofs.codes.color_from.Reads as color-from
 use Rattle.payload.proofs.codes.color_from.Kinds as color-from'
-use Rattle.payload.proofs.memory.numbers_of.Reads as Numbers-of
+use Rattle.payload.proofs.memory.numbers_of.Reads as numbers-of
 use Rattle.payload.proofs.memory.numbers_of.Kinds as numbers-of'
 use Rattle.payload.proofs.memory.setup_from.Reads as setup-from
 use Rattle.payload.proofs.memory.setup_from.Kinds as setup-from'
@@ -186,7 +186,7 @@ color-number-one κs a z z' e e' p q = only p q
 pub color-from-one : One color-from'.ps color-from'.r color-from.Learnt
 color-from-one κs a z z' e e' p q = only p q
 
-pub numbers-of-one : One numbers-of'.ps numbers-of'.r Numbers-of.Learnt
+pub numbers-of-one : One numbers-of'.ps numbers-of'.r numbers-of.Learnt
 numbers-of-one κs a z z' e e' p q = only (p standard) (q standard)
 
 pub setup-from-one : One setup-from'.ps setup-from'.r setup-from.Learnt

@@ -3,7 +3,7 @@ use Rattle.pieces.proofs.open.Reads as opening
 use Rattle.pieces.proofs.open.Kinds as opening'
 use Rattle.pieces.proofs.standing_of.Reads as standing-of
 use Rattle.pieces.proofs.standing_of.Kinds as standing-of'
-use Rattle.pieces.proofs.counts_of.Reads as Counts-of
+use Rattle.pieces.proofs.counts_of.Reads as counts-of
 use Rattle.pieces.proofs.counts_of.Kinds as counts-of'
 use Rattle.pieces.proofs.take.Reads as take
 use Rattle.pieces.proofs.take.Kinds as take'
@@ -20,7 +20,7 @@ opening-one κs a z z' e e' p q = only p q
 pub standing-of-one : One standing-of'.ps standing-of'.r standing-of.Learnt
 standing-of-one κs a z z' e e' p q = only p q
 
-pub counts-of-one : One counts-of'.ps counts-of'.r Counts-of.Learnt
+pub counts-of-one : One counts-of'.ps counts-of'.r counts-of.Learnt
 counts-of-one κs a z z' e e' p q = only p q
 
 pub take-one : OneWith take'.ps take'.r take.Learnt (λ κs e. e.1.0.now)

@@ -1,5 +1,5 @@
 -- Only one outcome, of every public function of `text` (One.antt).
-use Rattle.text.proofs.put_byte.Reads as put_byte
+use Rattle.text.proofs.put_byte.Reads as put-byte
 use Rattle.text.proofs.put_byte.Kinds as put-byte'
 use Rattle.text.proofs.put_words.Reads as put-words
 use Rattle.text.proofs.put_words.Kinds as put-words'
@@ -9,7 +9,7 @@ use Rattle.text.proofs.put_hex.Reads as put-hex
 use Rattle.text.proofs.put_hex.Kinds as put-hex'
 use Rattle.promises.proofs.One.{only, OneWith}
 
-pub put-byte-one : OneWith put-byte'.ps put-byte'.r put_byte.Learnt (λ κs e. e.0.now)
+pub put-byte-one : OneWith put-byte'.ps put-byte'.r put-byte.Learnt (λ κs e. e.0.now)
 put-byte-one κs a z z' e e' p q = only p q
 
 pub put-words-one : OneWith put-words'.ps put-words'.r put-words.Learnt (λ κs e. e.0.now)
