@@ -6,10 +6,12 @@ mod bytes;
 mod compare;
 mod hues;
 
-ghost use Rattle.std.specs.Prelude.{◌≡◌, length};
+ghost use Rattle.std.specs.Prelude.{◌≡◌, ◌≤◌, length, IfOk};
 
 use compare::Tally;
-use libc::STDOUT_FILENO;
+use std::fs::File;
+use std::io;
+use std::io::Read;
 
 // The buffer for the file, which has 185,450 bytes.
 fn room() -> [u8; 262144]
@@ -18,23 +20,29 @@ fn room() -> [u8; 262144]
     [0; 262144]
 }
 
-fn report(tally: Tally) {
-    io::write_all(STDOUT_FILENO, b"colours compared ");
-    io::print_decimal(STDOUT_FILENO, tally.compared);
-    io::write_all(STDOUT_FILENO, b", differences ");
-    io::print_decimal(STDOUT_FILENO, tally.differing);
-    io::write_all(STDOUT_FILENO, b"\n");
+fn report(rt: &impl Print, tally: Tally) -> io::Result<()> {
+    let compared = tally.compared;
+    let differing = tally.differing;
+    println!(rt; "colours compared {compared}, differences {differing}")
 }
 
-fn main() {
-    let path = b"colours";
-    let fd = os::open_read(path);
-    if fd < 0 {
-        os::fail(path);
-        return;
+// Reads until the buffer is full or the input ends, and answers how many bytes came.
+fn read_full(input: &mut impl Read, buffer: &mut [u8]) -> io::Result<usize>
+    ensures { IfOk result (λ n. n ≤ length buffer.new) }
+{
+    let mut done = 0;
+    while done < buffer.len() {
+        let n = input.read(&mut buffer[done..])?;
+        if n == 0 {
+            return Ok(done);
+        }
+        done += n;
     }
+    Ok(done)
+}
+
+fn main(rt: HostRuntime) -> io::Result<()> {
     let mut stored = room();
-    let got = io::read_full(fd, &mut stored);
-    libc::close(fd);
-    report(compare::all(&stored[..got]));
+    let got = read_full(&mut File::open(&rt, "colours")?, &mut stored)?;
+    report(&rt, compare::all(&stored[..got]))
 }
