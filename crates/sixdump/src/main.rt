@@ -9,8 +9,9 @@ ghost use Rattle.sixdump.specs.Taken.{Taken};
 use colours::Palette;
 use dump::outcome::write_outcome;
 use frame::Limits;
-use libc::{STDIN_FILENO, STDOUT_FILENO};
 use pieces::{Reader, Standing};
+use std::io;
+use std::io::Read;
 
 // A canvas of 128 x 128 pixels.
 const CANVAS: usize = 65_536;
@@ -55,13 +56,12 @@ struct Turn {
     goes_on: bool,
 }
 
-// Reads once and takes what came; nothing comes at the input's end.
-fn next_piece(reader: Reader, canvas: &mut [u8]) -> Turn
+// Reads once and takes what came; nothing comes at the input's end, and a failed read counts as that.
+fn next_piece(input: &mut impl Read, reader: Reader, canvas: &mut [u8]) -> Turn
     ensures { Taken reader canvas.old result.reader canvas.new }
 {
-    let mut buffer = io::buffer();
-    let got = libc::read(STDIN_FILENO, &mut buffer);
-    let n = io::count(got, &buffer);
+    let mut buffer = [0; 4096];
+    let n = input.read(&mut buffer).unwrap_or(0);
     if n == 0 {
         return Turn {
             reader,
@@ -76,13 +76,13 @@ fn next_piece(reader: Reader, canvas: &mut [u8]) -> Turn
 }
 
 // A proved loop has to terminate, and nothing says that an input ends: the turns are counted down from a number that no run uses up (fuel).
-fn read_input(start: Reader, canvas: &mut [u8]) -> Reader
+fn read_input(input: &mut impl Read, start: Reader, canvas: &mut [u8]) -> Reader
     ensures { Taken start canvas.old result canvas.new }
 {
     let mut reader = start;
     let mut turns = u64::MAX;
     while turns > 0 {
-        let turn = next_piece(reader, canvas);
+        let turn = next_piece(input, reader, canvas);
         reader = turn.reader;
         if !turn.goes_on {
             return reader;
@@ -92,16 +92,17 @@ fn read_input(start: Reader, canvas: &mut [u8]) -> Reader
     reader
 }
 
-fn print_front(text: &[u8], length: usize) {
+fn print_front(rt: &impl Print, text: &[u8], length: usize) -> io::Result<()> {
     if length <= text.len() {
-        io::write_all(STDOUT_FILENO, &text[..length]);
+        rt.write_all(&text[..length])?;
     }
+    Ok(())
 }
 
-fn main() {
+fn main(rt: HostRuntime) -> io::Result<()> {
     let mut canvas = canvas_room();
     let mut text = text_room();
-    let reader = read_input(open(), &mut canvas);
+    let reader = read_input(&mut rt.stdin(), open(), &mut canvas);
     let length = write_outcome(&mut text, reader, Palette::standard(), STRIDE, &mut canvas);
-    print_front(&text, length);
+    print_front(&rt, &text, length)
 }

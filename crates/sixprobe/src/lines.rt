@@ -1,10 +1,17 @@
 // Lines of standard input, buffered block by block, so that each is answered as soon as it is there.
 ghost use Rattle.std.specs.Prelude.{◌≤◌, length};
 
-use libc::STDIN_FILENO;
+use std::io::Read;
+
+// How many bytes are read at a time, at most.
+const BLOCK: usize = 65_536;
 
 // One byte more than a line may have: a line that fills this is too long.
 pub(crate) const LINE_ROOM: usize = 140_001;
+
+pub(crate) fn block_room() -> [u8; BLOCK] {
+    [0; BLOCK]
+}
 
 pub(crate) fn line_room() -> [u8; LINE_ROOM] {
     [0; LINE_ROOM]
@@ -29,15 +36,14 @@ pub(crate) fn nothing_read() -> Unread {
     Unread { at: 0, end: 0 }
 }
 
-// The next block, where one is needed. It is empty at the end of the input.
-fn refilled(block: &mut [u8], unread: Unread) -> Unread {
+// The next block, where one is needed. It is empty at the end of the input, and a failed read counts as that.
+fn refilled(input: &mut impl Read, block: &mut [u8], unread: Unread) -> Unread {
     if unread.at < unread.end {
         return unread;
     }
-    let got = libc::read(STDIN_FILENO, block);
     Unread {
         at: 0,
-        end: io::count(got, block),
+        end: input.read(block).unwrap_or(0),
     }
 }
 
@@ -76,12 +82,17 @@ fn push(line: &mut [u8], length: usize, byte: u8) -> usize {
 
 // Reads up to a line feed or the end of the input. A proved loop has to terminate, and nothing says that a line ends: the
 // bytes are counted down from a number that no run uses up (fuel).
-pub(crate) fn next_line(block: &mut [u8], line: &mut [u8], before: Unread) -> Line {
+pub(crate) fn next_line(
+    input: &mut impl Read,
+    block: &mut [u8],
+    line: &mut [u8],
+    before: Unread,
+) -> Line {
     let mut unread = before;
     let mut count = 0;
     let mut turns = u64::MAX;
     while turns > 0 {
-        unread = refilled(block, unread);
+        unread = refilled(input, block, unread);
         let Next::Byte(byte) = next_byte(block, unread) else {
             return Line {
                 length: count,

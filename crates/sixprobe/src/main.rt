@@ -12,11 +12,13 @@ mod say;
 mod sessions;
 mod state;
 
-use lines::{Unread, line_room, next_line, nothing_read};
+use lines::{Unread, block_room, line_room, next_line, nothing_read};
 use obey::obey;
 use order::Order;
-use rooms::first;
+use rooms::{bytes_room, first};
 use state::State;
+use std::io;
+use std::io::Read;
 
 fn is_bad(order: Order) -> bool {
     match order {
@@ -25,20 +27,20 @@ fn is_bad(order: Order) -> bool {
     }
 }
 
-fn run_line(line: &[u8], state: State, canvas: &mut [u8]) -> State {
+fn run_line(rt: &impl Print, line: &[u8], state: State, canvas: &mut [u8]) -> io::Result<State> {
     if line.len() == 0 {
-        return state;
+        return Ok(state);
     }
-    let mut bytes = io::large_buffer();
+    let mut bytes = bytes_room();
     let order = order::read(line, state.length, &mut bytes);
     if is_bad(order) {
-        say::words(b"bad line\n");
-        return state;
+        say::words(rt, "bad line\n")?;
+        return Ok(state);
     }
-    let after = obey(order, state, canvas, &bytes);
-    say::checksum(answers::checksum(first(canvas, after.length)));
-    say::words(b"\n");
-    after
+    let after = obey(rt, order, state, canvas, &bytes)?;
+    say::checksum(rt, answers::checksum(first(canvas, after.length)))?;
+    say::words(rt, "\n")?;
+    Ok(after)
 }
 
 // What is known after a line.
@@ -50,40 +52,49 @@ struct Turn {
 }
 
 fn run_next(
+    rt: &impl Print,
+    input: &mut impl Read,
     block: &mut [u8],
     line: &mut [u8],
     canvas: &mut [u8],
     state: State,
     unread: Unread,
-) -> Turn {
-    let read = next_line(block, line, unread);
+) -> io::Result<Turn> {
+    let read = next_line(input, block, line, unread);
     let after = read.unread;
-    Turn {
-        state: run_line(first(line, read.length), state, canvas),
+    Ok(Turn {
+        state: run_line(rt, first(line, read.length), state, canvas)?,
         unread: after,
         is_last: read.is_last,
-    }
+    })
 }
 
 // Lines are counted down as their bytes are.
-fn run(block: &mut [u8], line: &mut [u8], canvas: &mut [u8]) {
+fn run(
+    rt: &impl Print,
+    input: &mut impl Read,
+    block: &mut [u8],
+    line: &mut [u8],
+    canvas: &mut [u8],
+) -> io::Result<()> {
     let mut state = state::at_start();
     let mut unread = nothing_read();
     let mut turns = u64::MAX;
     while turns > 0 {
-        let turn = run_next(block, line, canvas, state, unread);
+        let turn = run_next(rt, input, block, line, canvas, state, unread)?;
         if turn.is_last {
-            return;
+            return Ok(());
         }
         state = turn.state;
         unread = turn.unread;
         turns -= 1;
     }
+    Ok(())
 }
 
-fn main() {
-    let mut block = io::large_buffer();
+fn main(rt: HostRuntime) -> io::Result<()> {
+    let mut block = block_room();
     let mut line = line_room();
     let mut canvas = rooms::room();
-    run(&mut block, &mut line, &mut canvas);
+    run(&rt, &mut rt.stdin(), &mut block, &mut line, &mut canvas)
 }

@@ -8,132 +8,182 @@ use crate::{questions, registers, rooms, say};
 use canvas::Copied;
 use colours::Palette;
 use frame::Refusal;
+use std::io;
 
-fn new_canvas(mut state: State, canvas: &mut [u8], length: usize) -> State {
+fn new_canvas(
+    rt: &impl Print,
+    mut state: State,
+    canvas: &mut [u8],
+    length: usize,
+) -> io::Result<State> {
     let room = canvas.len();
     let end = held(length, room);
     rooms::fill(&mut canvas[..end], 251);
-    say::number(b"canvas ", length);
+    say::number(rt, "canvas ", length)?;
     state.length = length;
     state.lent = length;
-    state
+    Ok(state)
 }
 
-fn lend(mut state: State, lent: usize) -> State {
-    say::number(b"lend ", lent);
+fn lend(rt: &impl Print, mut state: State, lent: usize) -> io::Result<State> {
+    say::number(rt, "lend ", lent)?;
     state.lent = lent;
-    state
+    Ok(state)
 }
 
-fn read_whole(owner: Palette, lent: &mut [u8], bounds: Bounds, bytes: &[u8]) -> Palette {
+fn read_whole(
+    rt: &impl Print,
+    owner: Palette,
+    lent: &mut [u8],
+    bounds: Bounds,
+    bytes: &[u8],
+) -> io::Result<Palette> {
     let limits = bounds.limits;
     let stride = bounds.stride;
     let part = oneshot::payload_part(limits, stride, lent.len(), bytes).len();
     let finished = oneshot::read(limits, stride, owner, lent, bytes);
     let answer = finished.answer;
-    say::finishing(answer);
-    say::number(b" part ", part);
-    finished.palette
+    say::finishing(rt, answer)?;
+    say::number(rt, " part ", part)?;
+    Ok(finished.palette)
 }
 
-fn one_shot(mut state: State, lent: &mut [u8], bounds: Bounds, bytes: &[u8]) -> State {
+fn one_shot(
+    rt: &impl Print,
+    mut state: State,
+    lent: &mut [u8],
+    bounds: Bounds,
+    bytes: &[u8],
+) -> io::Result<State> {
     if state.is_busy() {
-        say::words(b"busy");
-        return state;
+        say::words(rt, "busy")?;
+        return Ok(state);
     }
-    let palette = read_whole(state.palette, lent, bounds, bytes);
+    let palette = read_whole(rt, state.palette, lent, bounds, bytes)?;
     state.palette = palette;
-    state
+    Ok(state)
 }
 
-fn say_copied(answer: Copied) {
+fn say_copied(rt: &impl Print, answer: Copied) -> io::Result<()> {
     match answer {
-        Copied::Done => say::words(b"copied"),
-        Copied::Misfit => say::refusal(Refusal::Canvas),
-        Copied::Short => say::refusal(Refusal::Buffer),
+        Copied::Done => say::words(rt, "copied"),
+        Copied::Misfit => say::refusal(rt, Refusal::Canvas),
+        Copied::Short => say::refusal(rt, Refusal::Buffer),
     }
 }
 
-fn copy_to(lent: &[u8], stride: usize, width: usize, height: usize, out: &mut [u8]) {
+fn copy_to(
+    rt: &impl Print,
+    lent: &[u8],
+    stride: usize,
+    width: usize,
+    height: usize,
+    out: &mut [u8],
+) -> io::Result<()> {
     rooms::fill(out, 241);
     let answer = canvas::copy_picture(lent, stride, width, height, out);
-    say_copied(answer);
-    say::checksum(answers::checksum(out));
+    say_copied(rt, answer)?;
+    say::checksum(rt, answers::checksum(out))
 }
 
-fn copy(lent: &[u8], stride: usize, width: usize, height: usize, length: usize) {
+fn copy(
+    rt: &impl Print,
+    lent: &[u8],
+    stride: usize,
+    width: usize,
+    height: usize,
+    length: usize,
+) -> io::Result<()> {
     let mut buffer = rooms::room();
     let end = held(length, rooms::ROOM);
-    copy_to(lent, stride, width, height, &mut buffer[..end]);
+    copy_to(rt, lent, stride, width, height, &mut buffer[..end])
 }
 
 // Of the owner's palette, which is lent out while a session is open.
-fn change(mut state: State, wish: Change) -> State {
+fn change(rt: &impl Print, mut state: State, wish: Change) -> io::Result<State> {
     if state.is_busy() {
-        say::words(b"busy");
-        return state;
+        say::words(rt, "busy")?;
+        return Ok(state);
     }
-    let palette = registers::changed(state.palette, wish);
+    let palette = registers::changed(rt, state.palette, wish)?;
     state.palette = palette;
-    state
+    Ok(state)
 }
 
-fn obey_session(wish: Ask, state: State, lent: &mut [u8], bytes: &[u8]) -> State {
+fn obey_session(
+    rt: &impl Print,
+    wish: Ask,
+    state: State,
+    lent: &mut [u8],
+    bytes: &[u8],
+) -> io::Result<State> {
     match wish {
-        Ask::Payload { bounds, settings } => open_payload(state, lent, bounds, settings),
-        Ask::Dcs(bounds) => open_dcs(state, lent.len(), bounds),
-        Ask::Feed { allowance, count } => feed(state, lent, first(bytes, count), allowance),
-        Ask::Finish => finish(state, lent),
-        Ask::Abort => abort(state),
+        Ask::Payload { bounds, settings } => open_payload(rt, state, lent, bounds, settings),
+        Ask::Dcs(bounds) => open_dcs(rt, state, lent.len(), bounds),
+        Ask::Feed { allowance, count } => feed(rt, state, lent, first(bytes, count), allowance),
+        Ask::Finish => finish(rt, state, lent),
+        Ask::Abort => abort(rt, state),
     }
 }
 
 // All orders but `canvas`, on what is lent.
-fn obey_lent(order: Order, state: State, lent: &mut [u8], bytes: &[u8]) -> State {
+fn obey_lent(
+    rt: &impl Print,
+    order: Order,
+    state: State,
+    lent: &mut [u8],
+    bytes: &[u8],
+) -> io::Result<State> {
     match order {
-        Order::Bad => state,
-        Order::Canvas(_) => state,
-        Order::Lend(length) => lend(state, length),
-        Order::Session(wish) => obey_session(wish, state, lent, bytes),
-        Order::OneShot { bounds, count } => one_shot(state, lent, bounds, first(bytes, count)),
+        Order::Bad => Ok(state),
+        Order::Canvas(_) => Ok(state),
+        Order::Lend(length) => lend(rt, state, length),
+        Order::Session(wish) => obey_session(rt, wish, state, lent, bytes),
+        Order::OneShot { bounds, count } => one_shot(rt, state, lent, bounds, first(bytes, count)),
         Order::Copy {
             stride,
             width,
             height,
             length,
         } => {
-            copy(lent, stride, width, height, length);
-            state
+            copy(rt, lent, stride, width, height, length)?;
+            Ok(state)
         }
         Order::Bench(question) => {
-            questions::answer(question, lent, bytes);
-            state
+            questions::answer(rt, question, lent, bytes)?;
+            Ok(state)
         }
         Order::Palette => {
-            registers::palette(state.palette);
-            state
+            registers::palette(rt, state.palette)?;
+            Ok(state)
         }
         Order::Marks => {
-            registers::marks(state.palette);
-            state
+            registers::marks(rt, state.palette)?;
+            Ok(state)
         }
         Order::Register(index) => {
-            registers::register(state.palette, index);
-            state
+            registers::register(rt, state.palette, index)?;
+            Ok(state)
         }
         Order::Percent(value) => {
-            registers::percent(value);
-            state
+            registers::percent(rt, value)?;
+            Ok(state)
         }
-        Order::Change(wish) => change(state, wish),
+        Order::Change(wish) => change(rt, state, wish),
     }
 }
 
-pub(crate) fn obey(order: Order, state: State, canvas: &mut [u8], bytes: &[u8]) -> State {
+pub(crate) fn obey(
+    rt: &impl Print,
+    order: Order,
+    state: State,
+    canvas: &mut [u8],
+    bytes: &[u8],
+) -> io::Result<State> {
     if let Order::Canvas(length) = order {
-        return new_canvas(state, canvas, length);
+        return new_canvas(rt, state, canvas, length);
     }
     let room = canvas.len();
     let lent = held(state.lent, room);
-    obey_lent(order, state, &mut canvas[..lent], bytes)
+    obey_lent(rt, order, state, &mut canvas[..lent], bytes)
 }

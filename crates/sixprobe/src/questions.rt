@@ -1,6 +1,7 @@
 // Questions to the bin reader, of the lent bytes, and what is said of their answers.
 use crate::say;
 use bins::{BinAnswer, ColumnsAnswer, Refusal, Setting, Shape, TopAnswer};
+use std::io;
 
 // The picture and the setting that a question is about.
 #[derive(Clone, Copy)]
@@ -17,32 +18,32 @@ pub(crate) enum Question {
     Top { map: Map, bin: usize },
 }
 
-fn say_refusal(refusal: Refusal) {
-    say::number(b"refused ", bins::number(refusal) as usize);
+fn say_refusal(rt: &impl Print, refusal: Refusal) -> io::Result<()> {
+    say::number(rt, "refused ", bins::number(refusal) as usize)
 }
 
-fn say_bin(answer: BinAnswer) {
+fn say_bin(rt: &impl Print, answer: BinAnswer) -> io::Result<()> {
     match answer {
-        BinAnswer::Bin(bin) => say::number(b"bin ", bin),
-        BinAnswer::Refused(refusal) => say_refusal(refusal),
+        BinAnswer::Bin(bin) => say::number(rt, "bin ", bin),
+        BinAnswer::Refused(refusal) => say_refusal(rt, refusal),
     }
 }
 
-fn say_columns(answer: ColumnsAnswer) {
+fn say_columns(rt: &impl Print, answer: ColumnsAnswer) -> io::Result<()> {
     match answer {
         ColumnsAnswer::Columns { first, last } => {
-            say::number(b"columns ", first);
-            say::number(b" ", last)
+            say::number(rt, "columns ", first)?;
+            say::number(rt, " ", last)
         }
-        ColumnsAnswer::Refused(refusal) => say_refusal(refusal),
+        ColumnsAnswer::Refused(refusal) => say_refusal(rt, refusal),
     }
 }
 
-fn say_top(answer: TopAnswer) {
+fn say_top(rt: &impl Print, answer: TopAnswer) -> io::Result<()> {
     match answer {
-        TopAnswer::Row(row) => say::number(b"top ", row),
-        TopAnswer::Nowhere => say::words(b"top none"),
-        TopAnswer::Refused(refusal) => say_refusal(refusal),
+        TopAnswer::Row(row) => say::number(rt, "top ", row),
+        TopAnswer::Nowhere => say::words(rt, "top none"),
+        TopAnswer::Refused(refusal) => say_refusal(rt, refusal),
     }
 }
 
@@ -54,14 +55,24 @@ fn colour(bytes: &[u8]) -> [u8; 4] {
     [bytes[0], bytes[1], bytes[2], bytes[3]]
 }
 
-pub(crate) fn answer(question: Question, lent: &[u8], bytes: &[u8]) {
+pub(crate) fn answer(
+    rt: &impl Print,
+    question: Question,
+    lent: &[u8],
+    bytes: &[u8],
+) -> io::Result<()> {
     match question {
-        Question::Bin { map, column } => say_bin(bins::bin(lent, map.shape, map.setting, column)),
+        Question::Bin { map, column } => {
+            say_bin(rt, bins::bin(lent, map.shape, map.setting, column))
+        }
         Question::Columns { map, bin } => {
-            say_columns(bins::columns(lent, map.shape, map.setting, bin))
+            say_columns(rt, bins::columns(lent, map.shape, map.setting, bin))
         }
         Question::Top { map, bin } => {
-            say_top(bins::top(lent, map.shape, map.setting, bin, colour(bytes)))
+            say_top(
+                rt,
+                bins::top(lent, map.shape, map.setting, bin, colour(bytes)),
+            )
         }
     }
 }

@@ -3,6 +3,7 @@
 use crate::say;
 use colours::marks::is_marked;
 use colours::{Palette, Set};
+use std::io;
 
 // A register, and the three values that its colour is mixed of.
 #[derive(Clone, Copy)]
@@ -21,9 +22,9 @@ pub(crate) enum Change {
     Hls(NewColor),
 }
 
-pub(crate) fn palette(owner: Palette) {
-    say::words(b"palette");
-    say::checksum(answers::registers_sum(owner));
+pub(crate) fn palette(rt: &impl Print, owner: Palette) -> io::Result<()> {
+    say::words(rt, "palette")?;
+    say::checksum(rt, answers::registers_sum(owner))
 }
 
 fn mark(colors: &[u32; 256], index: usize) -> u8 {
@@ -34,7 +35,7 @@ fn mark(colors: &[u32; 256], index: usize) -> u8 {
 }
 
 // How many registers are marked, and the checksum of a byte for each.
-pub(crate) fn marks(owner: Palette) {
+pub(crate) fn marks(rt: &impl Print, owner: Palette) -> io::Result<()> {
     let colors = owner.table();
     let mut count = 0;
     let mut sum = 1;
@@ -43,55 +44,56 @@ pub(crate) fn marks(owner: Palette) {
         count = std::num::wrapping_add_usize(count, byte as usize);
         sum = answers::with_byte(sum, byte);
     }
-    say::number(b"marks ", count);
-    say::checksum(sum);
+    say::number(rt, "marks ", count)?;
+    say::checksum(rt, sum)
 }
 
-fn pixel(bytes: [u8; 4]) {
-    say::byte(bytes[0]);
-    say::byte(bytes[1]);
-    say::byte(bytes[2]);
-    say::byte(bytes[3]);
+fn pixel(rt: &impl Print, bytes: [u8; 4]) -> io::Result<()> {
+    say::byte(rt, bytes[0])?;
+    say::byte(rt, bytes[1])?;
+    say::byte(rt, bytes[2])?;
+    say::byte(rt, bytes[3])
 }
 
-pub(crate) fn register(owner: Palette, index: usize) {
-    say::words(b"register ");
-    pixel(owner.register(index));
+pub(crate) fn register(rt: &impl Print, owner: Palette, index: usize) -> io::Result<()> {
+    say::words(rt, "register ")?;
+    pixel(rt, owner.register(index))?;
     if owner.is_marked(index) {
-        say::words(b" marked");
-        return;
+        return say::words(rt, " marked");
     }
-    say::words(b" clear");
+    say::words(rt, " clear")
 }
 
 // A conversion that needs no palette.
-pub(crate) fn percent(value: i32) {
+pub(crate) fn percent(rt: &impl Print, value: i32) -> io::Result<()> {
     let converted = hls::percent_to_byte(value);
-    say::number(b"percent ", converted.byte as usize);
-    say::holding(converted.held);
+    say::number(rt, "percent ", converted.byte as usize)?;
+    say::holding(rt, converted.held)
 }
 
-fn reset(owner: Palette) -> Palette {
-    say::words(b"reset");
-    owner.reset()
+fn reset(rt: &impl Print, owner: Palette) -> io::Result<Palette> {
+    say::words(rt, "reset")?;
+    Ok(owner.reset())
 }
 
 // Says how a register was set, and gives the palette.
-fn after(word: &[u8], set: Set) -> Palette {
-    say::words(word);
-    say::holding(set.held);
-    set.palette
+fn after(rt: &impl Print, word: &str, set: Set) -> io::Result<Palette> {
+    say::words(rt, word)?;
+    say::holding(rt, set.held)?;
+    Ok(set.palette)
 }
 
-pub(crate) fn changed(owner: Palette, change: Change) -> Palette {
+pub(crate) fn changed(rt: &impl Print, owner: Palette, change: Change) -> io::Result<Palette> {
     match change {
-        Change::Reset => reset(owner),
+        Change::Reset => reset(rt, owner),
         Change::Rgb(color) => after(
-            b"rgb",
+            rt,
+            "rgb",
             owner.set_rgb_percent(color.index, color.x, color.y, color.z),
         ),
         Change::Hls(color) => after(
-            b"hls",
+            rt,
+            "hls",
             owner.set_hls(color.index, color.x, color.y, color.z),
         ),
     }

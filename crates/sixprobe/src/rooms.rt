@@ -1,4 +1,4 @@
-// Buffers: a canvas's and a copy's, and the part of one that is lent.
+// Buffers: a canvas's and a copy's, that of a line's bytes, and the part of one that is lent.
 ghost use Rattle.std.specs.Prelude.{◌≤◌};
 
 // The most bytes that a canvas and a copy have.
@@ -6,6 +6,13 @@ pub(crate) const ROOM: usize = 1_048_576;
 
 pub(crate) fn room() -> [u8; ROOM] {
     [0; ROOM]
+}
+
+// The most bytes that a line stands for.
+const BYTES: usize = 65_536;
+
+pub(crate) fn bytes_room() -> [u8; BYTES] {
+    [0; BYTES]
 }
 
 // A length, clamped to what a buffer has.

@@ -1,16 +1,15 @@
 // What is written to standard output.
 use frame::Refusal;
-use libc::STDOUT_FILENO;
 use payload::{Finishing, Given, Ratio, Report};
+use std::io;
 
-pub(crate) fn words(text: &[u8]) {
-    io::write_all(STDOUT_FILENO, text);
+pub(crate) fn words(rt: &impl Print, text: &str) -> io::Result<()> {
+    rt.print(text)
 }
 
 // A number after some words.
-pub(crate) fn number(text: &[u8], n: usize) {
-    words(text);
-    io::print_decimal(STDOUT_FILENO, n as u64);
+pub(crate) fn number(rt: &impl Print, text: &str, n: usize) -> io::Result<()> {
+    print!(rt; "{text}{n}")
 }
 
 // A hex digit of a number.
@@ -24,85 +23,89 @@ fn digit(n: u8) -> u8 {
     b'?'
 }
 
-pub(crate) fn byte(n: u8) {
-    words(&[digit(n / 16), digit(n % 16)]);
+pub(crate) fn byte(rt: &impl Print, n: u8) -> io::Result<()> {
+    rt.write_all(&[digit(n / 16), digit(n % 16)])
 }
 
 // A checksum after a space, as eight hex digits.
-pub(crate) fn checksum(sum: u32) {
-    words(b" ");
-    byte((sum / 16_777_216) as u8);
-    byte((sum / 65_536 % 256) as u8);
-    byte((sum / 256 % 256) as u8);
-    byte((sum % 256) as u8);
+pub(crate) fn checksum(rt: &impl Print, sum: u32) -> io::Result<()> {
+    words(rt, " ")?;
+    byte(rt, (sum / 16_777_216) as u8)?;
+    byte(rt, (sum / 65_536 % 256) as u8)?;
+    byte(rt, (sum / 256 % 256) as u8)?;
+    byte(rt, (sum % 256) as u8)
 }
 
-pub(crate) fn refusal(refused: Refusal) {
-    number(b"refused ", frame::number(refused) as usize);
+pub(crate) fn refusal(rt: &impl Print, refused: Refusal) -> io::Result<()> {
+    number(rt, "refused ", frame::number(refused) as usize)
 }
 
 // A call's name, what it consumed, and its ink.
-pub(crate) fn counts(name: &[u8], consumed: usize, ink: usize) {
-    number(name, consumed);
-    number(b" ", ink);
+pub(crate) fn counts(rt: &impl Print, name: &str, consumed: usize, ink: usize) -> io::Result<()> {
+    number(rt, name, consumed)?;
+    number(rt, " ", ink)
 }
 
 // The same for a call that came to an end, and the byte of that end.
-pub(crate) fn end(name: &[u8], consumed: usize, ink: usize, last: u8) {
-    counts(name, consumed, ink);
-    words(b" ");
-    byte(last);
+pub(crate) fn end(
+    rt: &impl Print,
+    name: &str,
+    consumed: usize,
+    ink: usize,
+    last: u8,
+) -> io::Result<()> {
+    counts(rt, name, consumed, ink)?;
+    words(rt, " ")?;
+    byte(rt, last)
 }
 
 // Whether a value was held, after what it belongs to.
-pub(crate) fn holding(is_held: bool) {
+pub(crate) fn holding(rt: &impl Print, is_held: bool) -> io::Result<()> {
     if is_held {
-        words(b" held");
-        return;
+        return words(rt, " held");
     }
-    words(b" within");
+    words(rt, " within")
 }
 
-fn p1(given: Given) {
+fn p1(rt: &impl Print, given: Given) -> io::Result<()> {
     match given {
-        Given::Nothing => words(b" ratio p1 none"),
-        Given::Number(n) => number(b" ratio p1 ", n as usize),
+        Given::Nothing => words(rt, " ratio p1 none"),
+        Given::Number(n) => number(rt, " ratio p1 ", n as usize),
     }
 }
 
-fn ratio(shown: Ratio) {
+fn ratio(rt: &impl Print, shown: Ratio) -> io::Result<()> {
     match shown {
         Ratio::Raster(n) => {
-            number(b" ratio ", n as usize);
-            words(b":1")
+            number(rt, " ratio ", n as usize)?;
+            words(rt, ":1")
         }
-        Ratio::LeftToP1(given) => p1(given),
+        Ratio::LeftToP1(given) => p1(rt, given),
     }
 }
 
-fn background(transparent: bool) {
+fn background(rt: &impl Print, transparent: bool) -> io::Result<()> {
     if transparent {
-        words(b" background transparent");
-        return;
+        return words(rt, " background transparent");
     }
-    words(b" background opaque");
+    words(rt, " background opaque")
 }
 
-fn picture(report: Report) {
+fn picture(rt: &impl Print, report: Report) -> io::Result<()> {
     let shown = report.ratio;
-    number(b"picture ", report.width);
-    number(b" ", report.height);
-    number(b" extent ", report.right);
-    number(b" ", report.bottom);
-    ratio(shown);
-    background(report.transparent);
-    number(b" defined ", report.defined);
-    number(b" held ", report.held as usize);
+    number(rt, "picture ", report.width)?;
+    number(rt, " ", report.height)?;
+    number(rt, " extent ", report.right)?;
+    number(rt, " ", report.bottom)?;
+    ratio(rt, shown)?;
+    background(rt, report.transparent)?;
+    number(rt, " defined ", report.defined)?;
+    number(rt, " held ", report.held as usize)
 }
 
-pub(crate) fn finishing(answer: Finishing) {
+pub(crate) fn finishing(rt: &impl Print, answer: Finishing) -> io::Result<()> {
     match answer {
-        Finishing::Picture(report) => picture(report),
-        Finishing::Refused(refused) => refusal(refused),
+        Finishing::Picture(report) => picture(rt, report),
+        Finishing::Refused(refused) => refusal(rt, refused),
     }
 }

@@ -4,6 +4,8 @@
 // sets of (x, y), and the pictures of `pieces` from the oracle and docs/RULES.md.
 #![tactic(auto)]
 
+ghost use Rattle.std.specs.Prelude.{◌≤◌, length};
+
 mod on_canvas;
 mod on_numbers;
 mod on_sessions;
@@ -13,7 +15,6 @@ mod order;
 mod parts;
 mod say;
 
-use libc::STDIN_FILENO;
 use on_canvas::{copy, first_pixel, fresh, grow, sixel, span};
 use on_numbers::{show_held, show_kinds, show_repeat, show_values};
 use on_sessions::{feed_dcs_twice, feed_payload_twice};
@@ -22,6 +23,8 @@ use on_words::show_words;
 use order::{Numbers, numbers_of};
 use parts::{first, held, rest, unescape};
 use say::{say, say_checksum, say_line};
+use std::io;
+use std::io::Read;
 
 // A canvas of 128 x 128 pixels, the largest.
 const CANVAS: usize = 65_536;
@@ -30,27 +33,55 @@ fn canvas_room() -> [u8; CANVAS] {
     [0; CANVAS]
 }
 
-fn obey(word: u64, n: Numbers, bytes: &[u8], canvas: &mut [u8]) {
+// The most bytes that the input has, and that a line's text stands for.
+const INPUT: usize = 65_536;
+
+const BYTES: usize = 4_096;
+
+fn input_room() -> [u8; INPUT] {
+    [0; INPUT]
+}
+
+fn bytes_room() -> [u8; BYTES] {
+    [0; BYTES]
+}
+
+fn obey(rt: &impl Print, word: u64, n: Numbers, bytes: &[u8], canvas: &mut [u8]) -> io::Result<()> {
     match word {
-        order::SAY => say_line(bytes),
-        order::BEGIN => say(bytes),
-        order::KINDS => show_kinds(),
-        order::VALUES => show_values(n.one, bytes),
-        order::REPEAT => show_repeat(bytes),
-        order::HELD => show_held(n.one, n.two),
-        order::FRESH => fresh(canvas),
-        order::SHOW => say_checksum(canvas),
-        order::FIRST => first_pixel(canvas),
-        order::SPAN => span(canvas, n.one, n.two),
-        order::SIXEL => sixel(canvas, n),
-        order::GROW => grow(canvas, n),
-        order::COPY => copy(canvas, n),
-        order::PAYLOAD => feed_payload_twice(canvas, n, bytes),
-        order::DCS => feed_dcs_twice(canvas, n, bytes),
-        order::PIECES => take_pieces(canvas, n, bytes),
-        order::DUMP => dump(canvas, n, bytes),
-        order::WORDS => show_words(n),
-        _ => say(b"bad line\n"),
+        order::SAY => say_line(rt, bytes),
+        order::BEGIN => say(rt, bytes),
+        order::KINDS => show_kinds(rt),
+        order::VALUES => show_values(rt, n.one, bytes),
+        order::REPEAT => show_repeat(rt, bytes),
+        order::HELD => show_held(rt, n.one, n.two),
+        order::FRESH => {
+            fresh(canvas);
+            Ok(())
+        }
+        order::SHOW => say_checksum(rt, canvas),
+        order::FIRST => {
+            first_pixel(canvas);
+            Ok(())
+        }
+        order::SPAN => {
+            span(canvas, n.one, n.two);
+            Ok(())
+        }
+        order::SIXEL => {
+            sixel(canvas, n);
+            Ok(())
+        }
+        order::GROW => {
+            grow(canvas, n);
+            Ok(())
+        }
+        order::COPY => copy(rt, canvas, n),
+        order::PAYLOAD => feed_payload_twice(rt, canvas, n, bytes),
+        order::DCS => feed_dcs_twice(rt, canvas, n, bytes),
+        order::PIECES => take_pieces(rt, canvas, n, bytes),
+        order::DUMP => dump(rt, canvas, n, bytes),
+        order::WORDS => show_words(rt, n),
+        _ => say(rt, b"bad line\n"),
     }
 }
 
@@ -63,30 +94,31 @@ fn is_silent(line: &[u8]) -> bool {
 }
 
 // Carries a line out on the first `length` bytes of the canvas, and answers how many the next line has.
-fn run_line(line: &[u8], canvas: &mut [u8], length: usize) -> usize {
+fn run_line(rt: &impl Print, line: &[u8], canvas: &mut [u8], length: usize) -> io::Result<usize> {
     if is_silent(line) {
-        return length;
+        return Ok(length);
     }
     let order = order::read(line);
     let numbers = numbers_of(order);
     if order.word == order::CANVAS {
-        return numbers.one;
+        return Ok(numbers.one);
     }
-    let mut bytes = io::buffer();
+    let mut bytes = bytes_room();
     let count = unescape(rest(line, order.text), &mut bytes);
     let room = canvas.len();
     let end = held(length, room);
     obey(
+        rt,
         order.word,
         numbers,
         first(&bytes, count),
         &mut canvas[..end],
-    );
-    length
+    )?;
+    Ok(length)
 }
 
 // Each line ends with a line feed.
-fn run(input: &[u8], canvas: &mut [u8]) {
+fn run(rt: &impl Print, input: &[u8], canvas: &mut [u8]) -> io::Result<()> {
     let mut length = 0;
     let mut from = 0;
     let mut at = 0;
@@ -95,15 +127,31 @@ fn run(input: &[u8], canvas: &mut [u8]) {
         at += 1;
         // Last in the turn: the two branches then need not be joined.
         if input[end] == b'\n' {
-            length = run_line(&input[from..end], canvas, length);
+            length = run_line(rt, &input[from..end], canvas, length)?;
             from = at;
         }
     }
+    Ok(())
 }
 
-fn main() {
+// Reads until the buffer is full or the input ends, and answers how many bytes came. A failed read counts as the input's end.
+fn read_full(input: &mut impl Read, buffer: &mut [u8]) -> usize
+    ensures { result ≤ length buffer.new }
+{
+    let mut done = 0;
+    while done < buffer.len() {
+        let n = input.read(&mut buffer[done..]).unwrap_or(0);
+        if n == 0 {
+            return done;
+        }
+        done += n;
+    }
+    done
+}
+
+fn main(rt: HostRuntime) -> io::Result<()> {
     let mut canvas = canvas_room();
-    let mut input = io::large_buffer();
-    let count = io::read_full(STDIN_FILENO, &mut input);
-    run(&input[..count], &mut canvas);
+    let mut input = input_room();
+    let count = read_full(&mut rt.stdin(), &mut input);
+    run(&rt, &input[..count], &mut canvas)
 }

@@ -3,6 +3,7 @@ use crate::order::Numbers;
 use crate::parts::held;
 use crate::say::{say, say_checksum, say_number};
 use canvas::{Copied, rows};
+use std::io;
 
 const INK: [u8; 4] = [201, 202, 203, 204];
 
@@ -92,11 +93,11 @@ fn copy_to(canvas: &[u8], n: Numbers, out: &mut [u8]) -> usize {
     }
 }
 
-pub(crate) fn copy(canvas: &[u8], n: Numbers) {
+pub(crate) fn copy(rt: &impl Print, canvas: &[u8], n: Numbers) -> io::Result<()> {
     let mut out = [0; ROOM];
     fresh(&mut out);
     let answer = copy_to(canvas, n, &mut out);
-    say_number(b"", answer);
-    say(b" ");
-    say_checksum(&out);
+    say_number(rt, b"", answer)?;
+    say(rt, b" ")?;
+    say_checksum(rt, &out)
 }

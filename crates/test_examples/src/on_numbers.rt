@@ -3,6 +3,7 @@ ghost use Rattle.numbers.specs.Read.{Read};
 
 use crate::say::{say, say_line, say_number};
 use numbers::Parameters;
+use std::io;
 
 // All bytes of an argument, one by one.
 fn read(places: usize, bytes: &[u8]) -> Parameters
@@ -18,25 +19,25 @@ fn read(places: usize, bytes: &[u8]) -> Parameters
 }
 
 // How many values an argument has, and which.
-pub(crate) fn show_values(places: usize, bytes: &[u8]) {
+pub(crate) fn show_values(rt: &impl Print, places: usize, bytes: &[u8]) -> io::Result<()> {
     let p = read(places, bytes).finish();
     let count = p.count();
-    say_number(b"", count);
-    say(b":");
+    say_number(rt, b"", count)?;
+    say(rt, b":")?;
     for i in 0..count {
-        say_number(b" ", p.value(i) as usize);
+        say_number(rt, b" ", p.value(i) as usize)?;
     }
-    say(b"\n");
+    say(rt, b"\n")
 }
 
 // A repeat's number.
-pub(crate) fn show_repeat(bytes: &[u8]) {
+pub(crate) fn show_repeat(rt: &impl Print, bytes: &[u8]) -> io::Result<()> {
     let mut n: u64 = 0;
     for i in 0..bytes.len() {
         n = numbers::more_repeat(n, bytes[i]);
     }
-    say_number(b"", n as usize);
-    say(b"\n");
+    say_number(rt, b"", n as usize)?;
+    say(rt, b"\n")
 }
 
 // The kind of a byte as a letter.
@@ -57,12 +58,12 @@ fn kind(byte: u8) -> u8 {
 }
 
 // The kinds of all bytes in one line.
-pub(crate) fn show_kinds() {
+pub(crate) fn show_kinds(rt: &impl Print) -> io::Result<()> {
     let mut line = [0; 256];
     for byte in 0..256 {
         line[byte] = kind(byte as u8);
     }
-    say_line(&line);
+    say_line(rt, &line)
 }
 
 fn held(value: usize) -> usize {
@@ -70,8 +71,8 @@ fn held(value: usize) -> usize {
 }
 
 // Two header numbers.
-pub(crate) fn show_held(a: usize, b: usize) {
-    say_number(b"", held(a));
-    say_number(b" ", held(b));
-    say(b"\n");
+pub(crate) fn show_held(rt: &impl Print, a: usize, b: usize) -> io::Result<()> {
+    say_number(rt, b"", held(a))?;
+    say_number(rt, b" ", held(b))?;
+    say(rt, b"\n")
 }

@@ -14,6 +14,7 @@ use dump::{write_picture, write_refusal};
 use frame::Refusal;
 use payload::{Finishing, Report};
 use pieces::{Counts, Reader, Standing};
+use std::io;
 
 // The longest text: six lines of 127 bytes together, and 128 rows of 128 pixels, nine bytes each.
 const TEXT: usize = 147_583;
@@ -113,9 +114,9 @@ fn write_finish(
     }
 }
 
-fn say_calls(words: &[u8], calls: usize) {
-    say_number(words, calls);
-    say(b"\n\n");
+fn say_calls(rt: &impl Print, words: &[u8], calls: usize) -> io::Result<()> {
+    say_number(rt, words, calls)?;
+    say(rt, b"\n\n")
 }
 
 // What a way of reading came to: the length of its text, and the calls.
@@ -149,11 +150,16 @@ fn copy_in(canvas: &mut [u8], n: Numbers, bytes: &[u8], text: &mut [u8]) -> Came
 }
 
 // As a caller of `pieces` does: the picture is copied, without gaps, into a second buffer.
-pub(crate) fn take_pieces(canvas: &mut [u8], n: Numbers, bytes: &[u8]) {
+pub(crate) fn take_pieces(
+    rt: &impl Print,
+    canvas: &mut [u8],
+    n: Numbers,
+    bytes: &[u8],
+) -> io::Result<()> {
     let mut text = text_room();
     let came = copy_in(canvas, n, bytes, &mut text);
-    say(first(&text, came.length));
-    say_calls(b"calls ", came.calls);
+    say(rt, first(&text, came.length))?;
+    say_calls(rt, b"calls ", came.calls)
 }
 
 fn dump_in(canvas: &mut [u8], n: Numbers, bytes: &[u8], piece: usize, text: &mut [u8]) -> Came {
@@ -167,24 +173,25 @@ fn dump_in(canvas: &mut [u8], n: Numbers, bytes: &[u8], piece: usize, text: &mut
     }
 }
 
-fn say_both(text: &[u8], other: &[u8], calls: usize) {
-    say(text);
+fn say_both(rt: &impl Print, text: &[u8], other: &[u8], calls: usize) -> io::Result<()> {
+    say(rt, text)?;
     if check::same(text, other) {
-        say_calls(b"the same in one piece, calls ", calls);
+        say_calls(rt, b"the same in one piece, calls ", calls)
     } else {
-        say_calls(b"DIFFERENT in one piece, calls ", calls);
+        say_calls(rt, b"DIFFERENT in one piece, calls ", calls)
     }
 }
 
 // As `sixdump` does: in pieces, and again in one piece, on the canvas that still has the first picture.
-pub(crate) fn dump(canvas: &mut [u8], n: Numbers, bytes: &[u8]) {
+pub(crate) fn dump(rt: &impl Print, canvas: &mut [u8], n: Numbers, bytes: &[u8]) -> io::Result<()> {
     let mut text = text_room();
     let mut other = text_room();
     let each = dump_in(canvas, n, bytes, n.six, &mut text);
     let whole = dump_in(canvas, n, bytes, bytes.len(), &mut other);
     say_both(
+        rt,
         first(&text, each.length),
         first(&other, whole.length),
         whole.calls,
-    );
+    )
 }

@@ -2,6 +2,7 @@
 use crate::order::Numbers;
 use crate::parts::{first, held};
 use crate::say::say_line;
+use std::io;
 use words::memory::put_numbers;
 
 // No line has more than 127 bytes.
@@ -11,7 +12,7 @@ fn line_room() -> [u8; ROOM] {
     [0; ROOM]
 }
 
-fn say_words(line: &mut [u8], n: Numbers) {
+fn say_words(rt: &impl Print, line: &mut [u8], n: Numbers) -> io::Result<()> {
     let numbers = [
         n.one as u64,
         n.two as u64,
@@ -24,10 +25,10 @@ fn say_words(line: &mut [u8], n: Numbers) {
     let most = line.len();
     let end = held(n.eight, most);
     let length = put_numbers(&mut line[..end], 0, &numbers);
-    say_line(first(line, length));
+    say_line(rt, first(line, length))
 }
 
-pub(crate) fn show_words(n: Numbers) {
+pub(crate) fn show_words(rt: &impl Print, n: Numbers) -> io::Result<()> {
     let mut line = line_room();
-    say_words(&mut line, n);
+    say_words(rt, &mut line, n)
 }

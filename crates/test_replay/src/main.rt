@@ -16,8 +16,10 @@ mod session;
 mod trial;
 
 use colours::Palette;
-use libc::STDOUT_FILENO;
 use record::Verdict;
+use std::fs::File;
+use std::io;
+use std::io::Read;
 
 const BLOCK: usize = 65_536;
 
@@ -177,10 +179,29 @@ fn has_next(number: u32, all: u32) -> bool {
     1 < all - number
 }
 
+// Reads until the buffer is full or the input ends, and answers how many bytes came. A failed read counts as the input's end.
+fn read_full(input: &mut impl Read, buffer: &mut [u8]) -> usize
+    ensures { result ≤ length buffer.new }
+{
+    let mut done = 0;
+    while done < buffer.len() {
+        let n = input.read(&mut buffer[done..]).unwrap_or(0);
+        if n == 0 {
+            return done;
+        }
+        done += n;
+    }
+    done
+}
+
+fn block_room() -> [u8; BLOCK] {
+    [0; BLOCK]
+}
+
 // Reads one block and replays it.
-fn next_block(fd: i32, number: u32, buffer: &mut [u8], state: State) -> Turn {
-    let mut block = io::large_buffer();
-    let got = io::read_full(fd, &mut block);
+fn next_block(list: &mut impl Read, number: u32, buffer: &mut [u8], state: State) -> Turn {
+    let mut block = block_room();
+    let got = read_full(list, &mut block);
     if got < BLOCK {
         return Turn {
             goes_on: false,
@@ -214,10 +235,10 @@ fn at_first() -> State {
     }
 }
 
-fn replay_list(fd: i32, buffer: &mut [u8]) -> Tally {
+fn replay_list(list: &mut impl Read, buffer: &mut [u8]) -> Tally {
     let mut state = at_first();
     for number in 0..MOST_BLOCKS {
-        let turn = next_block(fd, number, buffer, state);
+        let turn = next_block(list, number, buffer, state);
         state = turn.state;
         if !turn.goes_on {
             return state.tally;
@@ -226,35 +247,27 @@ fn replay_list(fd: i32, buffer: &mut [u8]) -> Tally {
     state.tally
 }
 
-fn print_count(words: &[u8], count: u64) {
-    io::write_all(STDOUT_FILENO, words);
-    io::print_decimal(STDOUT_FILENO, count);
-    io::write_all(STDOUT_FILENO, b"\n");
+fn print_count(rt: &impl Print, words: &str, count: u64) -> io::Result<()> {
+    println!(rt; "{words}{count}")
 }
 
-fn print_tally(tally: Tally) {
-    print_count(b"payload sessions, replayed: ", tally.payload);
-    print_count(b"DCS sessions, replayed: ", tally.dcs);
-    print_count(b"one-shot readings, replayed: ", tally.one_shot);
-    print_count(b"colours and ratios, compared: ", tally.plain);
-    print_count(b"faults of the list: ", tally.faults);
-    io::write_all(STDOUT_FILENO, b"cases ");
-    io::print_decimal(STDOUT_FILENO, tally.cases());
-    print_count(b", differences ", tally.differing);
+fn print_tally(rt: &impl Print, tally: Tally) -> io::Result<()> {
+    print_count(rt, "payload sessions, replayed: ", tally.payload)?;
+    print_count(rt, "DCS sessions, replayed: ", tally.dcs)?;
+    print_count(rt, "one-shot readings, replayed: ", tally.one_shot)?;
+    print_count(rt, "colours and ratios, compared: ", tally.plain)?;
+    print_count(rt, "faults of the list: ", tally.faults)?;
+    let cases = tally.cases();
+    print!(rt; "cases {cases}")?;
+    print_count(rt, ", differences ", tally.differing)
 }
 
 fn room() -> [u8; ROOM] {
     [0; ROOM]
 }
 
-fn main() {
-    let path = b"answers";
-    let fd = os::open_read(path);
-    if fd < 0 {
-        os::fail(path);
-        return;
-    }
+fn main(rt: HostRuntime) -> io::Result<()> {
+    let mut list = File::open(&rt, "answers")?;
     let mut buffer = room();
-    print_tally(replay_list(fd, &mut buffer));
-    libc::close(fd);
+    print_tally(&rt, replay_list(&mut list, &mut buffer))
 }
