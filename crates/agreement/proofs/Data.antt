@@ -4,7 +4,7 @@ use native.Mathlib.Omega.{arith}
 use mathlib.Core.Path.{◌≡◌, refl, sym, ap, ◌∙◌, subst}
 use mathlib.Core.Bool.{Bool, true, false, cond}
 use mathlib.Core.Option.{Option, none, some}
-use mathlib.Core.List.{List, [], ◌∷◌, ◌++◌}
+use mathlib.Core.List.{List, [], ◌∷◌}
 use borrow.Author.Tests.{ltb-true, ltb-false, eqb-true, ne_eqb, le-leb, lt-leb}
 use lib.Count.{ones}
 use lib.Dec.{ltb, eqb}
@@ -20,7 +20,7 @@ use Rattle.frame.specs.declared.Outcome.TheVariants as outcomes
 use Rattle.frame.specs.declared.Refusal.{Refusal}
 use Rattle.frame.specs.declared.sizes.Needed.{Needed}
 use Rattle.frame.specs.Numbers.{number_of}
-use Rattle.frame.specs.Commands.{begun, unread_as}
+use Rattle.frame.specs.Commands.{unread_as}
 use Rattle.reference.specs.Step.{Reached, read_as, inked, canvas_after, painted_on, drawn_in, drawn_by, moved_to, data_step, row_ceiling}
 use Rattle.meaning.specs.Commands.{does, scan_byte, closed}
 use Rattle.meaning.specs.Drawing.{Setting, Drawing, with_pen, moved, unless, stroke_of, stroked, sixelled, draw_command, draw_all, and_then, ink_of, ink_of_all, strokes_since}

@@ -4,7 +4,7 @@ use mathlib.Core.Path.{◌≡◌, refl, sym, ap, ap₂, ◌∙◌, subst}
 use mathlib.Core.Option.{Option, none, some}
 use mathlib.Core.List.{List, []}
 use Rattle.colours.specs.declared.Palette.{Palette}
-use Rattle.canvas.specs.Picture.{Stroke, area_of, picture}
+use Rattle.canvas.specs.Picture.{Stroke, picture}
 use Rattle.canvas.specs.Paint.{grown}
 use Rattle.canvas.proofs.Pictures.{picture-grown, grown-none}
 use Rattle.frame.specs.declared.Command.{Command}

@@ -2,12 +2,10 @@
 use Prim.Native.Nat.{ℕ, ◌+◌, min, max}
 use native.Mathlib.Omega.{arith}
 use mathlib.Core.Path.{◌≡◌, refl, sym, ap, ap₂, ◌∙◌}
-use mathlib.Core.Bool.{Bool, true, false, cond}
 use mathlib.Core.Option.{Option}
 use mathlib.Core.List.{List, [], ◌∷◌, ◌++◌}
-use lib.Dec.{eqb}
 use Rattle.colours.specs.Palette.{register_of}
-use Rattle.canvas.specs.Picture.{Stroke, Area, depth, area_of, reach, picture}
+use Rattle.canvas.specs.Picture.{Stroke, Area, area_of, reach, picture}
 use Rattle.canvas.specs.Paint as paint
 use Rattle.canvas.proofs.Strokes.{reach-within, reach-inside}
 use Rattle.canvas.proofs.Pictures.{picture-grown, picture-stroke}

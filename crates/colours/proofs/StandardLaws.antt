@@ -7,7 +7,7 @@ use lib.IntN.{pos}
 use lib.ListN.{replicate}
 use lib.Seq.{sets}
 use Rattle.hls.specs.declared.Percent.{Percent}
-use Rattle.hls.specs.Percent.{percent_byte, percent_of}
+use Rattle.hls.specs.Percent.{percent_of}
 use Rattle.colours.specs.Packing.{packed}
 use Rattle.colours.specs.Standard.{percents, base, cube, grey, standard_at, listed}
 use Rattle.colours.proofs.Laws.{passed, packs}

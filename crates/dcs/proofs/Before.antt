@@ -18,7 +18,6 @@ use Rattle.meaning.specs.Drawing.{Setting}
 use Rattle.meaning.specs.Payload as meant
 use Rattle.meaning.specs.Reader.{Step, Run, still, after, call}
 use Rattle.meaning.specs.Sessions as sessions
-use Rattle.agreement.proofs.Feed.{at_end, turned_down}
 use Rattle.payload.specs.declared.Life.TheVariants as lives
 use Rattle.payload.specs.declared.Session as payload_session
 use Rattle.payload.specs.declared.Settings.{Settings}
@@ -26,13 +25,11 @@ use Rattle.payload.specs.declared.refusals.Verdict.TheVariants as judged
 use Rattle.payload.specs.Deferred.{no_settings, with_background, begun_session, begun_by, failed_of}
 use Rattle.payload.specs.Refusals.{openable, misfitting, fitting, feed_judged}
 use Rattle.payload.specs.Session as coded
-use Rattle.payload.specs.History as payload
 use Rattle.payload.specs.Meant as payload_meant
 use Rattle.payload.proofs.SessionLaws.{pixel-there}
 use Rattle.payload.proofs.Openings as openings
 use Rattle.dcs.specs.declared.Phase.{Phase}
 use Rattle.dcs.specs.declared.Phase.TheVariants as phases
-use Rattle.dcs.specs.declared.Session.{Session}
 use Rattle.header.specs.declared.Lead.{Lead}
 use Rattle.header.specs.declared.Led.{Led}
 use Rattle.header.specs.declared.Led.TheVariants as leds

@@ -1,7 +1,6 @@
 -- A call by value is the call over the session's parts.
 use Rattle.std.specs.Prelude.{◌≡◌, ℕ, List}
 use mathlib.Core.Path.{refl, sym, ap, ◌∙◌}
-use Rattle.numbers.specs.declared.Parameters.{Parameters}
 use Rattle.colours.specs.declared.Palette.{Palette}
 use Rattle.colours.specs.Marks.{lasting}
 use Rattle.colours.specs.Palette.{of_table}
@@ -15,7 +14,6 @@ use Rattle.payload.specs.Core as payload
 use Rattle.payload.proofs.CoreLaws as payload_laws
 use Rattle.dcs.specs.declared.Fed as session
 use Rattle.dcs.specs.declared.Opened as whole
-use Rattle.dcs.specs.declared.Phase.{Phase}
 use Rattle.dcs.specs.declared.Session.{Session}
 use Rattle.dcs.specs.declared.kernel.Core.{Core}
 use Rattle.dcs.specs.declared.kernel.feeding.Fed.{Fed}

@@ -40,8 +40,8 @@ use Rattle.dcs.specs.declared.Fed.{Fed}
 use Rattle.dcs.specs.declared.Phase.{Phase}
 use Rattle.dcs.specs.declared.Phase.TheVariants as phases
 use Rattle.dcs.specs.declared.Session.{Session}
-use Rattle.dcs.specs.Session.{session_of, moved_to, over_as, escaped_by, closed_by, passed_on, fed_payload, fed_by}
-use Rattle.dcs.specs.History.{held_at, Stands, refused, inside, escaped, ended, Feeds}
+use Rattle.dcs.specs.Session.{session_of, moved_to, over_as, escaped_by, closed_by, passed_on, fed_payload}
+use Rattle.dcs.specs.History.{held_at, inside, escaped, ended, Feeds}
 use Rattle.dcs.specs.Meant.{end_meant, answer_meant}
 use Rattle.dcs.proofs.Runs.{after_one, halted-at, end_call, framed_call, within-call, escape-call}
 

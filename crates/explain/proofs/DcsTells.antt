@@ -1,5 +1,5 @@
 -- What is told of a DCS session's feed and finish is what the definition tells.
-use Rattle.std.specs.Prelude.{◌≡◌, ℕ, ◌-◌, ◌*◌, Bool, true, false, cond, eqb, ltb, List, [], ◌∷◌, length, drop}
+use Rattle.std.specs.Prelude.{◌≡◌, ℕ, ◌*◌, Bool, true, false, cond, eqb, ltb, List, [], ◌∷◌, length, drop}
 use mathlib.Core.Option.{Option, none, some}
 use mathlib.Core.Path.{refl, sym, ap, ap₂, ◌∙◌, subst}
 use Rattle.numbers.specs.declared.Parameters.{Parameters}

@@ -1,9 +1,9 @@
 -- Laws of the machine without a canvas: one for each path through a function of `dry`, and the loop's invariant.
-use Rattle.std.specs.Prelude.{◌≡◌, ℕ, ◌+◌, ◌-◌, ◌*◌, ◌<◌, ◌≤◌, max, Bool, true, false, cond, ◌&&◌, eqb, ltb, leb, List, [], ◌∷◌, length, get_or, drop}
-use mathlib.Core.Path.{refl, sym, ap, ap₂, ◌∙◌}
+use Rattle.std.specs.Prelude.{◌≡◌, ℕ, ◌+◌, ◌-◌, ◌*◌, ◌<◌, ◌≤◌, max, Bool, true, false, ◌&&◌, eqb, ltb, List, [], ◌∷◌, length, get_or, drop}
+use mathlib.Core.Path.{refl, sym, ap, ◌∙◌}
 use native.Mathlib.Numerals.{add-one}
 use native.Mathlib.Omega.{arith}
-use borrow.Author.Tests.{ltb-false, leb-true, eq-eqb, ne_eqb, eqb-true, eqb-false}
+use borrow.Author.Tests.{ltb-false, eq-eqb, ne_eqb}
 use denote.Enum.Declared.{tag_of}
 use lib.Count.{ones}
 use lib.Seq.{drop-cons, drop-length}
@@ -11,7 +11,7 @@ use types.Run.{OneOf, miss}
 use Rattle.numbers.specs.Bytes.{skipped, digit, sixel, ends, semicolon}
 use Rattle.numbers.proofs.Laws.{cond_yes, cond_no}
 use Rattle.colours.specs.declared.Palette.{Palette}
-use Rattle.canvas.proofs.Covers.{and_left, and_right, by-test}
+use Rattle.canvas.proofs.Covers.{by-test}
 use Rattle.frame.specs.declared.Frame.{Frame}
 use Rattle.frame.specs.declared.Ground.{Ground}
 use Rattle.frame.specs.declared.Kind.{Kind}

@@ -1,6 +1,6 @@
 -- The machine without a canvas does what the reference machine does, whatever the canvas holds.
-use Rattle.std.specs.Prelude.{◌≡◌, ℕ, ◌+◌, ◌-◌, ◌*◌, Bool, true, cond, ◌&&◌, eqb, ltb, List, [], ◌∷◌}
-use mathlib.Core.Path.{refl, sym, ap, ap₂, ◌∙◌}
+use Rattle.std.specs.Prelude.{◌≡◌, ℕ, ◌+◌, ◌-◌, ◌*◌, true, ◌&&◌, eqb, ltb, List, [], ◌∷◌}
+use mathlib.Core.Path.{refl, ap, ◌∙◌}
 use native.Mathlib.Omega.{arith}
 use lib.Count.{ones}
 use Rattle.numbers.specs.Bytes.{skipped, digit, sixel, ends, semicolon}

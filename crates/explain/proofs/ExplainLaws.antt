@@ -1,5 +1,5 @@
 -- Laws of what is told of a call: one for each path through a function, with what its callees return as variables.
-use Rattle.std.specs.Prelude.{◌≡◌, ℕ, suc, ◌+◌, ◌-◌, ◌<◌, ◌≤◌, Bool, true, false, cond, leb, List, [], ◌∷◌, length, take, drop}
+use Rattle.std.specs.Prelude.{◌≡◌, ℕ, suc, ◌+◌, ◌-◌, ◌≤◌, Bool, true, false, leb, List, [], ◌∷◌, length, take, drop}
 use mathlib.Core.Path.{refl, sym, ap, ap₂, ◌∙◌}
 use native.Mathlib.Omega.{arith}
 use denote.Enum.Declared.{tag_of}
@@ -33,7 +33,7 @@ use Rattle.payload.specs.declared.refusals.Verdict.TheVariants as verdicts
 use Rattle.payload.specs.Core.{over, opened_over, begun_over}
 use Rattle.payload.specs.Deferred.{no_settings, reserved_by, begun_session, begun_by}
 use Rattle.payload.specs.Refusals.{openable, feed_judged, finish_judged}
-use Rattle.payload.specs.Session.{blank_frame, session_for}
+use Rattle.payload.specs.Session.{blank_frame}
 use Rattle.payload.specs.contracts.Life as LifeType
 use Rattle.header.specs.declared.Lead.{Lead}
 use Rattle.header.specs.declared.Led as header

@@ -3,7 +3,7 @@ use Rattle.std.specs.Prelude.{◌≡◌, ℕ, ◌+◌, ◌-◌, ◌*◌, Bool, t
 use native.Mathlib.Omega.{arith}
 use mathlib.Core.List.{append-nil}
 use mathlib.Core.Option.{Option, none, some}
-use mathlib.Core.Path.{refl, sym, ap, ap₂, ◌∙◌, subst}
+use mathlib.Core.Path.{refl, sym, ap, ◌∙◌, subst}
 use lib.Count.{ones}
 use Rattle.numbers.specs.Bytes.{skipped, digit, sixel, ends, semicolon}
 use Rattle.numbers.proofs.Laws.{cond_yes, cond_no}
@@ -13,25 +13,24 @@ use Rattle.frame.specs.declared.Command as code_command
 use Rattle.frame.specs.declared.Frame.{Frame}
 use Rattle.frame.specs.declared.Ground.{Ground}
 use Rattle.frame.specs.declared.Kind.TheVariants as kinds
-use Rattle.frame.specs.declared.Outcome.{Outcome}
 use Rattle.frame.specs.declared.Outcome.TheVariants as outcomes
 use Rattle.frame.specs.declared.Refusal.{Refusal}
 use Rattle.frame.specs.declared.sizes.Needed.{Needed}
 use Rattle.frame.specs.declared.sizes.Needed.TheVariants as needed
-use Rattle.frame.specs.Commands.{unread_as, refused_as, no_command, Ended, ended_in, ended}
+use Rattle.frame.specs.Commands.{unread_as, refused_as, Ended, ended}
 use Rattle.frame.specs.Sizes.{sixel_area}
 use Rattle.reference.specs.Step.{Reached, read_as, inked, canvas_after, painted_on, drawn_in, drawn_by, data_step, takes_semicolon, settled_step, argument_step}
 use Rattle.reference.specs.Step.{step_in, step_of}
-use Rattle.reference.specs.Feed.{then_data, byte_step}
+use Rattle.reference.specs.Feed.{byte_step}
 use Rattle.reference.proofs.FeedLaws.{byte-once, byte-twice}
 use Rattle.meaning.specs.Commands.{Begun, argued, draw, Placed, taken, Scanned, closed, does, own, scan_byte}
 use Rattle.meaning.specs.Drawing.{Setting, Drawing, Drawn, drawn, refused, unless, stroke_of, stroked, sixelled, size_refusal, draw_command, Outcome as Drew}
 use Rattle.meaning.specs.Drawing.{and_then, draw_all}
 use Rattle.meaning.specs.Sessions.{Reading, settled, rested}
-use Rattle.meaning.specs.Tellings.{Shortage, command_shortage, shortage_in, first_shortage, byte_shortage}
+use Rattle.meaning.specs.Tellings.{command_shortage, shortage_in, first_shortage, byte_shortage}
 use Rattle.meaning.proofs.AreaLaws.{Sound}
 use Rattle.meaning.proofs.InkLaws.{sixel-range, scan-sixel}
-use Rattle.agreement.specs.Same.{ground_of, pen_of, code_area, frame_of, canvas_of, Bounded, SameDrawing, SameBegun, Same}
+use Rattle.agreement.specs.Same.{ground_of, frame_of, canvas_of, Bounded, SameBegun, Same}
 use Rattle.agreement.proofs.Bytes.{argument-step, untaken}
 use Rattle.agreement.proofs.Data.{unended}
 use Rattle.agreement.proofs.Own.{after, own-after}

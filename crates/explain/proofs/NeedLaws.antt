@@ -1,6 +1,6 @@
 -- Laws of what a refused byte needed: one for each path through a function of `need`.
 use Rattle.std.specs.Prelude.{◌≡◌, ℕ, ◌+◌, ◌*◌, ◌<◌, ◌≤◌, min, max, Bool, true, false, ltb, leb}
-use mathlib.Core.Path.{refl, sym, ap, ap₂, ◌∙◌}
+use mathlib.Core.Path.{sym, ap, ap₂, ◌∙◌}
 use native.Mathlib.Omega.{arith}
 use borrow.Author.Tests.{lt-ltb, le-ltb, ltb-true, ltb-false, leb-true, leb-false}
 use Rattle.numbers.specs.declared.Parameters.{Parameters}
@@ -14,7 +14,6 @@ use Rattle.frame.specs.declared.Raster.{Raster}
 use Rattle.frame.specs.declared.VisibleArea.{VisibleArea}
 use Rattle.frame.specs.Commands.{raster_by, finished_of}
 use Rattle.meaning.specs.Tellings.{most_of_side, most_of_all}
-use Rattle.words.specs.declared.Need.{Need}
 use Rattle.words.specs.declared.Need.TheVariants as needs
 use Rattle.words.specs.declared.Shortage.{Shortage}
 use Rattle.words.specs.declared.Thing.{Thing}

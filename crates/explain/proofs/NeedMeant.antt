@@ -1,6 +1,6 @@
 -- What a refused command or sixel needed is in the code what it is in the definition.
-use Rattle.std.specs.Prelude.{◌≡◌, ℕ, ◌+◌, ◌*◌, ◌<◌, ◌≤◌, min, max, Bool, true, false, cond, ltb, List}
-use mathlib.Core.Option.{Option, none, some}
+use Rattle.std.specs.Prelude.{◌≡◌, ℕ, ◌+◌, ◌*◌, ◌<◌, min, max, Bool, true, ltb, List}
+use mathlib.Core.Option.{Option, some}
 use mathlib.Core.Path.{refl, sym, ap, ap₂, ◌∙◌}
 use native.Mathlib.Omega.{arith}
 use borrow.Author.Tests.{ltb-true, ltb-false, lt-ltb, le-ltb}
@@ -11,12 +11,10 @@ use Rattle.numbers.proofs.Laws.{cond_yes, cond_no}
 use Rattle.canvas.specs.Picture.{Area, grown_to}
 use Rattle.canvas.proofs.Covers.{by-test}
 use Rattle.frame.specs.declared.Command.{Command}
-use Rattle.frame.specs.declared.Frame.{Frame}
-use Rattle.frame.specs.declared.Ground.{Ground}
 use Rattle.frame.specs.declared.Kind as code_kind
 use Rattle.frame.specs.declared.Kind.TheVariants as kinds
 use Rattle.frame.specs.declared.Raster as code_raster
-use Rattle.frame.specs.Commands.{raster_by, finished_of}
+use Rattle.frame.specs.Commands.{finished_of}
 use Rattle.reference.specs.Step.{row_ceiling}
 use Rattle.meaning.specs.Commands.{Kind, repeat, colour, raster, Begun, argued, draw}
 use Rattle.meaning.specs.Drawing.{Setting, Drawing, pixels_of, raster_after}

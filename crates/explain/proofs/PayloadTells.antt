@@ -1,8 +1,6 @@
 -- What is told of a payload session's calls is what the definition tells, wherever the session stands for one of the definition.
-use Rattle.std.specs.Prelude.{◌≡◌, ℕ, suc, ◌+◌, ◌-◌, ◌*◌, ◌<◌, ◌≤◌, Bool, true, false, cond, leb, List, [], ◌∷◌, length}
-use native.Mathlib.Nat.{sub-zero, zero-add}
+use Rattle.std.specs.Prelude.{◌≡◌, ℕ, suc, ◌+◌, ◌-◌, ◌≤◌, cond, leb, List, [], ◌∷◌}
 use native.Mathlib.Omega.{arith}
-use mathlib.Core.Bool.{true≢false}
 use mathlib.Core.Option.{Option, none, some}
 use mathlib.Core.Path.{refl, sym, ap, ap₂, ◌∙◌, subst}
 use borrow.Author.Tests.{le-leb, lt-leb}
@@ -17,11 +15,10 @@ use Rattle.frame.specs.Numbers.{number_of}
 use Rattle.reference.specs.Step.{Reached}
 use Rattle.reference.specs.Feed.{byte_step, reached_as, go_on, feed_from}
 use Rattle.meaning.specs.Drawing.{Setting}
-use Rattle.meaning.specs.Reader.{Step, next, halt, refuse, How, read_all, stopped, halted, refused_by, is_refused, Run, still, after, follow, call}
+use Rattle.meaning.specs.Reader.{Step, next, halt, refuse, How, stopped, is_refused, Run, still, after, follow, call}
 use Rattle.meaning.specs.Commands.{closed}
 use Rattle.meaning.specs.Sessions.{Reading, settled, rested, ended_at, read_byte, payload_step}
-use Rattle.meaning.specs.Tellings as tellings
-use Rattle.meaning.specs.Tellings.{Shortage, Telling, told_at, placeless, first_shortage, first_refused, call_telling, byte_shortage, pending_telling}
+use Rattle.meaning.specs.Tellings.{Shortage, Telling, told_at, first_shortage, first_refused, byte_shortage, pending_telling}
 use Rattle.agreement.specs.Same.{Same}
 use Rattle.agreement.proofs.Bytes.{byte-agrees}
 use Rattle.agreement.proofs.Data.{Agrees, reads, stops, halts, refuses}

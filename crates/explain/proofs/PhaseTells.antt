@@ -26,7 +26,6 @@ use Rattle.header.specs.declared.Step as lead_step
 use Rattle.header.specs.Lead.{lead_at, lead_on, lead_from}
 use Rattle.header.specs.Settings.{settings_from}
 use Rattle.dcs.specs.History.{SamePlace, at_start, at_introduced, in_header}
-use Rattle.dcs.specs.History.{before, refused, ended}
 use Rattle.dcs.proofs.Leading as leading
 use Rattle.dcs.proofs.Leading.{LeadAgrees, byte-leads}
 use Rattle.dcs.proofs.Runs.{call-dry, call_halts, call-refuses, framed_call, end_call, within-call}

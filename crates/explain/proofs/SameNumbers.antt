@@ -1,8 +1,8 @@
 -- Of any session, whatever it holds: the number that is told of a call is the number that the call answers.
-use Rattle.std.specs.Prelude.{◌≡◌, ℕ, ◌+◌, Bool, true, false, cond, ◌||◌, eqb, leb, List, [], ◌∷◌, length, drop}
+use Rattle.std.specs.Prelude.{◌≡◌, ℕ, ◌+◌, true, ◌||◌, eqb, leb, List, [], ◌∷◌, length, drop}
 use native.Mathlib.Nat.{sub-zero}
-use mathlib.Core.Option.{Option, none, some}
-use mathlib.Core.Path.{refl, sym, ap, ◌∙◌, subst}
+use mathlib.Core.Option.{Option, none}
+use mathlib.Core.Path.{refl, sym, ap, ◌∙◌}
 use Rattle.colours.specs.declared.Palette.{Palette}
 use Rattle.canvas.specs.Picture.{span}
 use Rattle.canvas.proofs.Bytes.{length-painted}
@@ -14,12 +14,10 @@ use Rattle.frame.specs.declared.Kind.{Kind}
 use Rattle.frame.specs.declared.Kind.TheVariants as kinds
 use Rattle.frame.specs.declared.Outcome.{Outcome}
 use Rattle.frame.specs.declared.Outcome.TheVariants as outcomes
-use Rattle.frame.specs.declared.Refusal.{Refusal}
-use Rattle.frame.specs.Numbers.{number_of}
 use Rattle.frame.specs.Commands.{unread_as, settled_as, Ended, ended_in, ended}
 use Rattle.reference.specs.Step.{Reached}
 use Rattle.reference.specs.Feed.{feed_from}
-use Rattle.meaning.specs.Tellings.{told_at, placeless, number_told, answer_number, finish_number}
+use Rattle.meaning.specs.Tellings.{number_told, answer_number, finish_number}
 use Rattle.payload.specs.declared.Answer as payload_answer
 use Rattle.payload.specs.declared.Answer.TheVariants as payload_answers
 use Rattle.payload.specs.declared.Life.{Life}
@@ -37,10 +35,7 @@ use Rattle.header.specs.declared.Led.{Led}
 use Rattle.header.specs.declared.Led.TheVariants as leds
 use Rattle.header.specs.Lead.{lead_from}
 use Rattle.header.specs.Settings.{settings_from}
-use Rattle.dcs.specs.declared.Answer as dcs_answer
 use Rattle.dcs.specs.declared.Ending.{Ending}
-use Rattle.dcs.specs.declared.Ending.TheVariants as endings
-use Rattle.dcs.specs.declared.Fed as dcs_fed
 use Rattle.dcs.specs.declared.Phase.{Phase}
 use Rattle.dcs.specs.declared.Phase.TheVariants as phases
 use Rattle.dcs.specs.declared.Session as dcs_session
@@ -52,7 +47,7 @@ use Rattle.explain.specs.Dry.{data_dry, argument_dry, step_dry_in, step_dry, the
 use Rattle.explain.specs.Explained.{placeless_for, told_for, explained_in, part_explained, pending_explained, unless_judged, fed_explained_in, fed_explained}
 use Rattle.explain.specs.Explained.{payload_feed_explained, payload_finish_explained, led_explained, lead_explained, dcs_feed_in, dcs_feed_explained}
 use Rattle.explain.specs.Explained.{dcs_finish_in, dcs_finish_explained}
-use Rattle.explain.specs.Meant.{place_meant, telling_meant, explained_meant}
+use Rattle.explain.specs.Meant.{telling_meant, explained_meant}
 use Rattle.explain.proofs.DryMeant.{feed-dry}
 use Rattle.explain.proofs.SessionTells.{pending-dry}
 

@@ -1,5 +1,5 @@
 -- What is told of a payload session's feed and finish is what the definition tells.
-use Rattle.std.specs.Prelude.{◌≡◌, ℕ, ◌+◌, ◌-◌, Bool, true, false, cond, List, [], ◌∷◌}
+use Rattle.std.specs.Prelude.{◌≡◌, ℕ, ◌+◌, Bool, true, false, cond, List, [], ◌∷◌}
 use native.Mathlib.Nat.{sub-zero, add-zero}
 use native.Mathlib.Omega.{arith}
 use mathlib.Core.Bool.{true≢false}
@@ -10,19 +10,16 @@ use Rattle.frame.specs.declared.Frame.{Frame}
 use Rattle.frame.specs.declared.Ground.{Ground}
 use Rattle.frame.specs.declared.Outcome.{Outcome}
 use Rattle.frame.specs.declared.Outcome.TheVariants as outcomes
-use Rattle.frame.specs.declared.Refusal.{Refusal}
 use Rattle.frame.specs.declared.Refusal.TheVariants as refusals
 use Rattle.frame.specs.Numbers.{number_of}
 use Rattle.frame.specs.Commands.{Ended}
-use Rattle.reference.specs.Step.{Reached}
 use Rattle.reference.specs.Feed.{byte_step, feed_from}
 use Rattle.meaning.specs.Calls as calls
 use Rattle.meaning.specs.Drawing.{Setting}
-use Rattle.meaning.specs.Reader.{Step, halt, is_refused, still, halted, call}
+use Rattle.meaning.specs.Reader.{Step, halt, is_refused, still, call}
 use Rattle.meaning.specs.Sessions.{Reading, rested, read_byte, payload_step}
-use Rattle.meaning.specs.Tellings.{Telling, placeless, first_refused, call_telling, feed_telling, byte_shortage, pending_telling, finish_telling}
+use Rattle.meaning.specs.Tellings.{Telling, placeless, call_telling, feed_telling, pending_telling, finish_telling}
 use Rattle.meaning.specs.Tellings.{payload_feed_telling, payload_finish_telling}
-use Rattle.agreement.specs.Same.{Same}
 use Rattle.payload.specs.declared.Life.{Life}
 use Rattle.payload.specs.declared.Life.TheVariants as lives
 use Rattle.payload.specs.declared.Session.{Session}
@@ -39,7 +36,7 @@ use Rattle.explain.specs.Dry.{byte_dry, led_as, go_on_dry, dry_from}
 use Rattle.explain.specs.Explained.{placeless_for, explained_in, part_explained, pending_explained, unless_judged, fed_explained_in, fed_explained}
 use Rattle.explain.specs.Explained.{payload_feed_explained, payload_finish_explained}
 use Rattle.explain.specs.Meant.{place_meant, need_meant, telling_meant, explained_meant}
-use Rattle.explain.proofs.DryMeant.{uncanvassed, byte-dry, led_by, feed-dry}
+use Rattle.explain.proofs.DryMeant.{byte-dry, feed-dry}
 use Rattle.explain.proofs.PayloadTells.{told_of, call_of, first_of, told_if, call-tells, pending-tells}
 
 -- ---- refusals before a byte is read

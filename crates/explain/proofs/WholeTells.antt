@@ -1,24 +1,20 @@
 -- What is told of reading all at once is what the definition tells.
-use Rattle.std.specs.Prelude.{◌≡◌, ℕ, suc, ◌+◌, ◌-◌, ◌*◌, ◌<◌, ◌≤◌, Bool, true, false, cond, eqb, leb, List, [], ◌∷◌, length, drop}
-use Prim.Native.Nat.{zero-le}
-use native.Mathlib.Nat.{sub-zero, add-zero, zero-add}
+use Rattle.std.specs.Prelude.{◌≡◌, ℕ, suc, ◌+◌, ◌-◌, ◌*◌, ◌≤◌, true, false, eqb, List, [], ◌∷◌, length, drop}
+use native.Mathlib.Nat.{add-zero, zero-add}
 use native.Mathlib.Numerals.{add-one}
 use native.Mathlib.Omega.{arith}
 use mathlib.Core.Option.{Option, none, some}
 use mathlib.Core.Path.{refl, sym, ap, ap₂, ◌∙◌, subst}
-use borrow.Author.Tests.{le-leb}
 use lib.ListN.{length-drop}
 use lib.Seq.{drop-drop}
 use Rattle.numbers.specs.declared.Parameters.{Parameters}
-use Rattle.numbers.specs.Bytes.{skipped, digit, sixel, ends, semicolon}
+use Rattle.numbers.specs.Bytes.{skipped, digit, sixel, ends}
 use Rattle.numbers.specs.Read.{Read}
 use Rattle.numbers.specs.Step as numbers
 use Rattle.numbers.proofs.Laws.{cond_yes, cond_no}
 use Rattle.numbers.proofs.Reading.{read_none}
 use Rattle.colours.specs.declared.Palette.{Palette}
 use Rattle.colours.specs.Marks.{lasting}
-use Rattle.canvas.specs.Picture.{span}
-use Rattle.canvas.specs.Paint.{painted}
 use Rattle.canvas.proofs.Covers.{by-test}
 use Rattle.frame.specs.declared.Frame.{Frame}
 use Rattle.frame.specs.declared.Ground.{Ground}
@@ -29,12 +25,10 @@ use Rattle.frame.specs.declared.Outcome.{Outcome}
 use Rattle.frame.specs.declared.Outcome.TheVariants as outcomes
 use Rattle.frame.specs.declared.Progress.{Progress}
 use Rattle.frame.specs.declared.Refusal.{Refusal}
-use Rattle.frame.specs.declared.Refusal.TheVariants as refusals
 use Rattle.frame.specs.Numbers.{number_of}
 use Rattle.frame.specs.Commands.{settled_as, color_ended_by, unread_as, Ended, ended_in, ended}
-use Rattle.reference.specs.Step.{Reached, takes_semicolon}
+use Rattle.reference.specs.Step.{Reached}
 use Rattle.reference.specs.Feed.{byte_step}
-use Rattle.meaning.specs.Calls as calls
 use Rattle.meaning.specs.Commands.{Begun, Scanned, closed, scan_byte}
 use Rattle.meaning.specs.Drawing.{Setting, Outcome as Drew, draw_all}
 use Rattle.meaning.specs.OneShot.{after_introducer}
@@ -42,11 +36,11 @@ use Rattle.meaning.specs.Payload as meant
 use Rattle.meaning.specs.Reader.{Step, next, halt, refuse, Run, still, after, follow, read_from}
 use Rattle.meaning.specs.Sessions as sessions
 use Rattle.meaning.specs.Sessions.{Reading, settled, ended_at, went_on, read_byte, payload_step}
-use Rattle.meaning.specs.Tellings.{Shortage, Telling, told_at, placeless, first_shortage, first_refused, byte_shortage, pending_telling, or_pending, part_telling}
+use Rattle.meaning.specs.Tellings.{Telling, told_at, placeless, first_shortage, first_refused, byte_shortage, pending_telling, or_pending, part_telling}
 use Rattle.meaning.specs.Tellings.{header_telling, input_telling, read_telling}
-use Rattle.meaning.proofs.AreaLaws.{cond-case, option-case}
+use Rattle.meaning.proofs.AreaLaws.{cond-case}
 use Rattle.meaning.proofs.Demand3.{payload-caps}
-use Rattle.agreement.specs.Same.{Same, Bounded}
+use Rattle.agreement.specs.Same.{Same}
 use Rattle.agreement.proofs.Bytes.{byte-agrees}
 use Rattle.agreement.proofs.Data.{Agrees, reads, stops, halts, refuses}
 use Rattle.payload.specs.declared.Life.TheVariants as lives
@@ -55,12 +49,11 @@ use Rattle.payload.specs.declared.Settings.{Settings}
 use Rattle.payload.specs.Deferred.{no_settings, with_background, begun_session}
 use Rattle.payload.specs.History.{Stands}
 use Rattle.payload.specs.Meant.{given_meant, parameters_meant, limits_meant, setting_meant}
-use Rattle.payload.specs.Refusals.{openable, limits_fit, in_range}
+use Rattle.payload.specs.Refusals.{openable}
 use Rattle.payload.specs.Session.{session_for, ground_for}
 use Rattle.payload.proofs.Openings.{opens-meant, ready-stands}
 use Rattle.header.specs.declared.Lead.{Lead}
 use Rattle.header.specs.declared.Step as lead_step
-use Rattle.header.specs.declared.Led.TheVariants as leds
 use Rattle.header.specs.declared.Place.TheVariants as lead_places
 use Rattle.header.specs.Lead.{lead_byte, lead_on, lead_from}
 use Rattle.header.specs.Settings.{settings_from}
@@ -70,7 +63,6 @@ use Rattle.oneshot.specs.declared.search.Start.{Start}
 use Rattle.oneshot.specs.declared.search.Start.TheVariants as starts
 use Rattle.oneshot.specs.Search.{start_from}
 use Rattle.oneshot.proofs.FoundLaws.{start_meant, start-meant, StartWithin, start-within}
-use Rattle.words.specs.declared.Need.TheVariants as needs
 use Rattle.explain.specs.declared.Explained.{Explained}
 use Rattle.explain.specs.declared.dry.Led.{Led}
 use Rattle.explain.specs.Dry.{data_dry, argument_dry, step_dry_in, step_dry, then_dry, byte_dry, cost_of, led_as, go_on_dry, dry_from}

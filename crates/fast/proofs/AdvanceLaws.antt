@@ -1,7 +1,7 @@
 -- Laws of advances: some bytes at once lead where they lead one by one.
-use Prim.Native.Nat.{ℕ, ◌+◌, ◌-◌, ◌*◌, ◌/◌, ◌≤◌, ◌<◌, min, max}
+use Prim.Native.Nat.{ℕ, ◌+◌, ◌-◌, ◌*◌, ◌≤◌, ◌<◌, min, max}
 use mathlib.Core.Bool.{Bool, true, false, cond, ◌&&◌, true≢false}
-use mathlib.Core.List.{List, [], ◌∷◌}
+use mathlib.Core.List.{List}
 use mathlib.Core.Path.{◌≡◌, refl, sym, ap, ◌∙◌, subst}
 use native.Mathlib.Nat.{add-zero}
 use native.Mathlib.Omega.{arith}
@@ -32,9 +32,9 @@ use Rattle.frame.specs.declared.sizes.Needed.TheVariants.{Area}
 use Rattle.frame.specs.Sizes.{sixel_area}
 use Rattle.frame.specs.Commands.{with_command, begun, no_command, settled_as, with_repeat, repeat_ended, defined_by, redefined_by, register_in, with_color, palette_after, color_ended_by, finished_of, Ended, ended_in, ended}
 use Rattle.frame.specs.Commands.{held_by, held_in, defining_by, more_held}
-use Rattle.reference.specs.Step.{Reached, Fits, Holds, read_as, area_grown, pen_after, extent_after, inked, canvas_after, moved_to, row_ceiling, own_of, takes_semicolon, settled_step, argument_step, step_in, step_of}
+use Rattle.reference.specs.Step.{Fits, Holds, read_as, area_grown, inked, canvas_after, moved_to, row_ceiling, own_of, takes_semicolon, settled_step, argument_step, step_in, step_of}
 use Rattle.fast.specs.Run.{planned}
-use Rattle.fast.specs.Argument.{onwards, Passes, coloring, counting, holding, closing, Written, Last, defining, Defined}
+use Rattle.fast.specs.Argument.{onwards, Passes, coloring, counting, holding, closing, Last, defining, Defined}
 use Rattle.fast.specs.Advance.{advance_to, after_advance, settled_to, settled_if, selected_to, Draws, drawing_of, Advances}
 use Rattle.reference.proofs.StepLaws.{put_as, painted-read, drawn-area, data-sixel, data-own, step-data}
 use Rattle.reference.proofs.FeedLaws.{going_settled}

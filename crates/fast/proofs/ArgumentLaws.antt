@@ -1,12 +1,12 @@
 -- Laws of an argument that is read whole: its bytes one by one, and the paths through the functions of `argument`.
 use Prim.Native.Nat.{ℕ, ◌+◌, ◌-◌, ◌*◌, ◌≤◌, ◌<◌, min}
-use mathlib.Core.Bool.{Bool, true, false, cond, ◌&&◌}
+use mathlib.Core.Bool.{Bool, true, false, ◌&&◌}
 use mathlib.Core.List.{List, ◌∷◌}
 use mathlib.Core.Path.{◌≡◌, refl, sym, ap, ◌∙◌, subst}
 use native.Mathlib.Nat.{add-zero, not-suc-le-zero}
 use native.Mathlib.Numerals.{add-one}
 use native.Mathlib.Omega.{arith}
-use borrow.Author.Tests.{eq-eqb, ne_eqb, eqb-true, leb-true, not-false}
+use borrow.Author.Tests.{eq-eqb, ne_eqb, eqb-true, leb-true}
 use lib.Dec.{leb, eqb}
 use lib.ListN.{length, get_or, drop}
 use lib.Seq.{drop-cons}
@@ -14,13 +14,12 @@ use Rattle.numbers.specs.Bytes.{between, skipped, digit, sixel, semicolon}
 use Rattle.numbers.specs.Values.{held}
 use Rattle.numbers.specs.Step.{opened, with_digit, with_semicolon, stored, marked, room, repeated}
 use Rattle.numbers.specs.declared.Parameters.{Parameters}
-use Rattle.numbers.proofs.Laws.{cond_yes, cond_no, digit-least, digit-top}
+use Rattle.numbers.proofs.Laws.{cond_yes, cond_no, digit-top}
 use Rattle.colours.specs.declared.Palette.{Palette}
-use Rattle.canvas.proofs.Covers.{and_left, and_right, or_case, no_test, by-test}
+use Rattle.canvas.proofs.Covers.{and_left, and_right, or_case, no_test}
 use Rattle.frame.specs.declared.Command.{Command}
 use Rattle.frame.specs.declared.Frame.{Frame}
 use Rattle.frame.specs.declared.Ground.{Ground}
-use Rattle.frame.specs.declared.Kind.TheVariants as kinds
 use Rattle.fast.specs.declared.argument.Number.{Number}
 use Rattle.fast.specs.declared.argument.Definition.{Definition}
 use Rattle.frame.specs.Commands.{with_command, by_digit, by_digit_in, values_longer, number_longer, by_semicolon}

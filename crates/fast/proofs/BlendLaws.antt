@@ -2,20 +2,20 @@
 -- where the bit is 1 and the old one where it is not, is the sixel that is painted. Of four sixels the rows may be painted in turn, since all
 -- have one colour.
 use Prim.Native.Nat.{ℕ, zero, suc, ◌+◌, ◌-◌, ◌*◌, ◌/◌, ◌%◌, ◌^◌, ◌≤◌, ◌<◌}
-use mathlib.Core.Bool.{Bool, true, false, cond, ◌&&◌, ◌||◌}
-use mathlib.Core.List.{List, [], ◌∷◌}
+use mathlib.Core.Bool.{Bool, true, cond, ◌||◌}
+use mathlib.Core.List.{List}
 use mathlib.Core.Path.{◌≡◌, refl, sym, ap, ◌∙◌}
-use native.Mathlib.Nat.{add-zero, add_assoc, div-one, div-le_self}
+use native.Mathlib.Nat.{add-zero, add_assoc, div-le_self}
 use native.Mathlib.Omega.{arith}
 use borrow.Author.Tests.{eqb-true, eqb-false}
 use lib.Dec.{eqb}
-use lib.ListN.{length, get_or}
+use lib.ListN.{get_or}
 use Rattle.numbers.proofs.Laws.{cond_yes, cond_no}
 use Rattle.canvas.specs.Picture.{span, grid, bit, in_sixel}
 use Rattle.canvas.specs.Paint.{painted, sixel_painted}
 use Rattle.canvas.proofs.Bytes.{replaced-alike, replaced-none, painted-none, painted_same, painted-both}
 use Rattle.canvas.proofs.Covers.{and_right, or_left, or_right, or_case, same_test, by-test, no_test, span-low, span-high}
-use Rattle.canvas.proofs.Grid.{first_rows, sixel-none, sixel-on, sixel-off, sixel-last, rest_more}
+use Rattle.canvas.proofs.Grid.{first_rows, sixel-none, sixel-on, sixel-off}
 use Rattle.fast.specs.declared.blend.Four.{Four}
 use Rattle.fast.specs.Blend.{four_at, blended, blended_across, four_painted}
 

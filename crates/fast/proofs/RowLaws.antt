@@ -1,8 +1,8 @@
 -- Laws of a sixel's rows, from one bit that is set to the next: the bits that are passed over add nothing, and neither do those above the last.
 use Prim.Native.Nat.{ℕ, zero, suc, ◌+◌, ◌-◌, ◌*◌, ◌/◌, ◌%◌, ◌^◌, ◌≤◌, ◌<◌}
 use mathlib.Core.List.{List}
-use mathlib.Core.Path.{◌≡◌, refl, sym, ap, ◌∙◌, subst}
-use native.Mathlib.Nat.{add-zero, add-suc, pow-suc, div-one, zero-div, div-eq_of_lt, not-suc-le-zero, lt_of_lt_of_le}
+use mathlib.Core.Path.{◌≡◌, refl, sym, ap, ◌∙◌}
+use native.Mathlib.Nat.{add-zero, pow-suc, div-one, zero-div, div-eq_of_lt, not-suc-le-zero, lt_of_lt_of_le}
 use native.Mathlib.Omega.{arith}
 use lib.Count.{under, count_trailing_zeros}
 use lib.Pow.{pow_mono, shr-shr, shr_le}

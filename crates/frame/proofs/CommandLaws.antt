@@ -17,7 +17,7 @@ use Rattle.numbers.proofs.Laws.{cond_yes, cond_no}
 use Rattle.numbers.proofs.Reading.{value-small}
 use Rattle.colours.specs.declared.Palette.{Palette}
 use Rattle.colours.specs.Palette.{register_of}
-use Rattle.colours.specs.Marks.{defined_rgb, defined_hls, defining_rgb, defining_hls}
+use Rattle.colours.specs.Marks.{defining_rgb, defining_hls}
 use Rattle.colours.proofs.Laws.{passed, passed-pos}
 use Rattle.canvas.proofs.Covers.{by-test}
 use Rattle.frame.specs.declared.Command.{Command}

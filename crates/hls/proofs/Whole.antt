@@ -1,5 +1,5 @@
 -- Laws of the two functions on i32: the clamp to a percent and the remainder that is never negative. Assumes nothing.
-use Rattle.std.proofs.Common.{◌≡◌, ℕ, zero, suc, ◌+◌, ◌-◌, ◌*◌, ◌/◌, ◌%◌, ◌<◌, ◌≤◌, min, Bool, true, false, T, ℤ, pos, negsuc, ◌+ℤ◌, neg_ℤ, nat_abs, sym, refl, ap, ◌∙◌, subst, lt_trans, arith, lit<, w32, Fits, SFits, to_z, of_z, ltb-false, ltb-true, le-ltb, lt-ltb}
+use Rattle.std.proofs.Common.{◌≡◌, ℕ, zero, suc, ◌+◌, ◌-◌, ◌*◌, ◌/◌, ◌%◌, ◌<◌, ◌≤◌, min, Bool, true, false, T, ℤ, pos, negsuc, ◌+ℤ◌, neg_ℤ, nat_abs, sym, refl, ap, ◌∙◌, subst, lt_trans, arith, lit<, w32, Fits, SFits, to_z, of_z, ltb-false, ltb-true, le-ltb}
 use lib.IntN.{sub_ℕ}
 use lib.Signed.{mag, lt_z, non_neg, quot_z, rem_z, mag_rem}
 use mir.ValLaws.{to_z-of_z, sfits_le}

@@ -11,7 +11,7 @@ use Rattle.meaning.specs.Drawing.{Setting, draw_all}
 use Rattle.meaning.specs.Payload.{finished, report_of, finish}
 use Rattle.meaning.specs.Reader.{Step}
 use Rattle.meaning.specs.Sessions.{Reading, opened, settled, rested, ended_at, went_on, read_byte, payload_step, finish_reading, End, Phase, start, introduced, header, within, after_escape, over, dcs_step, dcs_rested}
-use Rattle.meaning.specs.Calls.{Session, Fed, refused, drawing_of, visible_area, dcs_end, feed_dcs}
+use Rattle.meaning.specs.Calls.{Session, Fed, drawing_of, visible_area, dcs_end, feed_dcs}
 use Rattle.meaning.specs.Callers.{Ask, fed_all}
 use Rattle.meaning.proofs.Cases.{cond-case, option-case}
 use Rattle.meaning.proofs.KeptLaws.{calls-kept}

@@ -1,5 +1,5 @@
 -- Laws of whole payloads: their drawing keeps within every limit, the extent lies inside the size, and what a finish reports fits.
-use Prim.Native.Nat.{ℕ, ◌+◌, ◌^◌, ◌≤◌, max}
+use Prim.Native.Nat.{ℕ, ◌^◌, ◌≤◌, max}
 use native.Mathlib.Nat.{le_refl}
 use native.Mathlib.Omega.{arith}
 use mathlib.Core.Path.{◌≡◌, refl, subst}

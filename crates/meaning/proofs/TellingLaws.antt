@@ -4,7 +4,7 @@ use native.Mathlib.Nat.{add-zero}
 use native.Mathlib.Omega.{arith}
 use mathlib.Core.Bool.{Bool, true, false, cond}
 use mathlib.Core.List.{List, [], ◌∷◌}
-use mathlib.Core.Option.{Option, none, some, map}
+use mathlib.Core.Option.{Option, none, some}
 use mathlib.Core.Path.{◌≡◌, refl, sym, ap, ◌∙◌, subst}
 use lib.Dec.{leb}
 use lib.ListN.{length}
@@ -14,7 +14,7 @@ use Rattle.meaning.specs.Calls as calls
 use Rattle.meaning.specs.Commands.{closed}
 use Rattle.meaning.specs.Drawing as drawing
 use Rattle.meaning.specs.Drawing.{Setting, Outcome}
-use Rattle.meaning.specs.OneShot.{Found, found, lacking, refused_with, find_payload, header_from, after_introducer, answer_of, one_shot}
+use Rattle.meaning.specs.OneShot.{Found, found, refused_with, find_payload, header_from, after_introducer, answer_of, one_shot}
 use Rattle.meaning.specs.Payload.{Parameters, no_parameters, Finished, finished, turned_down, report_of, finish, payload}
 use Rattle.meaning.specs.Reader.{Step, next, halt, refuse, How, read_all, stopped, halted, refused_by, is_refused, Run, still, after, follow, read_from, call}
 use Rattle.meaning.specs.Sessions as sessions

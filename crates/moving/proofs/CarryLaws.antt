@@ -1,22 +1,20 @@
 -- Laws of carrying: a picture's rows one after the other, byte by byte, and what a carried picture shows.
-use Rattle.std.specs.Prelude.{◌≡◌, ℕ, ◌+◌, ◌-◌, ◌*◌, ◌/◌, ◌%◌, ◌<◌, ◌≤◌, Bool, true, false, cond, not, ◌&&◌, eqb, List, ◌++◌, length, get_or, take, drop}
-use native.Mathlib.Nat.{zero-add, div-add-mod', mul-le-mul_right}
+use Rattle.std.specs.Prelude.{◌≡◌, ℕ, ◌+◌, ◌-◌, ◌*◌, ◌/◌, ◌%◌, ◌<◌, ◌≤◌, Bool, true, false, cond, not, ◌&&◌, List, ◌++◌, length, get_or, take, drop}
+use native.Mathlib.Nat.{zero-add, div-add-mod'}
 use native.Mathlib.Omega.{arith}
 use mathlib.Core.Bool.{true≢false}
-use mathlib.Core.Path.{refl, sym, ap, ap₂, ◌∙◌}
+use mathlib.Core.Path.{sym, ap, ap₂, ◌∙◌}
 use borrow.Author.Tests.{eqb-true, eq-eqb, not-true, not-false}
-use lib.Arith.{digits_div, digits_mod}
 use lib.ListN.{length-drop, get_or-append}
 use lib.Seq.{ext_get_or, paste, length-paste, length_paste_head, length-take-le, get_or-take, get_or-drop, get_or-append-add}
 use Rattle.numbers.proofs.Laws.{cond_yes, cond_no}
-use Rattle.canvas.specs.Copy.{number_of, has_picture}
-use Rattle.canvas.specs.Picture.{Stroke, Area, area_of, grid, replaced, span, visible, shown_colour, picture, rows_of, fits}
-use Rattle.canvas.proofs.Bytes.{length-replaced, get_or-replaced, replaced-alike}
-use Rattle.canvas.proofs.Covers.{and_left, and_right, and_both, same_test, by-test, no_test, split, span-low, span-high, span-in}
+use Rattle.canvas.specs.Copy.{has_picture}
+use Rattle.canvas.specs.Picture.{Area, area_of, grid, span, visible, rows_of}
+use Rattle.canvas.proofs.Bytes.{length-replaced, get_or-replaced}
+use Rattle.canvas.proofs.Covers.{and_left, and_right, and_both, same_test, by-test, no_test, split, span-high, span-in}
 use Rattle.canvas.proofs.Copies.{has-columns, has-rows}
-use Rattle.canvas.proofs.Grid.{in_row, row-span, rows-room}
+use Rattle.canvas.proofs.Grid.{in_row, row-span}
 use Rattle.canvas.proofs.Growth.{rectangle-room, visible-column, visible-row, visible-in}
-use Rattle.canvas.proofs.Pictures.{picture-byte, picture-pixel}
 use Rattle.moving.specs.Carry.{pixel_byte, carried, carried_to}
 
 -- ---- byte by byte

@@ -1,9 +1,8 @@
 -- Laws of moves: one for each path through a function that moves a session of the code.
 use Rattle.std.specs.Prelude.{◌≡◌, ℕ, ◌<◌, ◌≤◌, Bool, true, false, not, ◌&&◌, leb}
-use mathlib.Core.Path.{refl, sym, ap, ap₂, ◌∙◌}
-use borrow.Author.Tests.{lt-leb, le-leb, not-true, not-false}
+use mathlib.Core.Path.{refl, sym, ap, ◌∙◌}
+use borrow.Author.Tests.{lt-leb, le-leb}
 use Rattle.numbers.proofs.Laws.{cond_yes, cond_no}
-use Rattle.numbers.specs.declared.Parameters.{Parameters}
 use Rattle.canvas.specs.Picture.{rows_of}
 use Rattle.colours.specs.declared.Palette.{Palette}
 use Rattle.frame.specs.declared.Frame.{Frame}

@@ -1,6 +1,6 @@
 -- Laws of moving over the caller's memory: the session that the memory holds then is the moved one.
 use Rattle.std.specs.Prelude.{◌≡◌, ℕ, List, [], get_or, set}
-use mathlib.Core.Path.{refl, sym, ap, ◌∙◌}
+use mathlib.Core.Path.{sym, ap, ◌∙◌}
 use Rattle.canvas.specs.Picture.{rows_of}
 use Rattle.colours.specs.declared.Palette.{Palette}
 use Rattle.colours.specs.Palette.{of_table}

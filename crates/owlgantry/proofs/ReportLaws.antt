@@ -14,18 +14,16 @@ use Rattle.meaning.specs.OneShot as meaning
 use Rattle.meaning.specs.Payload as meant
 use Rattle.meaning.proofs.AreaLaws.{cond-case}
 use Rattle.payload.specs.declared.Finishing.{Finishing}
-use Rattle.payload.specs.declared.Finishing.TheVariants.{Picture, Refused}
-use Rattle.payload.specs.declared.Given.{Given}
-use Rattle.payload.specs.declared.Ratio.{Ratio}
+use Rattle.payload.specs.declared.Finishing.TheVariants.{Picture}
 use Rattle.payload.specs.declared.Report.{Report}
 use Rattle.payload.specs.Core.{finished_over}
-use Rattle.payload.specs.Meant.{given_meant, ratio_meant, limits_meant, report_meant, finish_meant}
+use Rattle.payload.specs.Meant.{ratio_meant, limits_meant, report_meant, finish_meant}
 use Rattle.oneshot.specs.declared.search.Found.{Found}
 use Rattle.oneshot.specs.declared.search.Found.TheVariants as founds
 use Rattle.oneshot.specs.OneShot.{found_meant, Read, read_whole, read_meant}
 use Rattle.oneshot.specs.Search.{found_in}
 use Rattle.oneshot.proofs.FoundLaws.{refused-part, found-meant}
-use Rattle.owlgantry.specs.Reading.{given_kind, given_number, ratio_kind, ratio_number, report_numbers, refusal_number, sixel_read}
+use Rattle.owlgantry.specs.Reading.{ratio_kind, ratio_number, report_numbers, refusal_number, sixel_read}
 
 -- ---- by the cases of an enum
 

@@ -40,8 +40,8 @@ use Rattle.dcs.specs.Session as dcs
 use Rattle.payload.specs.Meant.{finish_meant}
 use Rattle.owlgantry.specs.Reading.{report_numbers, refusal_number}
 use Rattle.owlgantry.specs.Sessions.{opening_number, payload_number, payload_report, ending_kind, ending_byte, dcs_number, dcs_report, finish_report}
-use Rattle.owlgantry.specs.Sessions.{payload_opened_as, payload_opened, payload_fed_as, payload_fed, finished_as, payload_finished, dcs_opened_as, dcs_opened}
-use Rattle.owlgantry.specs.Sessions.{dcs_fed_as, dcs_fed, dcs_finished}
+use Rattle.owlgantry.specs.Sessions.{payload_opened_as, payload_opened, payload_fed_as, payload_fed, finished_as, dcs_opened_as, dcs_opened}
+use Rattle.owlgantry.specs.Sessions.{dcs_fed_as, dcs_fed}
 
 -- a call by value told `z` of its outcome `y`; it was given `s`, which is the session `s'` that the memory holds
 called : {S Y Z : Type 0} {z : Z} {y : Y} {s s' : S} (tell : Y → Z) (by : S → Y)

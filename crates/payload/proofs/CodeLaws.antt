@@ -16,7 +16,7 @@ use Rattle.payload.specs.declared.Life.{Life}
 use Rattle.payload.specs.declared.Session.{Session}
 use Rattle.payload.specs.declared.Settings.{Settings}
 use Rattle.payload.specs.declared.kernel.Setup.{Setup}
-use Rattle.payload.specs.Codes.{given_number, given_from, life_number, life_from, kind_number, kind_from, color_number, color_from}
+use Rattle.payload.specs.Codes.{given_number, given_from, life_number, kind_number, kind_from, color_number, color_from}
 use Rattle.payload.specs.Memory.{ground_numbers, pen_numbers, area_numbers, extent_numbers, raster_numbers, command_numbers, frame_numbers, own_numbers, numbers_of, ground_from, settings_from, pen_from, area_from, extent_from, raster_from, nine_from, command_from, frame_from, setup_from}
 
 -- ---- one number each

@@ -2,8 +2,6 @@
 use Rattle.std.specs.Prelude.{◌≡◌, ℕ, Bool, true, false, cond, leb, List, length}
 use mathlib.Core.Path.{refl}
 use Rattle.colours.specs.declared.Palette.{Palette}
-use Rattle.colours.specs.Palette.{register_of}
-use Rattle.canvas.specs.Picture.{rows_of}
 use Rattle.frame.specs.declared.Frame.{Frame}
 use Rattle.frame.specs.declared.Limits.{Limits}
 use Rattle.frame.specs.declared.Refusal.TheVariants as refusals
@@ -15,7 +13,7 @@ use Rattle.payload.specs.declared.Settings.{Settings}
 use Rattle.payload.specs.declared.kernel.Setup.{Setup}
 use Rattle.payload.specs.Core.{over, begun_over}
 use Rattle.payload.specs.Refusals.{openable}
-use Rattle.payload.specs.Session.{clear_for, background_for, blank_frame, ground_for, session_for, opening_for, first_life, opened_if, first_painted}
+use Rattle.payload.specs.Session.{background_for, session_for, opening_for, first_life, opened_if, first_painted}
 use Rattle.payload.specs.Deferred.{no_settings, reserved_by, with_background, begun_session, begun_by}
 
 module _ (l : Limits) (stride : ℕ) (p : Palette) (size : ℕ) where

@@ -17,7 +17,6 @@ use Rattle.meaning.specs.Payload as meant
 use Rattle.meaning.specs.Sessions.{Reading, settled, finish_reading}
 use Rattle.agreement.specs.Same as same
 use Rattle.meaning.proofs.FeedingLaws.{finished_as_lem}
-use Rattle.agreement.proofs.Feed.{turned_down}
 use Rattle.agreement.proofs.Finish.{Finishing, reporting, declining, finish-agrees}
 use Rattle.payload.specs.declared.Finished.{Finished}
 use Rattle.payload.specs.declared.Finishing.TheVariants as finishes

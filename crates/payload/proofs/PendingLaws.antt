@@ -1,6 +1,6 @@
 -- The pending command at a finish: the byte 1B ends it as any byte that ends a command does, and then ends the payload, so that what a finish
 -- reports is what ending the command alone comes to.
-use Rattle.std.specs.Prelude.{◌≡◌, ℕ, ◌-◌, max, ◌&&◌, eqb, ltb, List, [], ◌∷◌}
+use Rattle.std.specs.Prelude.{◌≡◌, ℕ, max, ◌&&◌, eqb, ltb, List, [], ◌∷◌}
 use mathlib.Core.Path.{refl, sym, ap, ◌∙◌}
 use denote.Enum.Declared.{tag_of}
 use types.Run.{OneOf, miss}

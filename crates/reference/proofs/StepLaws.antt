@@ -1,6 +1,6 @@
 -- Laws of a step: one for each path through a function of `step`, and what each asks of its callees.
 use Prim.Native.Nat.{ℕ, ◌+◌, ◌-◌, ◌*◌, ◌≤◌, ◌<◌, min, max}
-use mathlib.Core.Bool.{Bool, true, false, cond, ◌&&◌}
+use mathlib.Core.Bool.{Bool, true, false, ◌&&◌}
 use mathlib.Core.List.{List, [], ◌∷◌}
 use mathlib.Core.Path.{◌≡◌, refl, sym, ap, ap₂, ◌∙◌}
 use native.Mathlib.Nat.{mul-le-mul_right}
@@ -13,8 +13,8 @@ use types.Run.{OneOf, miss}
 use Rattle.numbers.specs.Bytes.{skipped, digit, sixel, ends, between, semicolon, bang, quote, hash, dollar, dash}
 use Rattle.numbers.proofs.Laws.{cond_yes, cond_no}
 use Rattle.colours.specs.declared.Palette.{Palette}
-use Rattle.canvas.specs.Picture.{depth, area_of, rows_of}
-use Rattle.canvas.specs.Paint.{grown, sixel_painted}
+use Rattle.canvas.specs.Picture.{depth, rows_of}
+use Rattle.canvas.specs.Paint.{sixel_painted}
 use Rattle.canvas.proofs.Covers.{and_left, and_right, by-test}
 use Rattle.canvas.proofs.Depth.{depth-bits}
 use Rattle.canvas.proofs.Grid.{rows-room}

@@ -2,7 +2,7 @@
 -- Assumes nothing.
 use mathlib.Core.Path.{◌≡◌, refl}
 use mathlib.Core.Bool.{Bool, true, false}
-use mathlib.Core.List.{List, [], ◌∷◌, ◌++◌}
+use mathlib.Core.List.{List, ◌++◌}
 use Prim.Native.Nat.{ℕ}
 use borrow.Author.Tests.{eq-eqb, ne_eqb}
 use Rattle.text.specs.Text.{put, decimal, words}
@@ -10,7 +10,6 @@ use Rattle.text.proofs.Laws.{put_then}
 use Rattle.frame.specs.declared.Refusal.{Refusal}
 use Rattle.frame.specs.Numbers.{number_of}
 use Rattle.words.specs.declared.Thing.{Thing}
-use Rattle.words.specs.declared.Thing.TheVariants as things
 use Rattle.words.specs.declared.Shortage.{Shortage}
 use Rattle.words.specs.declared.Need.{Need}
 use Rattle.words.specs.declared.Need.TheVariants as needs

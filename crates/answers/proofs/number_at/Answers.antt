@@ -2,7 +2,6 @@
 -- Assumes nothing.
 use native.Mathlib.Omega.{arith}
 use Rattle.answers.proofs.Laws.{short, whole}
-use borrow.Author.Rules.{rules}
 use Rattle.answers.proofs.number_at.Goals as goal
 
 pub returns-then-bytes-lt4 : goal.returns-then-bytes-lt4

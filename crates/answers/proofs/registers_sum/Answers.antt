@@ -1,10 +1,8 @@
-use mathlib.Core.Path.{◌≡◌, refl, ap, ◌∙◌}
-use Prim.Native.Nat.{◌-◌, ◌≤◌}
+use mathlib.Core.Path.{refl, ap, ◌∙◌}
 use native.Mathlib.Omega.{arith}
 use borrow.Author.Rules.{rules}
-use Rattle.colours.specs.Palette.{of_table}
-use Rattle.answers.specs.Adler.{with_bytes, adler}
-use Rattle.answers.specs.Registers.{register_bytes, registers_sum}
+use Rattle.answers.specs.Adler.{adler}
+use Rattle.answers.specs.Registers.{registers_sum}
 use Rattle.answers.proofs.Laws.{one-register, all-registers}
 use Rattle.answers.proofs.registers_sum.Goals as goal
 

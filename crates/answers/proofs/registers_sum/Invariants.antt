@@ -1,14 +1,11 @@
 -- `answers::registers_sum` meets its contract. The loop's invariant: the checksum so far, with the registers that are left,
 -- is the whole one.
 -- Assumes nothing.
-use mathlib.Core.Path.{◌≡◌, refl, ap, ◌∙◌}
+use mathlib.Core.Path.{◌≡◌}
 use Prim.Native.Nat.{◌-◌, ◌≤◌}
-use native.Mathlib.Omega.{arith}
-use borrow.Author.Rules.{rules}
 use Rattle.colours.specs.Palette.{of_table}
-use Rattle.answers.specs.Adler.{with_bytes, adler}
+use Rattle.answers.specs.Adler.{with_bytes}
 use Rattle.answers.specs.Registers.{register_bytes, registers_sum}
-use Rattle.answers.proofs.Laws.{one-register, all-registers}
 use Rattle.answers.proofs.registers_sum.Given as goal
 
 abbrev pub invariant-loop-index : goal.invariant-loop-index

@@ -7,7 +7,6 @@ use lib.IntN.{pos, negsuc, ◌-ℤ◌}
 use mir.Syntax.{w32}
 use mir.ValLaws.{to_z-of_z}
 use Rattle.answers.proofs.Laws.{plain, minus-fits, minus_is, beyond}
-use borrow.Author.Rules.{rules}
 use Rattle.answers.proofs.signed.Goals as goal
 
 pub returns-then-bits-lt2147483648 : goal.returns-then-bits-lt2147483648

@@ -1,9 +1,6 @@
-use mathlib.Core.Path.{◌≡◌, refl}
-use Prim.Native.Nat.{◌≤◌, ◌-◌}
+use mathlib.Core.Path.{refl}
 use native.Mathlib.Omega.{arith}
-use lib.ListN.{length, drop}
 use borrow.Author.Rules.{rules}
-use Rattle.answers.specs.Adler.{with_bytes}
 use Rattle.answers.proofs.Laws.{one_more, all_read_lem}
 use Rattle.answers.proofs.with_bytes.Goals as goal
 

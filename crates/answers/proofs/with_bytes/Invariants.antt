@@ -1,12 +1,9 @@
 -- `answers::with_bytes` meets its contract. The loop's invariant: the checksum so far, with the bytes that are left, is the whole one.
 -- Assumes nothing.
-use mathlib.Core.Path.{◌≡◌, refl}
+use mathlib.Core.Path.{◌≡◌}
 use Prim.Native.Nat.{◌≤◌, ◌-◌}
-use native.Mathlib.Omega.{arith}
 use lib.ListN.{length, drop}
-use borrow.Author.Rules.{rules}
 use Rattle.answers.specs.Adler.{with_bytes}
-use Rattle.answers.proofs.Laws.{one_more, all_read_lem}
 use Rattle.answers.proofs.with_bytes.Given as goal
 
 abbrev pub invariant-loop-i : goal.invariant-loop-i

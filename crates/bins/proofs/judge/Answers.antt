@@ -2,7 +2,6 @@
 use mathlib.Core.Path.{refl}
 use Rattle.bins.specs.Bins.{number_of}
 use Rattle.bins.proofs.Answers.{judge-misfit, judge-range, judge-fine}
-use borrow.Author.Rules.{rules}
 use Rattle.bins.proofs.judge.Goals as goal
 
 pub returns-then-not-has_picture : goal.returns-then-not-has_picture

@@ -1,9 +1,7 @@
 -- `bins::row_has` meets its contract. The loop's invariant: what is left of the row decides. Assumes nothing.
-use mathlib.Core.Path.{◌≡◌, refl, sym, ap, ◌∙◌}
-use Prim.Native.Nat.{ℕ, ◌+◌, ◌-◌, ◌≤◌}
-use native.Mathlib.Omega.{arith}
+use mathlib.Core.Path.{◌≡◌}
+use Prim.Native.Nat.{◌+◌, ◌-◌, ◌≤◌}
 use Rattle.bins.specs.Bins.{row_has, pixel}
-use Rattle.bins.proofs.Searches.{row_done, row_here, row_next}
 use Rattle.bins.proofs.row_has.Given as goal
 
 abbrev pub invariant-loop-x : goal.invariant-loop-x

@@ -3,7 +3,6 @@ use mathlib.Core.Path.{refl, sym}
 use native.Mathlib.Omega.{arith}
 use Rattle.canvas.proofs.Covers.{no_test}
 use Rattle.bins.proofs.Answers.{fits_width, fits_count, fits-most, fits_last, fits-divided}
-use borrow.Author.Rules.{rules}
 use Rattle.bins.proofs.setting_fits.Goals as goal
 
 pub returns-then-setting-eq0 : goal.returns-then-setting-eq0

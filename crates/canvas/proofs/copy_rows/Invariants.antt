@@ -1,13 +1,9 @@
 -- `canvas::copy_rows` meets its contract. The loop's invariant: the first y rows stand at the front. Assumes nothing.
-use mathlib.Core.Path.{◌≡◌, ◌∙◌}
+use mathlib.Core.Path.{◌≡◌}
 use mathlib.Core.List.{◌++◌}
-use Prim.Native.Nat.{◌+◌, ◌-◌, ◌*◌, ◌≤◌}
-use native.Mathlib.Omega.{arith}
+use Prim.Native.Nat.{◌*◌, ◌≤◌}
 use lib.ListN.{length, drop}
-use borrow.Author.Rules.{rules}
 use Rattle.canvas.specs.Copy.{packed}
-use Rattle.canvas.proofs.Growth.{rectangle-room}
-use Rattle.canvas.proofs.Copies.{row-turns, row_room}
 use Rattle.canvas.proofs.copy_rows.Given as goal
 
 abbrev pub invariant-loop-y : goal.invariant-loop-y

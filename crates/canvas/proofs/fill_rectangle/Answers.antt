@@ -1,10 +1,8 @@
-use mathlib.Core.Path.{◌≡◌, ◌∙◌}
-use Prim.Native.Nat.{◌+◌, ◌-◌, ◌*◌, ◌≤◌}
+use mathlib.Core.Path.{◌∙◌}
+use Prim.Native.Nat.{◌+◌, ◌*◌, ◌≤◌}
 use native.Mathlib.Omega.{arith}
 use lib.ListN.{length}
 use borrow.Author.Rules.{rules}
-use Rattle.canvas.specs.Picture.{grid}
-use Rattle.canvas.specs.Paint.{painted, rectangle}
 use Rattle.canvas.proofs.Growth.{rectangle-turns, rectangle-room}
 use Rattle.canvas.proofs.fill_rectangle.Goals as goal
 use Rattle.canvas.proofs.fill_rectangle.Goals.{In-loop-y}

@@ -1,12 +1,9 @@
 -- `canvas::fill_rectangle` meets its contract. The loop's invariant: the rows from `top` up to y are painted. Assumes nothing.
-use mathlib.Core.Path.{◌≡◌, ◌∙◌}
-use Prim.Native.Nat.{◌+◌, ◌-◌, ◌*◌, ◌≤◌}
-use native.Mathlib.Omega.{arith}
+use mathlib.Core.Path.{◌≡◌}
+use Prim.Native.Nat.{◌≤◌}
 use lib.ListN.{length}
-use borrow.Author.Rules.{rules}
 use Rattle.canvas.specs.Picture.{grid}
 use Rattle.canvas.specs.Paint.{painted, rectangle}
-use Rattle.canvas.proofs.Growth.{rectangle-turns, rectangle-room}
 use Rattle.canvas.proofs.fill_rectangle.Given as goal
 
 abbrev pub invariant-loop-y : goal.invariant-loop-y

@@ -1,10 +1,6 @@
-use mathlib.Core.Path.{◌≡◌}
-use Prim.Native.Nat.{◌-◌, ◌≤◌}
 use native.Mathlib.Omega.{arith}
-use lib.ListN.{length, length-set}
+use lib.ListN.{length-set}
 use borrow.Author.Rules.{rules}
-use Rattle.canvas.specs.Paint.{painted}
-use Rattle.canvas.specs.Picture.{span}
 use Rattle.canvas.proofs.Covers.{span-turns}
 use Rattle.canvas.proofs.fill_span.Goals as goal
 

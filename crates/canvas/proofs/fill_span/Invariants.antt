@@ -1,13 +1,10 @@
 -- `canvas::fill_span` meets its contract. The loop's invariant: the pixels from `from` up to p are painted. A turn's four stores are
 -- `span-next`. Assumes nothing.
 use mathlib.Core.Path.{◌≡◌}
-use Prim.Native.Nat.{◌-◌, ◌≤◌}
-use native.Mathlib.Omega.{arith}
-use lib.ListN.{length, length-set}
-use borrow.Author.Rules.{rules}
+use Prim.Native.Nat.{◌≤◌}
+use lib.ListN.{length}
 use Rattle.canvas.specs.Paint.{painted}
 use Rattle.canvas.specs.Picture.{span}
-use Rattle.canvas.proofs.Covers.{span-turns}
 use Rattle.canvas.proofs.fill_span.Given as goal
 
 abbrev pub invariant-loop-p : goal.invariant-loop-p

@@ -3,7 +3,6 @@ use mathlib.Core.Path.{sym}
 use native.Mathlib.Omega.{arith}
 use Rattle.canvas.proofs.Covers.{no_test}
 use Rattle.canvas.proofs.Copies.{has-stride, has_width, has-height, has-columns, has_last}
-use borrow.Author.Rules.{rules}
 use Rattle.canvas.proofs.has_picture.Goals as goal
 
 pub returns-then-stride-eq0 : goal.returns-then-stride-eq0

@@ -1,11 +1,9 @@
-use mathlib.Core.Path.{◌≡◌, ◌∙◌}
-use Prim.Native.Nat.{◌+◌, ◌-◌, ◌*◌, ◌/◌, ◌^◌, ◌≤◌}
+use mathlib.Core.Path.{◌∙◌}
+use Prim.Native.Nat.{◌+◌, ◌*◌, ◌≤◌}
 use native.Mathlib.Omega.{arith}
 use lib.ListN.{length}
 use borrow.Author.Rules.{rules}
-use Rattle.canvas.specs.Picture.{grid}
-use Rattle.canvas.specs.Paint.{painted}
-use Rattle.canvas.proofs.Grid.{first_rows, sixel-turns, sixel-room, rows_few}
+use Rattle.canvas.proofs.Grid.{sixel-turns, sixel-room, rows_few}
 use Rattle.canvas.proofs.paint_sixel.Goals as goal
 use Rattle.canvas.proofs.paint_sixel.Goals.{In-loop-k}
 

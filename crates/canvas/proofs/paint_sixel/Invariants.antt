@@ -1,13 +1,11 @@
 -- `canvas::paint_sixel` meets its contract. The loop's invariant: the sixel's first k rows are painted, and `rest` is its bits without
 -- the first k. Assumes nothing.
-use mathlib.Core.Path.{◌≡◌, ◌∙◌}
-use Prim.Native.Nat.{◌+◌, ◌-◌, ◌*◌, ◌/◌, ◌^◌, ◌≤◌}
-use native.Mathlib.Omega.{arith}
+use mathlib.Core.Path.{◌≡◌}
+use Prim.Native.Nat.{◌-◌, ◌/◌, ◌^◌, ◌≤◌}
 use lib.ListN.{length}
-use borrow.Author.Rules.{rules}
 use Rattle.canvas.specs.Picture.{grid}
 use Rattle.canvas.specs.Paint.{painted}
-use Rattle.canvas.proofs.Grid.{first_rows, sixel-turns, sixel-room, rows_few}
+use Rattle.canvas.proofs.Grid.{first_rows}
 use Rattle.canvas.proofs.paint_sixel.Given as goal
 
 abbrev pub invariant-loop-k : goal.invariant-loop-k

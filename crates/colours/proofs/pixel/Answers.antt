@@ -1,7 +1,6 @@
 -- `colours::pixel` meets its contract: shifting right by 8 and 16 divides by 256 and 65,536.
 -- Assumes nothing.
 use mathlib.Core.Path.{refl}
-use borrow.Author.Rules.{rules}
 use Rattle.colours.specs.Packing.{pixel_of}
 use Rattle.colours.proofs.pixel.Goals as goal
 

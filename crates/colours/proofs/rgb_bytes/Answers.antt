@@ -4,7 +4,6 @@ use mathlib.Core.Path.{◌≡◌}
 use Prim.Native.Nat.{min}
 use native.Mathlib.Omega.{arith}
 use Rattle.colours.specs.Palette.{of_table, register_of}
-use borrow.Author.Rules.{rules}
 use Rattle.colours.proofs.rgb_bytes.Goals as goal
 
 pub returns-then-index-lt256 : goal.returns-then-index-lt256

@@ -2,7 +2,6 @@
 -- Assumes nothing.
 use borrow.Author.Tests.{lt-ltb, le-ltb}
 use Rattle.colours.specs.Palette.{of_table, recoloured, stored}
-use borrow.Author.Rules.{rules}
 use Rattle.colours.proofs.store.Goals as goal
 
 pub returns-then-index-ge256 : goal.returns-then-index-ge256

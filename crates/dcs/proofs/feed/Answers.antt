@@ -1,7 +1,6 @@
 -- `feed` meets its contract: the feed over the parts, with the palette lent as a table.
 use mathlib.Core.Path.{◌∙◌}
 use Rattle.dcs.proofs.CoreLaws.{fed-whole}
-use borrow.Author.Rules.{rules}
 use Rattle.dcs.proofs.feed.Goals as goal
 
 pub returns : goal.returns

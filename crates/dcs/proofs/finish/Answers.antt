@@ -1,7 +1,6 @@
 -- `finish` meets its contract: the finish over the parts, and whose palette is handed back.
 use mathlib.Core.Path.{◌∙◌}
 use Rattle.dcs.proofs.CoreLaws.{finished-whole}
-use borrow.Author.Rules.{rules}
 use Rattle.dcs.proofs.finish.Goals as goal
 
 pub returns : goal.returns

@@ -1,6 +1,5 @@
 -- `open` meets its contract: the opening over the parts, with the palette lent as a table.
 use Rattle.dcs.proofs.CoreLaws.{opened-whole}
-use borrow.Author.Rules.{rules}
 use Rattle.dcs.proofs.open.Goals as goal
 
 pub returns : goal.returns

@@ -1,10 +1,6 @@
-use mathlib.Core.Path.{◌≡◌, refl}
-use Prim.Native.Nat.{◌+◌, ◌-◌, ◌≤◌}
+use mathlib.Core.Path.{refl}
 use native.Mathlib.Omega.{arith}
-use lib.ListN.{length}
 use borrow.Author.Rules.{rules}
-use Rattle.text.specs.Text.{put}
-use Rattle.dump.specs.Dump.{further_text}
 use Rattle.dump.proofs.RowLaws.{pixel-more, row_put}
 use Rattle.dump.proofs.put_row.Goals as goal
 

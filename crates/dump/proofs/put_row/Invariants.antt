@@ -1,13 +1,10 @@
 -- `dump::put_row` meets its contract. The loop's invariant: with the pixels that are left put, all after the first are.
 -- Assumes nothing.
-use mathlib.Core.Path.{◌≡◌, refl}
+use mathlib.Core.Path.{◌≡◌}
 use Prim.Native.Nat.{◌+◌, ◌-◌, ◌≤◌}
-use native.Mathlib.Omega.{arith}
 use lib.ListN.{length}
-use borrow.Author.Rules.{rules}
 use Rattle.text.specs.Text.{put}
 use Rattle.dump.specs.Dump.{further_text}
-use Rattle.dump.proofs.RowLaws.{pixel-more, row_put}
 use Rattle.dump.proofs.put_row.Given as goal
 
 abbrev pub invariant-loop-x : goal.invariant-loop-x

@@ -1,12 +1,10 @@
-use mathlib.Core.Path.{◌≡◌, refl, ◌∙◌}
-use Prim.Native.Nat.{◌+◌, ◌-◌, ◌*◌, ◌≤◌}
+use mathlib.Core.Path.{refl, ◌∙◌}
+use Prim.Native.Nat.{◌+◌, ◌*◌, ◌≤◌}
 use native.Mathlib.Nat.{sub-zero}
 use native.Mathlib.Omega.{arith}
 use lib.ListN.{length}
 use borrow.Author.Rules.{rules}
 use Rattle.canvas.proofs.Growth.{rectangle-room}
-use Rattle.text.specs.Text.{put}
-use Rattle.dump.specs.Dump.{rows_text}
 use Rattle.dump.proofs.RowLaws.{row_more, rows-done}
 use Rattle.dump.proofs.put_rows.Goals as goal
 use Rattle.dump.proofs.put_rows.Goals.{In-loop-y}

@@ -1,15 +1,10 @@
 -- `dump::put_rows` meets its contract. The loop's invariant: with the rows that are left put, all are.
 -- Assumes nothing.
-use mathlib.Core.Path.{◌≡◌, refl, ◌∙◌}
-use Prim.Native.Nat.{◌+◌, ◌-◌, ◌*◌, ◌≤◌}
-use native.Mathlib.Nat.{sub-zero}
-use native.Mathlib.Omega.{arith}
+use mathlib.Core.Path.{◌≡◌}
+use Prim.Native.Nat.{◌-◌, ◌≤◌}
 use lib.ListN.{length}
-use borrow.Author.Rules.{rules}
-use Rattle.canvas.proofs.Growth.{rectangle-room}
 use Rattle.text.specs.Text.{put}
 use Rattle.dump.specs.Dump.{rows_text}
-use Rattle.dump.proofs.RowLaws.{row_more, rows-done}
 use Rattle.dump.proofs.put_rows.Given as goal
 
 abbrev pub invariant-loop-y : goal.invariant-loop-y

@@ -1,7 +1,6 @@
 -- `begins_run` meets its contract: a run is of sixels that are painted once.
 use mathlib.Core.Bool.{true≢false}
 use mathlib.Core.Path.{sym}
-use borrow.Author.Rules.{rules}
 use Rattle.fast.proofs.begins_run.Goals as goal
 
 pub returns-then-repeat-ne1 : goal.returns-then-repeat-ne1

@@ -1,7 +1,5 @@
 -- `read_ahead` meets its contract: by the byte that stands there, one of the advances.
 use mathlib.Core.Path.{sym, ◌∙◌}
-use native.Mathlib.Omega.{arith}
-use borrow.Author.Rules.{rules}
 use Rattle.fast.proofs.AdvanceLaws.{dollar-advances, dash-advances}
 use Rattle.fast.proofs.read_ahead.Goals as goal
 

@@ -2,7 +2,6 @@
 use native.Mathlib.Omega.{arith}
 use Rattle.fast.proofs.AdvanceLaws.{select-advances, define-advances}
 use Rattle.fast.proofs.RunLaws.{nothing-advances}
-use borrow.Author.Rules.{rules}
 use Rattle.fast.proofs.read_color.Goals as goal
 
 pub returns-then-is_last : goal.returns-then-is_last

@@ -1,5 +1,4 @@
 -- `selected` meets its contract: the pen has the register's number and colour.
-use borrow.Author.Rules.{rules}
 use mathlib.Core.Path.{refl}
 use Rattle.frame.specs.Commands.{with_color}
 use Rattle.fast.specs.Advance.{advance_to, selected_to}

@@ -1,8 +1,5 @@
-use Prim.Native.Nat.{◌-◌}
 use borrow.Author.Rules.{rules}
-use lib.ListN.{length, drop}
-use Rattle.header.proofs.LeadLaws.{Going, turns}
-use Rattle.header.specs.Lead.{lead_from}
+use Rattle.header.proofs.LeadLaws.{turns}
 use Rattle.header.proofs.read_lead.Goals as goal
 
 pub loop-consumed-init : goal.loop-consumed-init

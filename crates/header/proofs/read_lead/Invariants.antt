@@ -1,9 +1,8 @@
 -- `header::read_lead` meets its contract. The loop's invariant: from the place and the values that it has come to, the bytes that are
 -- left lead to where all bytes lead; and it ends since fewer are left each time.
 use Prim.Native.Nat.{◌-◌}
-use borrow.Author.Rules.{rules}
 use lib.ListN.{length, drop}
-use Rattle.header.proofs.LeadLaws.{Going, turns}
+use Rattle.header.proofs.LeadLaws.{Going}
 use Rattle.header.specs.Lead.{lead_from}
 use Rattle.header.proofs.read_lead.Given as goal
 

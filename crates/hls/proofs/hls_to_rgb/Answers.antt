@@ -1,5 +1,5 @@
 -- `hls::hls_to_rgb` meets its contract: the callees' results, put together. Assumes nothing.
-use Rattle.std.proofs.Common.{ap, ◌∙◌, arith, w32, to_z, of_z, rules}
+use Rattle.std.proofs.Common.{ap, ◌∙◌, arith, w32, to_z, of_z}
 use lib.Ieee.{of_bits}
 use mir.ValLaws.{to_z-of_z}
 use Rattle.hls.specs.Percent.{held, percent_byte}

@@ -1,5 +1,5 @@
 -- `hls::percent_byte` meets its contract: a clamped percent is at most 100. Assumes nothing.
-use Rattle.std.proofs.Common.{◌≡◌, ap, ◌∙◌, arith, w32, rules}
+use Rattle.std.proofs.Common.{◌≡◌, ap, ◌∙◌, arith, w32}
 use mir.ValLaws.{to_z-of_z}
 use Rattle.hls.specs.Percent.{held}
 use Rattle.hls.proofs.Whole.{held-le, percent-is}

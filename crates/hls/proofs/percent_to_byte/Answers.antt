@@ -1,5 +1,5 @@
 -- `hls::percent_to_byte` meets its contract: the byte and the test are those of the same number. Assumes nothing.
-use Rattle.std.proofs.Common.{ap, ◌∙◌, w32, rules}
+use Rattle.std.proofs.Common.{ap, ◌∙◌, w32}
 use mir.ValLaws.{to_z-of_z}
 use Rattle.hls.specs.Percent.{outside, percent_byte}
 use Rattle.hls.proofs.Whole.{percent-made}

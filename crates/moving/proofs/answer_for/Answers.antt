@@ -1,5 +1,4 @@
 -- `answer_for` meets its contract: by the verdict.
-use borrow.Author.Rules.{rules}
 use Rattle.moving.proofs.MoveLaws.{answer-refused, answer-fine}
 use Rattle.moving.proofs.answer_for.Goals as goal
 

@@ -1,5 +1,4 @@
 -- `numbers::hold` meets its contract: the smaller of the number and the limit, by arithmetic. Assumes nothing.
-use borrow.Author.Rules.{rules}
 use native.Mathlib.Omega.{arith}
 use Rattle.numbers.specs.Values.{held}
 use Rattle.numbers.proofs.hold.Goals as goal

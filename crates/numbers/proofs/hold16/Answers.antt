@@ -1,5 +1,4 @@
 -- `numbers::hold16` meets its contract: the smaller of the number and the limit of 16 bits, by arithmetic. Assumes nothing.
-use borrow.Author.Rules.{rules}
 use native.Mathlib.Omega.{arith}
 use Rattle.numbers.specs.Values.{held16}
 use Rattle.numbers.proofs.hold16.Goals as goal

@@ -1,5 +1,4 @@
 -- `feed_anew` meets its contract: a frame that is made anew is the frame.
-use borrow.Author.Rules.{rules}
 use Rattle.oneshot.proofs.feed_anew.Goals as goal
 
 pub returns : goal.returns

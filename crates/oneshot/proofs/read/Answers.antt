@@ -1,6 +1,5 @@
 -- `read` meets its contract: it is `read_onto` on the registers of the palette.
 use Rattle.oneshot.proofs.WholeLaws.{whole-value}
-use borrow.Author.Rules.{rules}
 use Rattle.oneshot.proofs.read.Goals as goal
 
 pub returns : goal.returns

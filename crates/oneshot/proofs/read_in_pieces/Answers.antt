@@ -1,5 +1,5 @@
 use borrow.Author.Rules.{rules}
-use Rattle.std.specs.Prelude.{◌≡◌, ℕ, ◌-◌, ◌≤◌, length}
+use Rattle.std.specs.Prelude.{◌≡◌, ℕ, ◌≤◌, length}
 use native.Mathlib.Omega.{arith}
 use mir.Syntax.{w64}
 use mir.Val.{Fits}
@@ -8,7 +8,7 @@ use Rattle.payload.specs.declared.Opened.{Opened}
 use Rattle.payload.specs.declared.Session.{Session}
 use Rattle.colours.specs.Palette.{of_table}
 use Rattle.payload.specs.Core.{over, opened_over, fed_over}
-use Rattle.oneshot.proofs.FeedLaws.{Midway, Piece, piece-end}
+use Rattle.oneshot.proofs.FeedLaws.{Piece, piece-end}
 use Rattle.oneshot.proofs.ReadLaws.{opens-owned, Turn, stop-in, read-in, part-read, part-ended, part-refused, part-passes, parts-read}
 use Rattle.oneshot.proofs.read_in_pieces.Goals as goal
 use Rattle.oneshot.proofs.read_in_pieces.Goals.{After-frame-in-loop-consumed-1, After-piece_end-end}

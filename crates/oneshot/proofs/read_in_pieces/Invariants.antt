@@ -1,17 +1,9 @@
 -- `read_in_pieces` meets its contract: its loop stays `Midway`, so that each turn passes 9, 12 and 13, what is left of the part grows
 -- shorter with each turn, and the laws of ReadLaws say of a `Turn` what each answer of its feed leads to.
-use borrow.Author.Rules.{rules}
-use Rattle.std.specs.Prelude.{◌≡◌, ℕ, ◌-◌, ◌≤◌, length}
-use native.Mathlib.Omega.{arith}
-use mir.Syntax.{w64}
-use mir.Val.{Fits}
-use Rattle.payload.specs.declared.Fed.{Fed}
-use Rattle.payload.specs.declared.Opened.{Opened}
-use Rattle.payload.specs.declared.Session.{Session}
+use Rattle.std.specs.Prelude.{◌-◌, length}
 use Rattle.colours.specs.Palette.{of_table}
-use Rattle.payload.specs.Core.{over, opened_over, fed_over}
-use Rattle.oneshot.proofs.FeedLaws.{Midway, Piece, piece-end}
-use Rattle.oneshot.proofs.ReadLaws.{opens-owned, Turn, stop-in, read-in, part-read, part-ended, part-refused, part-passes, parts-read}
+use Rattle.payload.specs.Core.{over}
+use Rattle.oneshot.proofs.FeedLaws.{Midway}
 use Rattle.oneshot.proofs.read_in_pieces.Given as goal
 
 abbrev pub invariant-loop-consumed : goal.invariant-loop-consumed

@@ -1,7 +1,6 @@
 -- `owlgantry_raw_read` meets its contract: what `read_onto` promises, told as numbers (`read_out`); the part is no longer than the bytes, so
 -- that its place can be computed (`part-short`).
 use Rattle.owlgantry.proofs.ReportLaws.{part-short, read_out}
-use borrow.Author.Rules.{rules}
 use Rattle.owlgantry.proofs.owlgantry_raw_read.Goals as goal
 
 pub overflow_sub-bytes : goal.overflow_sub-bytes

@@ -1,8 +1,6 @@
 use borrow.Author.Rules.{rules}
-use Prim.Native.Nat.{◌-◌}
 use native.Mathlib.Omega.{arith}
-use lib.ListN.{length}
-use Rattle.pieces.proofs.TakeLaws.{Midway, again-within, loop-laws}
+use Rattle.pieces.proofs.TakeLaws.{again-within, loop-laws}
 use Rattle.pieces.proofs.take_all.Goals as goal
 
 pub loop-call-init : goal.loop-call-init

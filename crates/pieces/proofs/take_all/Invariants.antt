@@ -1,9 +1,7 @@
 -- `take_all` meets its contract: its loop is `Midway`, the calls so far and those to come are the whole, and each stop leaves less.
-use borrow.Author.Rules.{rules}
 use Prim.Native.Nat.{◌-◌}
-use native.Mathlib.Omega.{arith}
 use lib.ListN.{length}
-use Rattle.pieces.proofs.TakeLaws.{Midway, again-within, loop-laws}
+use Rattle.pieces.proofs.TakeLaws.{Midway}
 use Rattle.pieces.proofs.take_all.Given as goal
 
 abbrev pub invariant-loop-call : goal.invariant-loop-call

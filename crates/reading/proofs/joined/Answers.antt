@@ -1,6 +1,5 @@
 -- `joined` meets its contract: the pen made anew is the pen, and the other parts are copied.
 use mathlib.Core.Path.{refl}
-use borrow.Author.Rules.{rules}
 use Rattle.reading.specs.Loop.{joined_to}
 use Rattle.reading.proofs.joined.Goals as goal
 

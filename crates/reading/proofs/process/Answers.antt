@@ -7,7 +7,7 @@ use borrow.Author.Rules.{rules}
 use lib.ListN.{length}
 use Rattle.colours.specs.Palette.{of_table}
 use Rattle.reference.specs.Feed.{feed_from}
-use Rattle.reference.proofs.FeedLaws.{Going, left_over, going_done, step-ink, step-within, step_less, step-stops, going_on_lem, looping}
+use Rattle.reference.proofs.FeedLaws.{Going, going_done, step-ink, step-within, step_less, step-stops, going_on_lem, looping}
 use Rattle.reading.proofs.LoopLaws.{advance-ink, advance-left, going-advanced, fits-anew, read-anew}
 use Rattle.reading.proofs.process.Goals as goal
 use Rattle.reading.proofs.process.Goals.{After-resume-now, Else-consumed-bytes}

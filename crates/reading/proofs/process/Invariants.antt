@@ -1,15 +1,9 @@
 -- `process` meets its contract. The loop's invariant is `Going`: the bytes that are left lead to where all lead. It is kept by what the fast
 -- machine reads and by a step of the reference machine, and each pass leaves less to do.
-use Prim.Native.Nat.{◌+◌, ◌<◌}
-use mathlib.Core.Path.{◌∙◌}
-use native.Mathlib.Nat.{lt_of_lt_of_le}
-use native.Mathlib.Omega.{arith}
-use borrow.Author.Rules.{rules}
 use lib.ListN.{length}
 use Rattle.colours.specs.Palette.{of_table}
 use Rattle.reference.specs.Feed.{feed_from}
-use Rattle.reference.proofs.FeedLaws.{Going, left_over, going_done, step-ink, step-within, step_less, step-stops, going_on_lem, looping}
-use Rattle.reading.proofs.LoopLaws.{advance-ink, advance-left, going-advanced, fits-anew, read-anew}
+use Rattle.reference.proofs.FeedLaws.{Going, left_over}
 use Rattle.reading.proofs.process.Given as goal
 
 abbrev pub invariant-loop-consumed : goal.invariant-loop-consumed

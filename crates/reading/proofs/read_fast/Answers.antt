@@ -1,5 +1,4 @@
 -- `read_fast` meets its contract: while a command is pending nothing is taken.
-use borrow.Author.Rules.{rules}
 use Rattle.fast.proofs.RunLaws.{nothing-advances}
 use Rattle.reading.proofs.read_fast.Goals as goal
 

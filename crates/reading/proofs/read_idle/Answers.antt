@@ -1,13 +1,9 @@
-use Prim.Native.Nat.{◌-◌}
 use mathlib.Core.Path.{◌≡◌, refl, subst, sym, ◌∙◌}
 use native.Mathlib.Omega.{arith}
-use borrow.Author.Rules.{rules}
 use lib.ListN.{length}
-use Rattle.colours.specs.Palette.{of_table}
 use Rattle.frame.specs.declared.Frame.{Frame}
 use Rattle.frame.specs.declared.Kind.TheVariants as kinds
 use Rattle.reference.specs.Step.{Fits}
-use Rattle.fast.specs.Advance.{Advances}
 use Rattle.fast.proofs.RunLaws.{nothing-advances}
 use Rattle.reading.proofs.LoopLaws.{still-idle, joined-ink, joined_end, joined-advances}
 use Rattle.reading.proofs.read_idle.Goals as goal

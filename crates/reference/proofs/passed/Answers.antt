@@ -1,6 +1,5 @@
 -- `passed` meets its contract by unfolding it.
 use mathlib.Core.Path.{refl}
-use borrow.Author.Rules.{rules}
 use Rattle.reference.specs.Step.{pen_after, passed_to}
 use Rattle.reference.proofs.passed.Goals as goal
 

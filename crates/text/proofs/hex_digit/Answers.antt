@@ -1,7 +1,6 @@
 -- `text::hex_digit` meets its contract, on either side of ten. Assumes nothing.
 use borrow.Author.Tests.{lt-ltb, le-ltb}
 use Rattle.text.specs.Text.{hex_digit}
-use borrow.Author.Rules.{rules}
 use Rattle.text.proofs.hex_digit.Goals as goal
 
 pub returns-then-n-lt10 : goal.returns-then-n-lt10

@@ -1,6 +1,5 @@
 -- `colours::Palette::is_marked` meets its contract, by those of the functions that it calls.
 -- Assumes nothing.
-use borrow.Author.Rules.{rules}
 use Rattle.colours.proofs.Palette.is_marked.Goals as goal
 
 pub returns : goal.returns

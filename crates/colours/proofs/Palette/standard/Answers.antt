@@ -1,7 +1,6 @@
 -- `colours::Palette::standard` meets its contract, by those of the functions that it calls.
 -- Assumes nothing.
 use Rattle.colours.specs.Palette.{standard}
-use borrow.Author.Rules.{rules}
 use Rattle.colours.proofs.Palette.standard.Goals as goal
 
 pub returns : goal.returns

@@ -1,10 +1,9 @@
 use mathlib.Core.Path.{◌≡◌}
-use Prim.Native.Nat.{◌+◌, ◌*◌, ◌-◌, ◌≤◌}
+use Prim.Native.Nat.{◌*◌}
 use native.Mathlib.Omega.{arith}
-use mathlib.Core.Logic.{⊎_elim}
-use lib.ListN.{length, length-set}
+use lib.ListN.{length-set}
 use borrow.Author.Rules.{rules}
-use Rattle.colours.proofs.Blocks.{Passed, passed_none, PassedOn, on_none, on-more, passed-as, passed-idle, passed-all}
+use Rattle.colours.proofs.Blocks.{passed_none, on_none, on-more, passed-as, passed-idle, passed-all}
 use Rattle.colours.proofs.marks.count_and_clear.Goals as goal
 use Rattle.colours.proofs.marks.count_and_clear.Goals.{then-may_exceed+else-loop-k-test, else-may_exceed}
 

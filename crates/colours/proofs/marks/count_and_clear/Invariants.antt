@@ -1,12 +1,9 @@
 -- `colours::marks::count_and_clear` meets its contract. Both loops' invariant: the registers before the next one have been passed (`Passed`).
 -- Assumes nothing.
 use mathlib.Core.Path.{◌≡◌}
-use Prim.Native.Nat.{◌+◌, ◌*◌, ◌-◌, ◌≤◌}
-use native.Mathlib.Omega.{arith}
-use mathlib.Core.Logic.{⊎_elim}
-use lib.ListN.{length, length-set}
-use borrow.Author.Rules.{rules}
-use Rattle.colours.proofs.Blocks.{Passed, passed_none, PassedOn, on_none, on-more, passed-as, passed-idle, passed-all}
+use Prim.Native.Nat.{◌*◌, ◌≤◌}
+use lib.ListN.{length}
+use Rattle.colours.proofs.Blocks.{Passed, PassedOn}
 use Rattle.colours.proofs.marks.count_and_clear.Given as goal
 
 abbrev pub invariant-loop-k : goal.invariant-loop-k

@@ -3,7 +3,6 @@
 use borrow.Author.Tests.{lt-ltb, le-ltb}
 use Rattle.colours.specs.Palette.{of_table}
 use Rattle.colours.specs.Marks.{defined}
-use borrow.Author.Rules.{rules}
 use Rattle.colours.proofs.marks.define.Goals as goal
 
 pub returns-then-index-ge256 : goal.returns-then-index-ge256

@@ -1,11 +1,10 @@
 -- `colours::marks::is_marked` meets its contract: the index, clamped to 255, is itself or 255.
 -- Assumes nothing.
-use mathlib.Core.Path.{◌≡◌, refl}
+use mathlib.Core.Path.{◌≡◌}
 use Prim.Native.Nat.{min}
 use native.Mathlib.Omega.{arith}
 use Rattle.colours.specs.Palette.{of_table}
 use Rattle.colours.specs.Marks.{is_marked}
-use borrow.Author.Rules.{rules}
 use Rattle.colours.proofs.marks.is_marked.Goals as goal
 
 pub returns-then-index-lt256 : goal.returns-then-index-lt256

@@ -1,10 +1,8 @@
-use mathlib.Core.Path.{◌≡◌}
-use Prim.Native.Nat.{◌-◌, ◌≤◌}
 use native.Mathlib.Omega.{arith}
 use borrow.Author.Rules.{rules}
 use borrow.Author.Tests.{leb-false}
 use Rattle.colours.specs.Marks.{frame_unit}
-use Rattle.colours.proofs.Blocks.{AtMost, most-none, most-more}
+use Rattle.colours.proofs.Blocks.{most-none, most-more}
 use Rattle.colours.proofs.marks.may_exceed.Goals as goal
 
 pub loop-k-init : goal.loop-k-init

@@ -4,7 +4,6 @@ use mathlib.Core.Path.{◌≡◌, refl, ap₂}
 use mathlib.Core.List.{List, ◌∷◌}
 use Prim.Native.Nat.{ℕ}
 use Rattle.colours.specs.Standard.{base}
-use borrow.Author.Rules.{rules}
 use Rattle.colours.proofs.standard.base.Goals as goal
 
 -- lists are equal place by place

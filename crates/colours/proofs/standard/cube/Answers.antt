@@ -1,14 +1,10 @@
 use mathlib.Core.Path.{◌≡◌}
-use mathlib.Core.List.{List}
-use Prim.Native.Nat.{ℕ, ◌+◌, ◌*◌, ◌-◌, ◌≤◌}
+use Prim.Native.Nat.{◌*◌}
 use native.Mathlib.Omega.{arith}
-use lib.ListN.{replicate}
 use borrow.Author.Rules.{rules}
-use Rattle.colours.specs.Standard.{cube}
 use Rattle.colours.proofs.StandardLaws.{is-cube}
-use Rattle.colours.proofs.Filling.{Filled, filled_none, filled-as, filled_more, filled-whole}
+use Rattle.colours.proofs.Filling.{filled_none, filled-as, filled_more, filled-whole}
 use Rattle.colours.proofs.standard.cube.Goals as goal
-use Rattle.colours.proofs.standard.cube.Invariants.{blank}
 
 pub loop-r-init : goal.loop-r-init
 loop-r-init c = (search rules, filled_none 0 _)

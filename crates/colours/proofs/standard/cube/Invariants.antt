@@ -1,14 +1,10 @@
 -- `colours::standard::cube` meets its contract. Each loop's invariant: the registers before its next one are computed.
 -- Assumes nothing.
-use mathlib.Core.Path.{◌≡◌}
 use mathlib.Core.List.{List}
-use Prim.Native.Nat.{ℕ, ◌+◌, ◌*◌, ◌-◌, ◌≤◌}
-use native.Mathlib.Omega.{arith}
+use Prim.Native.Nat.{ℕ, ◌+◌, ◌*◌, ◌≤◌}
 use lib.ListN.{replicate}
-use borrow.Author.Rules.{rules}
 use Rattle.colours.specs.Standard.{cube}
-use Rattle.colours.proofs.StandardLaws.{is-cube}
-use Rattle.colours.proofs.Filling.{Filled, filled_none, filled-as, filled_more, filled-whole}
+use Rattle.colours.proofs.Filling.{Filled}
 use Rattle.colours.proofs.standard.cube.Given as goal
 
 -- the table as the loops find it

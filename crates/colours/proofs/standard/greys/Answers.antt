@@ -1,10 +1,8 @@
 use mathlib.Core.Path.{◌≡◌}
-use Prim.Native.Nat.{◌-◌, ◌≤◌}
 use native.Mathlib.Omega.{arith}
 use borrow.Author.Rules.{rules}
-use Rattle.colours.specs.Standard.{grey}
 use Rattle.colours.proofs.StandardLaws.{is-grey}
-use Rattle.colours.proofs.Filling.{Filled, filled_none, filled-as, filled_more, filled-whole}
+use Rattle.colours.proofs.Filling.{filled_none, filled-as, filled_more, filled-whole}
 use Rattle.colours.proofs.standard.greys.Goals as goal
 
 pub loop-k-init : goal.loop-k-init

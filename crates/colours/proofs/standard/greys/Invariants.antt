@@ -1,12 +1,8 @@
 -- `colours::standard::greys` meets its contract. The loop's invariant: the first k greys are computed.
 -- Assumes nothing.
-use mathlib.Core.Path.{◌≡◌}
-use Prim.Native.Nat.{◌-◌, ◌≤◌}
-use native.Mathlib.Omega.{arith}
-use borrow.Author.Rules.{rules}
+use Prim.Native.Nat.{◌≤◌}
 use Rattle.colours.specs.Standard.{grey}
-use Rattle.colours.proofs.StandardLaws.{is-grey}
-use Rattle.colours.proofs.Filling.{Filled, filled_none, filled-as, filled_more, filled-whole}
+use Rattle.colours.proofs.Filling.{Filled}
 use Rattle.colours.proofs.standard.greys.Given as goal
 
 abbrev pub invariant-loop-k : goal.invariant-loop-k

@@ -1,9 +1,8 @@
 use mathlib.Core.Path.{◌≡◌, refl, ◌∙◌}
-use Prim.Native.Nat.{◌-◌, ◌≤◌}
 use native.Mathlib.Omega.{arith}
-use lib.ListN.{length, get_or}
+use lib.ListN.{length}
 use borrow.Author.Rules.{rules}
-use Rattle.colours.proofs.Filling.{Filled, filled_none, filled-as, filled_more, listed_back}
+use Rattle.colours.proofs.Filling.{filled_none, filled-as, filled_more, listed_back}
 use Rattle.colours.proofs.standard.put.Goals as goal
 
 pub loop-k-init : goal.loop-k-init

@@ -1,11 +1,8 @@
 -- `colours::standard::put` meets its contract. The loop's invariant: the rule's first k colours stand in their places.
 -- Assumes nothing.
-use mathlib.Core.Path.{◌≡◌, refl, ◌∙◌}
-use Prim.Native.Nat.{◌-◌, ◌≤◌}
-use native.Mathlib.Omega.{arith}
-use lib.ListN.{length, get_or}
-use borrow.Author.Rules.{rules}
-use Rattle.colours.proofs.Filling.{Filled, filled_none, filled-as, filled_more, listed_back}
+use Prim.Native.Nat.{◌≤◌}
+use lib.ListN.{get_or}
+use Rattle.colours.proofs.Filling.{Filled}
 use Rattle.colours.proofs.standard.put.Given as goal
 
 abbrev pub invariant-loop-k : goal.invariant-loop-k

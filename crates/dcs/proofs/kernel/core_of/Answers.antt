@@ -1,6 +1,5 @@
 -- `core_of` meets its contract: the parts of the payload session, with header and phase.
 use Rattle.dcs.proofs.CoreLaws.{core-as}
-use borrow.Author.Rules.{rules}
 use Rattle.dcs.proofs.kernel.core_of.Goals as goal
 
 pub returns : goal.returns

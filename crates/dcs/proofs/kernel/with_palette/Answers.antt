@@ -2,7 +2,6 @@
 use mathlib.Core.Path.{ap}
 use Rattle.payload.specs.declared.Session as payload_session
 use Rattle.dcs.specs.Session.{session_of}
-use borrow.Author.Rules.{rules}
 use Rattle.dcs.proofs.kernel.with_palette.Goals as goal
 
 pub returns : goal.returns

@@ -1,8 +1,6 @@
 -- `dcs::memory::numbers_of` meets its contract: the payload session's numbers, with phase and header written over the zeros.
 use Rattle.dcs.specs.Memory.{nine_written}
 use Rattle.dcs.proofs.MemoryLaws.{numbers-told}
-use borrow.Author.Rules.{rules}
-use Rattle.payload.proofs.memory.numbers_of.Reads as memory-numbers-of-reads'
 use Rattle.dcs.proofs.memory.numbers_of.Goals as goal
 
 pub returns : goal.returns

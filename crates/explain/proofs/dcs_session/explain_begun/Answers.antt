@@ -1,5 +1,4 @@
 -- `explain_begun` meets its contract: the session that starts at `q`, fed the bytes after it.
-use borrow.Author.Rules.{rules}
 use Rattle.explain.proofs.ExplainLaws.{begun-told}
 use Rattle.explain.proofs.dcs_session.explain_begun.Goals as goal
 

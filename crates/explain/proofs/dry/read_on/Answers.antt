@@ -1,10 +1,7 @@
 use borrow.Enum.Refused.{opened}
-use Rattle.std.specs.Prelude.{◌-◌, length}
 use borrow.Author.Rules.{rules}
 use native.Mathlib.Omega.{arith}
-use Rattle.colours.specs.Palette.{of_table}
-use Rattle.explain.specs.Dry.{dry_from}
-use Rattle.explain.proofs.DryLaws.{Going, spends, going_on_lem, going-stops, going_done, looping}
+use Rattle.explain.proofs.DryLaws.{spends, looping}
 use Rattle.explain.proofs.dry.read_on.Goals as goal
 
 pub loop-consumed-init : goal.loop-consumed-init

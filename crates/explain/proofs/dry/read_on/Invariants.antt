@@ -1,10 +1,8 @@
 -- `read_on` meets its contract. The loop's invariant is `Going`: the bytes that are left lead to where all lead.
 use Rattle.std.specs.Prelude.{◌-◌, length}
-use borrow.Author.Rules.{rules}
-use native.Mathlib.Omega.{arith}
 use Rattle.colours.specs.Palette.{of_table}
 use Rattle.explain.specs.Dry.{dry_from}
-use Rattle.explain.proofs.DryLaws.{Going, spends, going_on_lem, going-stops, going_done, looping}
+use Rattle.explain.proofs.DryLaws.{Going}
 use Rattle.explain.proofs.dry.read_on.Given as goal
 
 abbrev pub invariant-loop-consumed : goal.invariant-loop-consumed

@@ -1,5 +1,4 @@
 -- `explain_started` meets its contract: the session that starts with these settings, and its bytes to their end.
-use borrow.Author.Rules.{rules}
 use Rattle.explain.proofs.ExplainLaws.{started-told}
 use Rattle.explain.proofs.whole.explain_started.Goals as goal
 

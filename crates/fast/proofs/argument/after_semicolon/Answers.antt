@@ -1,10 +1,6 @@
 -- `after_semicolon` meets its contract: the `;` after a number is read with it, by the law of a number parted.
 use native.Mathlib.Omega.{arith}
 use Rattle.fast.proofs.ArgumentLaws.{none_written, written-parted}
-use borrow.Author.Rules.{rules}
-use Rattle.fast.proofs.argument.after_semicolon.Reads as reads
-use Rattle.fast.proofs.argument.after_semicolon.Lts as lts
-use Rattle.fast.proofs.argument.nothing.Reads as nothing-reads
 use Rattle.fast.proofs.argument.after_semicolon.Goals as goal
 
 pub returns-then-end-eq0 : goal.returns-then-end-eq0

@@ -1,10 +1,6 @@
 -- `ends_argument` meets its contract: three tests, one after the other, by one law for each answer.
 use Rattle.fast.proofs.ArgumentLaws.{closings}
 use borrow.Author.Rules.{rules}
-use Rattle.fast.proofs.argument.ends_argument.Reads as reads
-use Rattle.fast.proofs.argument.ends_argument.Lts as lts
-use Rattle.numbers.proofs.is_digit.Reads as is-digit-reads
-use Rattle.numbers.proofs.is_skipped.Reads as is-skipped-reads
 use Rattle.fast.proofs.argument.ends_argument.Goals as goal
 
 pub returns-then-is_digit : goal.returns-then-is_digit

@@ -2,10 +2,6 @@
 use native.Mathlib.Omega.{arith}
 use mathlib.Core.Bool.{true≢false}
 use mathlib.Core.Path.{sym, ◌∙◌}
-use borrow.Author.Rules.{rules}
-use Rattle.fast.proofs.argument.is_last.Reads as reads
-use Rattle.fast.proofs.argument.is_last.Lts as lts
-use Rattle.fast.proofs.argument.ends_argument.Reads as ends-argument-reads
 use Rattle.fast.proofs.argument.is_last.Goals as goal
 
 pub returns-then-end-eq0 : goal.returns-then-end-eq0

@@ -1,11 +1,5 @@
 -- `last_number` meets its contract: what `number_at` read, where `is_last` says that it is the last.
 use Rattle.fast.proofs.ArgumentLaws.{none_written}
-use borrow.Author.Rules.{rules}
-use Rattle.fast.proofs.argument.last_number.Reads as reads
-use Rattle.fast.proofs.argument.last_number.Lts as lts
-use Rattle.fast.proofs.argument.is_last.Reads as is-last-reads
-use Rattle.fast.proofs.argument.nothing.Reads as nothing-reads
-use Rattle.fast.proofs.argument.number_at.Reads as number-at-reads
 use Rattle.fast.proofs.argument.last_number.Goals as goal
 
 pub returns-then-is_last : goal.returns-then-is_last

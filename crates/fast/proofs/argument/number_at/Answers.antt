@@ -1,19 +1,11 @@
-use borrow.Author.Rules.{rules}
 use mathlib.Core.Bool.{true}
 use mathlib.Core.Path.{◌≡◌, sym, ◌∙◌}
 use lib.ListN.{get_or}
 use Rattle.numbers.specs.Bytes.{digit}
-use Prim.Native.Nat.{◌-◌, ◌≤◌}
 use native.Mathlib.Omega.{arith}
-use lib.ListN.{length}
 use borrow.Author.Tests.{not-false}
 use Rattle.numbers.proofs.Laws.{digit-least, digit-top}
-use Rattle.fast.specs.Argument.{Written}
 use Rattle.fast.proofs.ArgumentLaws.{none_written, written-first, written-more}
-use Rattle.fast.proofs.argument.number_at.Reads as reads
-use Rattle.fast.proofs.argument.number_at.Lts as lts
-use Rattle.fast.proofs.argument.nothing.Reads as nothing-reads
-use Rattle.numbers.proofs.is_digit.Reads as is-digit-reads
 use Rattle.fast.proofs.argument.number_at.Goals as goal
 use Rattle.fast.proofs.argument.number_at.Goals.{Else-not-is_digit, Else-value-gt-LARGE}
 

@@ -1,7 +1,6 @@
 -- `number_before` meets its contract: what `number_at` read is the argument's last, where the byte after it is a sixel.
 use native.Mathlib.Omega.{arith}
 use mathlib.Core.Path.{sym, ◌∙◌}
-use borrow.Author.Rules.{rules}
 use Rattle.fast.proofs.ArgumentLaws.{none_written, closing-sixel}
 use Rattle.fast.proofs.argument.number_before.Goals as goal
 

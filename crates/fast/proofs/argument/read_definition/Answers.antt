@@ -2,12 +2,6 @@
 -- before, are a definition.
 use native.Mathlib.Omega.{arith}
 use Rattle.fast.proofs.ArgumentLaws.{none-defined, five-defined}
-use borrow.Author.Rules.{rules}
-use Rattle.fast.proofs.argument.read_definition.Reads as reads
-use Rattle.fast.proofs.argument.read_definition.Lts as lts
-use Rattle.fast.proofs.argument.last_number.Reads as last-number-reads
-use Rattle.fast.proofs.argument.parted_number.Reads as parted-number-reads
-use Rattle.fast.proofs.argument.undefined.Reads as undefined-reads
 use Rattle.fast.proofs.argument.read_definition.Goals as goal
 
 pub returns-then-first-eq0 : goal.returns-then-first-eq0

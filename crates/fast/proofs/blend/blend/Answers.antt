@@ -3,7 +3,6 @@ use mathlib.Core.List.{List}
 use mathlib.Core.Path.{◌∙◌, ap}
 use Prim.Native.Nat.{ℕ}
 use mathlib.Core.Bool.{cond}
-use borrow.Author.Rules.{rules}
 use lib.Dec.{eqb}
 use Rattle.fast.proofs.BlendLaws.{blended-as}
 use Rattle.fast.proofs.blend.blend.Goals as goal

@@ -1,7 +1,6 @@
 -- `blend_across` meets its contract: four pixels, one after the other.
 use mathlib.Core.Path.{◌∙◌, ap}
 use Prim.Native.Nat.{◌+◌, ◌%◌}
-use borrow.Author.Rules.{rules}
 use Rattle.fast.specs.Blend.{blended, blended_across}
 use Rattle.fast.proofs.blend.blend_across.Goals as goal
 

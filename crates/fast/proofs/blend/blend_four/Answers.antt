@@ -1,10 +1,10 @@
-use mathlib.Core.Path.{◌≡◌, refl, sym, ap, ◌∙◌}
-use Prim.Native.Nat.{ℕ, ◌+◌, ◌-◌, ◌*◌, ◌/◌, ◌^◌, ◌≤◌}
+use mathlib.Core.Path.{◌≡◌, refl, sym, ◌∙◌}
+use Prim.Native.Nat.{ℕ, ◌+◌, ◌*◌, ◌/◌, ◌^◌, ◌≤◌}
 use native.Mathlib.Nat.{div-one}
 use native.Mathlib.Omega.{arith}
 use lib.ListN.{length}
 use Rattle.canvas.proofs.Grid.{sixel-room, rest-next, rows_few}
-use Rattle.fast.proofs.BlendLaws.{four_rows, four-none, four-more, four-last}
+use Rattle.fast.proofs.BlendLaws.{four-none, four-more, four-last}
 use Rattle.fast.proofs.blend.blend_four.Goals as goal
 use Rattle.fast.proofs.blend.blend_four.Goals.{In-loop-k}
 

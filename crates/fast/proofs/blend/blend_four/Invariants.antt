@@ -1,11 +1,8 @@
 -- `blend_four` meets its contract. The loop's invariant: the first `k` rows of the four sixels are painted, and the bits of the others are left.
-use mathlib.Core.Path.{◌≡◌, refl, sym, ap, ◌∙◌}
-use Prim.Native.Nat.{ℕ, ◌+◌, ◌-◌, ◌*◌, ◌/◌, ◌^◌, ◌≤◌}
-use native.Mathlib.Nat.{div-one}
-use native.Mathlib.Omega.{arith}
+use mathlib.Core.Path.{◌≡◌}
+use Prim.Native.Nat.{◌-◌, ◌/◌, ◌^◌, ◌≤◌}
 use lib.ListN.{length}
-use Rattle.canvas.proofs.Grid.{sixel-room, rest-next, rows_few}
-use Rattle.fast.proofs.BlendLaws.{four_rows, four-none, four-more, four-last}
+use Rattle.fast.proofs.BlendLaws.{four_rows}
 use Rattle.fast.proofs.blend.blend_four.Given as goal
 
 abbrev pub invariant-loop-k : goal.invariant-loop-k

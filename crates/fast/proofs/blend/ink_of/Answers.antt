@@ -1,6 +1,5 @@
 -- `ink_of` meets its contract: six bits have no more than six ones.
 use native.Mathlib.Omega.{arith}
-use borrow.Author.Rules.{rules}
 use lib.Count.{ones-le}
 use Rattle.fast.proofs.blend.ink_of.Goals as goal
 

@@ -1,10 +1,7 @@
 -- `ink_of_four` meets its contract: each has no more than six ones.
-use mathlib.Core.Path.{◌≡◌, ap₂, ◌∙◌}
-use Prim.Native.Nat.{ℕ, ◌+◌, ◌≤◌}
+use Prim.Native.Nat.{◌≤◌}
 use native.Mathlib.Omega.{arith}
-use borrow.Author.Rules.{rules}
 use lib.Count.{ones, ones-le}
-use Rattle.fast.specs.declared.blend.Four.{Four}
 use Rattle.fast.specs.Blend.{four_ink}
 use Rattle.fast.proofs.blend.ink_of_four.Goals as goal
 use Rattle.fast.proofs.blend.ink_of_four.Goals.{Start}

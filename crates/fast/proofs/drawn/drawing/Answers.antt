@@ -1,6 +1,5 @@
 -- `drawing` meets its contract, by whether a command said the sixel.
 use mathlib.Core.Path.{sym, ◌∙◌}
-use borrow.Author.Rules.{rules}
 use Rattle.frame.specs.Commands.{with_repeat}
 use Rattle.numbers.proofs.Laws.{cond_yes, cond_no}
 use Rattle.fast.specs.Advance.{drawing_of}

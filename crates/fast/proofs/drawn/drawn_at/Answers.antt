@@ -1,8 +1,6 @@
 -- `drawn_at` meets its contract, by the byte that stands there.
 use mathlib.Core.Bool.{true≢false}
 use mathlib.Core.Path.{refl, sym, ◌∙◌}
-use borrow.Author.Rules.{rules}
-use Rattle.fast.specs.Advance.{Draws}
 use Rattle.fast.proofs.AdvanceLaws.{none-drawn}
 use Rattle.fast.proofs.drawn.drawn_at.Goals as goal
 

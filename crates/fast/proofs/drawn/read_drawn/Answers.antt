@@ -1,6 +1,5 @@
 -- `read_drawn` meets its contract: the sixel is one advance, and a repeat command before it is read with it.
 use native.Mathlib.Omega.{arith}
-use borrow.Author.Rules.{rules}
 use Rattle.fast.proofs.AdvanceLaws.{drawn-fits, drawn-advances}
 use Rattle.fast.proofs.RunLaws.{nothing-advances}
 use Rattle.fast.proofs.drawn.read_drawn.Goals as goal

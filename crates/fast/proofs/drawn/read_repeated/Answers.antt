@@ -1,7 +1,6 @@
 -- `read_repeated` meets its contract: the sixel has an area that holds it, or it is refused and nothing is taken.
-use mathlib.Core.Path.{refl, sym, ◌∙◌}
+use mathlib.Core.Path.{refl, sym}
 use native.Mathlib.Omega.{arith}
-use borrow.Author.Rules.{rules}
 use Rattle.reference.proofs.StepLaws.{needed-holds}
 use Rattle.fast.proofs.RunLaws.{nothing-advances}
 use Rattle.fast.proofs.drawn.read_repeated.Goals as goal

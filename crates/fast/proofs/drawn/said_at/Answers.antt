@@ -1,8 +1,6 @@
 -- `said_at` meets its contract: a whole number within the limit that stands before a sixel, and nothing for anything else.
 use mathlib.Core.Path.{refl}
 use native.Mathlib.Omega.{arith}
-use borrow.Author.Rules.{rules}
-use Rattle.fast.specs.Advance.{Said}
 use Rattle.fast.proofs.AdvanceLaws.{none-drawn}
 use Rattle.fast.proofs.drawn.said_at.Goals as goal
 

@@ -1,7 +1,5 @@
 -- `settled_if` meets its contract, by whether a command was read.
 use mathlib.Core.Path.{sym, ◌∙◌}
-use borrow.Author.Rules.{rules}
-use borrow.Author.Tests.{not-true}
 use Rattle.numbers.proofs.Laws.{cond_yes, cond_no}
 use Rattle.fast.specs.Advance.{settled_if}
 use Rattle.fast.proofs.drawn.settled_if.Goals as goal

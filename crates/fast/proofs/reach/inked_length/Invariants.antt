@@ -1,9 +1,7 @@
 -- `inked_length` meets its contract. The loop's invariant: the sixels that are left end with ink where all of them do.
 use Prim.Native.Nat.{◌≤◌}
-use mathlib.Core.Path.{◌≡◌, refl, sym, ◌∙◌, ap}
-use native.Mathlib.Omega.{arith}
+use mathlib.Core.Path.{◌≡◌}
 use Rattle.fast.specs.Run.{inked_length}
-use Rattle.fast.proofs.ReachLaws.{inked-here, inked-earlier, inked-none}
 use Rattle.fast.proofs.reach.inked_length.Given as goal
 
 abbrev pub invariant-loop-rest : goal.invariant-loop-rest

@@ -1,7 +1,6 @@
-use Prim.Native.Nat.{◌+◌, ◌-◌, ◌≤◌}
+use Prim.Native.Nat.{◌+◌, ◌-◌}
 use mathlib.Core.Path.{◌≡◌, refl, ap, ◌∙◌}
 use native.Mathlib.Omega.{arith}
-use borrow.Author.Rules.{rules}
 use Rattle.reference.proofs.StepLaws.{sixel-least}
 use Rattle.fast.specs.Run.{largest_bits}
 use Rattle.fast.proofs.ReachLaws.{largest-none, largest-more}

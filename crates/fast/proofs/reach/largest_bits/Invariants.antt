@@ -1,11 +1,7 @@
 -- `largest_bits` meets its contract. The loop's invariant: the byte is that of the largest bits so far.
-use Prim.Native.Nat.{◌+◌, ◌-◌, ◌≤◌}
-use mathlib.Core.Path.{◌≡◌, refl, ap, ◌∙◌}
-use native.Mathlib.Omega.{arith}
-use borrow.Author.Rules.{rules}
-use Rattle.reference.proofs.StepLaws.{sixel-least}
+use Prim.Native.Nat.{◌+◌, ◌≤◌}
+use mathlib.Core.Path.{◌≡◌}
 use Rattle.fast.specs.Run.{largest_bits}
-use Rattle.fast.proofs.ReachLaws.{largest-none, largest-more}
 use Rattle.fast.proofs.reach.largest_bits.Given as goal
 
 abbrev pub invariant-loop-k : goal.invariant-loop-k

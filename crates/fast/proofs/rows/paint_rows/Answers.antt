@@ -1,12 +1,10 @@
-use mathlib.Core.Path.{◌≡◌, refl, sym, ap, ◌∙◌}
-use Prim.Native.Nat.{ℕ, ◌+◌, ◌-◌, ◌*◌, ◌/◌, ◌^◌, ◌≤◌, ◌<◌}
+use mathlib.Core.Path.{◌≡◌, refl, sym, ◌∙◌}
+use Prim.Native.Nat.{◌+◌, ◌*◌, ◌/◌, ◌^◌, ◌≤◌, ◌<◌}
 use native.Mathlib.Nat.{div-one}
 use native.Mathlib.Omega.{arith}
 use lib.Count.{count_trailing_zeros}
 use lib.ListN.{length}
-use Rattle.canvas.specs.Picture.{grid}
-use Rattle.canvas.specs.Paint.{painted}
-use Rattle.canvas.proofs.Grid.{first_rows, sixel-none, sixel-room, rest-next, rows_few}
+use Rattle.canvas.proofs.Grid.{sixel-none, sixel-room, rest-next, rows_few}
 use Rattle.fast.proofs.RowLaws.{row-left, row-few, row-painted, rows-done}
 use Rattle.fast.proofs.rows.paint_rows.Goals as goal
 use Rattle.fast.proofs.rows.paint_rows.Goals.{In-loop-rest}

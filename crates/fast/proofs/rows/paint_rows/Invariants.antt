@@ -1,15 +1,11 @@
 -- `paint_rows` meets its contract. The loop's invariant is that of `paint_tested`: the first `k` rows of the sixel are painted, and the bits of
 -- the others are left. A turn goes to the lowest of these.
-use mathlib.Core.Path.{◌≡◌, refl, sym, ap, ◌∙◌}
-use Prim.Native.Nat.{ℕ, ◌+◌, ◌-◌, ◌*◌, ◌/◌, ◌^◌, ◌≤◌, ◌<◌}
-use native.Mathlib.Nat.{div-one}
-use native.Mathlib.Omega.{arith}
-use lib.Count.{count_trailing_zeros}
+use mathlib.Core.Path.{◌≡◌}
+use Prim.Native.Nat.{◌-◌, ◌/◌, ◌^◌, ◌≤◌}
 use lib.ListN.{length}
 use Rattle.canvas.specs.Picture.{grid}
 use Rattle.canvas.specs.Paint.{painted}
-use Rattle.canvas.proofs.Grid.{first_rows, sixel-none, sixel-room, rest-next, rows_few}
-use Rattle.fast.proofs.RowLaws.{row-left, row-few, row-painted, rows-done}
+use Rattle.canvas.proofs.Grid.{first_rows}
 use Rattle.fast.proofs.rows.paint_rows.Given as goal
 
 abbrev pub invariant-loop-rest : goal.invariant-loop-rest

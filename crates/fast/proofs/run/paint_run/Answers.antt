@@ -1,6 +1,5 @@
 -- `paint_run` meets its contract: the area has room for the run, and the frame after it has the extent that was found.
 use mathlib.Core.Path.{◌∙◌}
-use native.Mathlib.Omega.{arith}
 use borrow.Author.Rules.{rules}
 use Rattle.reference.proofs.StepLaws.{held-room, sixel-room}
 use Rattle.fast.proofs.RunLaws.{painted-as}

@@ -1,7 +1,6 @@
 -- `read_run` meets its contract: its sixels are at most a sixth of the ink that is left, so their ink is within it, whichever way they are
 -- painted.
 use native.Mathlib.Omega.{arith}
-use borrow.Author.Rules.{rules}
 use Rattle.fast.proofs.RunLaws.{nothing-advances, sixels-before}
 use Rattle.fast.proofs.run.read_run.Goals as goal
 

@@ -1,7 +1,6 @@
 -- `read_visible` meets its contract: the sixels that were painted need no more than the visible area, so that nothing had to grow.
 use Prim.Native.Nat.{◌+◌, ◌<◌}
 use native.Mathlib.Omega.{arith}
-use borrow.Author.Rules.{rules}
 use lib.ListN.{length}
 use Rattle.fast.specs.Run.{Sixels}
 use Rattle.fast.proofs.RunLaws.{first_taken, visible-advances, visible-room, planned-run}

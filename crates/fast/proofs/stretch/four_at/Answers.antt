@@ -2,7 +2,6 @@
 use mathlib.Core.Path.{refl}
 use Prim.Native.Nat.{◌+◌}
 use native.Mathlib.Omega.{arith}
-use borrow.Author.Rules.{rules}
 use Rattle.reference.proofs.StepLaws.{sixel-least}
 use Rattle.fast.specs.Blend.{sixels_at}
 use Rattle.fast.proofs.stretch.four_at.Goals as goal

@@ -1,7 +1,6 @@
 -- `four_stand` meets its contract: four are counted.
-use mathlib.Core.Path.{◌≡◌, subst}
+use mathlib.Core.Path.{subst}
 use Prim.Native.Nat.{ℕ, ◌+◌}
-use borrow.Author.Rules.{rules}
 use borrow.Author.Tests.{eqb-true}
 use Rattle.fast.specs.Run.{Sixels}
 use Rattle.fast.proofs.stretch.four_stand.Goals as goal

@@ -1,10 +1,8 @@
-use mathlib.Core.Path.{◌≡◌, refl, ◌∙◌}
-use Prim.Native.Nat.{ℕ, ◌+◌, ◌-◌, ◌*◌, ◌≤◌}
+use mathlib.Core.Path.{refl, ◌∙◌}
+use Prim.Native.Nat.{◌+◌, ◌*◌, ◌≤◌}
 use native.Mathlib.Omega.{arith}
 use lib.ListN.{length}
-use Rattle.canvas.specs.Picture.{grid}
-use Rattle.canvas.specs.Paint.{painted}
-use Rattle.canvas.proofs.Grid.{first_rows, sixel-none, sixel-last, sixel-room, rows_few}
+use Rattle.canvas.proofs.Grid.{sixel-none, sixel-last, sixel-room, rows_few}
 use Rattle.fast.proofs.BlendLaws.{full-more}
 use Rattle.fast.proofs.stretch.paint_full.Goals as goal
 use Rattle.fast.proofs.stretch.paint_full.Goals.{In-loop-k}

@@ -1,12 +1,10 @@
 -- `paint_full` meets its contract. The loop's invariant: the first `k` rows of the sixel are painted.
-use mathlib.Core.Path.{◌≡◌, refl, ◌∙◌}
-use Prim.Native.Nat.{ℕ, ◌+◌, ◌-◌, ◌*◌, ◌≤◌}
-use native.Mathlib.Omega.{arith}
+use mathlib.Core.Path.{◌≡◌}
+use Prim.Native.Nat.{◌-◌, ◌≤◌}
 use lib.ListN.{length}
 use Rattle.canvas.specs.Picture.{grid}
 use Rattle.canvas.specs.Paint.{painted}
-use Rattle.canvas.proofs.Grid.{first_rows, sixel-none, sixel-last, sixel-room, rows_few}
-use Rattle.fast.proofs.BlendLaws.{full-more}
+use Rattle.canvas.proofs.Grid.{first_rows}
 use Rattle.fast.proofs.stretch.paint_full.Given as goal
 
 abbrev pub invariant-loop-k : goal.invariant-loop-k

@@ -1,9 +1,8 @@
 use Prim.Native.Nat.{ℕ, ◌+◌, ◌-◌, ◌≤◌}
-use mathlib.Core.List.{List}
-use mathlib.Core.Path.{◌≡◌, refl, sym, subst, ◌∙◌}
+use mathlib.Core.Path.{◌≡◌, refl, subst, ◌∙◌}
 use native.Mathlib.Nat.{add-zero}
 use native.Mathlib.Omega.{arith}
-use lib.ListN.{length, get_or}
+use lib.ListN.{length}
 use Rattle.fast.specs.Run.{Sixels, Laid}
 use Rattle.fast.proofs.RunLaws.{laid_none, laid-blank, laid-full, laid-joined, laid-few, all-taken}
 use Rattle.fast.proofs.stretch.paint_sixels.Goals as goal

@@ -1,12 +1,8 @@
 -- `paint_sixels` meets its contract. The loop's invariant: the first `k` sixels were painted.
-use Prim.Native.Nat.{ℕ, ◌+◌, ◌-◌, ◌≤◌}
-use mathlib.Core.List.{List}
-use mathlib.Core.Path.{◌≡◌, refl, sym, subst, ◌∙◌}
-use native.Mathlib.Nat.{add-zero}
-use native.Mathlib.Omega.{arith}
-use lib.ListN.{length, get_or}
-use Rattle.fast.specs.Run.{Sixels, Laid}
-use Rattle.fast.proofs.RunLaws.{laid_none, laid-blank, laid-full, laid-joined, laid-few, all-taken}
+use Prim.Native.Nat.{◌-◌, ◌≤◌}
+use mathlib.Core.Path.{◌≡◌}
+use lib.ListN.{length}
+use Rattle.fast.specs.Run.{Laid}
 use Rattle.fast.proofs.stretch.paint_sixels.Given as goal
 
 abbrev pub invariant-loop-k : goal.invariant-loop-k

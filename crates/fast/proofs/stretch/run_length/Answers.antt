@@ -1,12 +1,6 @@
-use Prim.Native.Nat.{◌+◌, ◌-◌, ◌≤◌}
 use native.Mathlib.Omega.{arith}
-use borrow.Author.Rules.{rules}
 use borrow.Author.Tests.{not-false}
-use Rattle.fast.specs.Run.{Sixels}
 use Rattle.fast.proofs.RunLaws.{sixels-none, sixels-more}
-use Rattle.fast.proofs.stretch.run_length.Reads as reads
-use Rattle.fast.proofs.stretch.run_length.Lts as lts
-use Rattle.numbers.proofs.is_sixel.Reads as is-sixel-reads
 use Rattle.fast.proofs.stretch.run_length.Goals as goal
 
 pub loop-count-init : goal.loop-count-init

@@ -2,10 +2,6 @@
 use Rattle.frame.proofs.CommandLaws.{colored-held}
 use borrow.Author.Rules.{rules}
 use Rattle.frame.specs.Commands.{with_color}
-use Rattle.frame.proofs.commands.colored.Reads as reads
-use Rattle.frame.proofs.commands.colored.Lts as lts
-use Rattle.frame.proofs.commands.more_held.Reads as more-held-reads
-use Rattle.frame.proofs.commands.settled.Reads as settled-reads
 use Rattle.frame.proofs.commands.colored.Goals as goal
 
 pub returns : goal.returns

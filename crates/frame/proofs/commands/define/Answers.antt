@@ -1,9 +1,5 @@
 use Rattle.frame.proofs.CommandLaws.{colored}
 use borrow.Author.Rules.{rules}
-use Rattle.frame.proofs.commands.define.Reads as reads
-use Rattle.frame.proofs.commands.define.Lts as lts
-use Rattle.colours.proofs.define_hls.Reads as define-hls-reads
-use Rattle.colours.proofs.define_rgb.Reads as define-rgb-reads
 use Rattle.frame.proofs.commands.define.Goals as goal
 
 pub returns-then-space-eq1 : goal.returns-then-space-eq1

@@ -1,8 +1,6 @@
 -- `more_held` meets its contract: a law for each of its three ways.
 use Rattle.frame.proofs.CommandLaws.{counted}
 use borrow.Author.Rules.{rules}
-use Rattle.frame.proofs.commands.more_held.Reads as reads
-use Rattle.frame.proofs.commands.more_held.Lts as lts
 use Rattle.frame.proofs.commands.more_held.Goals as goal
 
 pub returns-then-count-eq18446744073709551615 : goal.returns-then-count-eq18446744073709551615

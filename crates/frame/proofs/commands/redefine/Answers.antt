@@ -1,10 +1,5 @@
 use Rattle.frame.proofs.CommandLaws.{colored}
 use borrow.Author.Rules.{rules}
-use Rattle.frame.proofs.commands.redefine.Reads as reads
-use Rattle.frame.proofs.commands.redefine.Lts as lts
-use Rattle.frame.proofs.commands.define.Reads as define-reads
-use Rattle.numbers.proofs.Parameters.count.Reads as count-reads
-use Rattle.numbers.proofs.Parameters.value.Reads as value-reads
 use Rattle.frame.proofs.commands.redefine.Goals as goal
 
 pub define-requires : goal.define-requires

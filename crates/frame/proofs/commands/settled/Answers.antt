@@ -1,6 +1,5 @@
 -- `settled` meets its contract: it tells the frame of `without_command`, with nothing consumed.
 use mathlib.Core.Path.{ap}
-use borrow.Author.Rules.{rules}
 use Rattle.frame.specs.declared.Frame.{Frame}
 use Rattle.frame.specs.declared.Progress.{Progress}
 use Rattle.frame.specs.declared.Outcome.TheVariants as outcomes

@@ -3,7 +3,6 @@ use mathlib.Core.Path.{ap}
 use Rattle.numbers.specs.declared.Parameters.{Parameters}
 use Rattle.frame.specs.declared.Kind.TheVariants as kinds
 use Rattle.frame.specs.Commands.{with_command, no_command}
-use borrow.Author.Rules.{rules}
 use Rattle.frame.proofs.commands.without_command.Goals as goal
 
 pub returns : goal.returns

@@ -1,10 +1,8 @@
-use Rattle.std.specs.Prelude.{◌≡◌, ◌+◌, ◌-◌, ◌*◌, ◌≤◌, length}
+use Rattle.std.specs.Prelude.{◌+◌, ◌*◌, ◌≤◌, length}
 use mathlib.Core.Path.{◌∙◌}
 use native.Mathlib.Omega.{arith}
 use borrow.Author.Rules.{rules}
-use Rattle.canvas.specs.Picture.{area_of}
 use Rattle.canvas.proofs.Growth.{rectangle-room}
-use Rattle.moving.specs.Carry.{carried}
 use Rattle.moving.proofs.CarryLaws.{row-turns}
 use Rattle.moving.proofs.carrying.carry_rows.Goals as goal
 use Rattle.moving.proofs.carrying.carry_rows.Goals.{In-loop-y}

@@ -1,12 +1,7 @@
 -- `carry_rows` meets its contract. The loop's invariant: the first y rows are carried.
-use Rattle.std.specs.Prelude.{◌≡◌, ◌+◌, ◌-◌, ◌*◌, ◌≤◌, length}
-use mathlib.Core.Path.{◌∙◌}
-use native.Mathlib.Omega.{arith}
-use borrow.Author.Rules.{rules}
+use Rattle.std.specs.Prelude.{◌≡◌, ◌≤◌, length}
 use Rattle.canvas.specs.Picture.{area_of}
-use Rattle.canvas.proofs.Growth.{rectangle-room}
 use Rattle.moving.specs.Carry.{carried}
-use Rattle.moving.proofs.CarryLaws.{row-turns}
 use Rattle.moving.proofs.carrying.carry_rows.Given as goal
 
 abbrev pub invariant-loop-y : goal.invariant-loop-y

@@ -1,11 +1,6 @@
 -- `moving::carrying::copy_bytes` meets its contract. The loop's invariant: the first j bytes are pasted. Assumes nothing.
-use Rattle.std.specs.Prelude.{◌≡◌, ℕ, ◌+◌, ◌-◌, ◌<◌, ◌≤◌, List, length, drop, set}
-use mathlib.Core.Path.{refl, sym, ap, ap₂, ◌∙◌}
-use Prim.Native.Nat.{zero-le}
-use native.Mathlib.Numerals.{add-one}
-use native.Mathlib.Omega.{arith}
-use lib.ListN.{length-set, length-drop}
-use lib.Seq.{paste, paste-zero, paste-suc, get_or-drop}
+use Rattle.std.specs.Prelude.{◌≡◌, ◌≤◌, length, drop}
+use lib.Seq.{paste}
 use Rattle.moving.proofs.carrying.copy_bytes.Given as goal
 
 abbrev pub invariant-loop-j : goal.invariant-loop-j

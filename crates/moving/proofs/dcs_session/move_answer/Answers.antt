@@ -1,5 +1,4 @@
 -- `move_answer` meets its contract: the picture is what the phase shows.
-use borrow.Author.Rules.{rules}
 use Rattle.moving.proofs.MoveLaws.{answer-shown}
 use Rattle.moving.proofs.dcs_session.move_answer.Goals as goal
 

@@ -1,5 +1,4 @@
 -- `move_to` meets its contract: a refusal, or the session of the moved parts.
-use borrow.Author.Rules.{rules}
 use Rattle.moving.proofs.MoveLaws.{dcs-refused, dcs-made}
 use Rattle.moving.proofs.dcs_session.move_to.Goals as goal
 

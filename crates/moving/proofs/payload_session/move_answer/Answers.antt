@@ -1,5 +1,4 @@
 -- `move_answer` meets its contract: the picture is the visible area.
-use borrow.Author.Rules.{rules}
 use Rattle.moving.proofs.MoveLaws.{answer-area}
 use Rattle.moving.proofs.payload_session.move_answer.Goals as goal
 

@@ -1,5 +1,4 @@
 -- `move_to` meets its contract: a refusal, or the session of the moved setup.
-use borrow.Author.Rules.{rules}
 use Rattle.moving.proofs.MoveLaws.{moved-refused, moved_made}
 use Rattle.moving.proofs.payload_session.move_to.Goals as goal
 

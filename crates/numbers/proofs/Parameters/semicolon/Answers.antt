@@ -1,7 +1,6 @@
 -- `Parameters::semicolon` meets its contract: what is stored, marked as begun. Assumes nothing.
 use mathlib.Core.Path.{ap}
 use Rattle.numbers.specs.Step.{marked, with_semicolon}
-use borrow.Author.Rules.{rules}
 use Rattle.numbers.proofs.Parameters.semicolon.Goals as goal
 
 pub returns : goal.returns

@@ -2,7 +2,6 @@
 -- Assumes nothing.
 use mathlib.Core.Path.{refl}
 use Rattle.numbers.specs.Memory.{parameters_from}
-use borrow.Author.Rules.{rules}
 use Rattle.numbers.proofs.memory.parameters_from.Goals as goal
 
 pub returns : goal.returns

@@ -1,6 +1,5 @@
 use borrow.Author.Rules.{rules}
-use Rattle.oneshot.proofs.SearchLaws.{lookings, introducer-short, Looking}
-use Rattle.std.specs.Prelude.{◌-◌, length}
+use Rattle.oneshot.proofs.SearchLaws.{lookings, introducer-short}
 use native.Mathlib.Omega.{arith}
 use Rattle.oneshot.proofs.search.header_start.Goals as goal
 

@@ -1,8 +1,6 @@
 -- `header_start` meets its contract: the loop has found no introducer before `at` (`Looking`), and each turn goes one byte on.
-use borrow.Author.Rules.{rules}
-use Rattle.oneshot.proofs.SearchLaws.{lookings, introducer-short, Looking}
+use Rattle.oneshot.proofs.SearchLaws.{Looking}
 use Rattle.std.specs.Prelude.{◌-◌, length}
-use native.Mathlib.Omega.{arith}
 use Rattle.oneshot.proofs.search.header_start.Given as goal
 
 abbrev pub invariant-loop-at : goal.invariant-loop-at

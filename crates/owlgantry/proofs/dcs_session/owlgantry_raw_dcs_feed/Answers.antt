@@ -1,6 +1,5 @@
 -- `owlgantry_raw_dcs_feed` meets its contract: the feed of the session that the memory holds, in parts (`dcs-fed`).
 use Rattle.owlgantry.proofs.SessionCalls.{dcs-fed}
-use borrow.Author.Rules.{rules}
 use Rattle.owlgantry.proofs.dcs_session.owlgantry_raw_dcs_feed.Goals as goal
 
 pub returns : goal.returns

@@ -4,7 +4,6 @@ use Rattle.dcs.specs.Session.{finished_by}
 use Rattle.dcs.proofs.SessionLaws.{owned_by}
 use Rattle.owlgantry.specs.Sessions.{dcs_finished}
 use Rattle.owlgantry.proofs.SessionCalls.{dcs-held, finished-by}
-use borrow.Author.Rules.{rules}
 use Rattle.owlgantry.proofs.dcs_session.owlgantry_raw_dcs_finish.Goals as goal
 
 pub returns : goal.returns

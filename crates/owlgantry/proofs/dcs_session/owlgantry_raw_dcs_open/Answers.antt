@@ -1,6 +1,5 @@
 -- `owlgantry_raw_dcs_open` meets its contract: the memory gets the session that `open` made, and the registers (`dcs-opened`).
 use Rattle.owlgantry.proofs.SessionCalls.{dcs-opened}
-use borrow.Author.Rules.{rules}
 use Rattle.owlgantry.proofs.dcs_session.owlgantry_raw_dcs_open.Goals as goal
 
 pub returns : goal.returns

@@ -1,6 +1,5 @@
 -- `owlgantry_raw_payload_explain` meets its contract: what is told of the session that the memory holds (`payload-feed-told`).
 use Rattle.owlgantry.proofs.ExplainingLaws.{payload-feed-told}
-use borrow.Author.Rules.{rules}
 use Rattle.owlgantry.proofs.explaining.owlgantry_raw_payload_explain.Goals as goal
 
 pub returns : goal.returns

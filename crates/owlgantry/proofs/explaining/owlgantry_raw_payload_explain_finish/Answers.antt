@@ -1,9 +1,5 @@
 -- `owlgantry_raw_payload_explain_finish` meets its contract: what is told of the session that the memory holds (`payload-finish-told`).
 use Rattle.owlgantry.proofs.ExplainingLaws.{payload-finish-told}
-use borrow.Author.Rules.{rules}
-use Rattle.owlgantry.proofs.explaining.owlgantry_raw_payload_explain_finish.Statement.{
-  statement,
-}
 use Rattle.owlgantry.proofs.explaining.owlgantry_raw_payload_explain_finish.Goals as goal
 
 pub returns : goal.returns

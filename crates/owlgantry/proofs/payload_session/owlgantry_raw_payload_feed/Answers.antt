@@ -1,9 +1,5 @@
 -- `owlgantry_raw_payload_feed` meets its contract: the feed of the session that the memory holds, in parts (`payload-fed`).
 use Rattle.owlgantry.proofs.SessionCalls.{payload-fed}
-use borrow.Author.Rules.{rules}
-use Rattle.owlgantry.proofs.payload_session.owlgantry_raw_payload_feed.Statement.{
-  statement,
-}
 use Rattle.owlgantry.proofs.payload_session.owlgantry_raw_payload_feed.Goals as goal
 
 pub returns : goal.returns

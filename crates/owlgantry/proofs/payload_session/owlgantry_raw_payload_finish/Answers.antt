@@ -4,10 +4,6 @@ use Rattle.payload.specs.Session.{finished_by}
 use Rattle.payload.proofs.CoreLaws.{owned_by}
 use Rattle.owlgantry.specs.Sessions.{payload_finished}
 use Rattle.owlgantry.proofs.SessionCalls.{payload-held, finished-by}
-use borrow.Author.Rules.{rules}
-use Rattle.owlgantry.proofs.payload_session.owlgantry_raw_payload_finish.Statement.{
-  statement,
-}
 use Rattle.owlgantry.proofs.payload_session.owlgantry_raw_payload_finish.Goals as goal
 
 pub returns : goal.returns

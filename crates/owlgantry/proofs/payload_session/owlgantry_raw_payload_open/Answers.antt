@@ -1,9 +1,5 @@
 -- `owlgantry_raw_payload_open` meets its contract: the memory gets the session that `open` made, and the registers (`payload-opened`).
 use Rattle.owlgantry.proofs.SessionCalls.{payload-opened}
-use borrow.Author.Rules.{rules}
-use Rattle.owlgantry.proofs.payload_session.owlgantry_raw_payload_open.Statement.{
-  statement,
-}
 use Rattle.owlgantry.proofs.payload_session.owlgantry_raw_payload_open.Goals as goal
 
 pub returns : goal.returns

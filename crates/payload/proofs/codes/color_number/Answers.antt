@@ -1,6 +1,5 @@
 -- `color_number` meets its contract: four reads of the pixel, joined.
 use Rattle.payload.specs.Codes.{color_number}
-use borrow.Author.Rules.{rules}
 use Rattle.payload.proofs.codes.color_number.Goals as goal
 
 pub returns : goal.returns

@@ -1,7 +1,6 @@
 -- `area_from` meets its contract: two reads.
 use mathlib.Core.Path.{refl}
 use Rattle.payload.specs.Memory.{area_from}
-use borrow.Author.Rules.{rules}
 use Rattle.payload.proofs.memory.area_from.Goals as goal
 
 pub returns : goal.returns

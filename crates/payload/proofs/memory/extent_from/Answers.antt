@@ -1,7 +1,6 @@
 -- `extent_from` meets its contract: two reads.
 use mathlib.Core.Path.{refl}
 use Rattle.payload.specs.Memory.{extent_from}
-use borrow.Author.Rules.{rules}
 use Rattle.payload.proofs.memory.extent_from.Goals as goal
 
 pub returns : goal.returns

@@ -1,7 +1,6 @@
 -- `raster_from` meets its contract: three reads, and a remainder by 256 fits a byte.
 use mathlib.Core.Path.{refl}
 use Rattle.payload.specs.Memory.{raster_from}
-use borrow.Author.Rules.{rules}
 use Rattle.payload.proofs.memory.raster_from.Goals as goal
 
 pub returns : goal.returns

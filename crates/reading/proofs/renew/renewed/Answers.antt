@@ -1,5 +1,4 @@
 -- `renewed` meets its contract: each part is made anew, and is what it was.
-use borrow.Author.Rules.{rules}
 use Rattle.reading.proofs.renew.renewed.Goals as goal
 
 pub returns : goal.returns

@@ -2,7 +2,6 @@
 use mathlib.Core.Path.{ap}
 use Rattle.numbers.specs.declared.Parameters.{Parameters}
 use Rattle.frame.specs.declared.Command.{Command}
-use borrow.Author.Rules.{rules}
 use Rattle.reading.proofs.renew.renewed_command.Goals as goal
 
 pub returns : goal.returns

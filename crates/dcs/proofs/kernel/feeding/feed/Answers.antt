@@ -1,7 +1,6 @@
 -- `feed` meets its contract: the call is refused at once (9, 12 and 13), or is what `feed_in` makes of the phase.
 use mathlib.Core.Path.{sym, ◌∙◌}
 use Rattle.dcs.proofs.SessionLaws.{fed-refused, fed-on}
-use borrow.Author.Rules.{rules}
 use Rattle.dcs.proofs.kernel.feeding.feed.Goals as goal
 
 pub returns-in-Refused : goal.returns-in-Refused

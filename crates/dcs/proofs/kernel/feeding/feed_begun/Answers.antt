@@ -1,7 +1,6 @@
 -- `feed_begun` meets its contract: a refusal, or the payload session is fed the bytes from `from` on, and its answer is passed on.
 use mathlib.Core.Path.{sym, ◌∙◌}
 use Rattle.dcs.proofs.SessionLaws.{part-drop, passed-bound, payload-fed, begun-refused}
-use borrow.Author.Rules.{rules}
 use Rattle.dcs.proofs.kernel.feeding.feed_begun.Goals as goal
 
 pub returns-in-Refused : goal.returns-in-Refused

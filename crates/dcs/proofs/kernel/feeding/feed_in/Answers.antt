@@ -1,6 +1,5 @@
 -- `feed_in` meets its contract: one path for each phase, by what its callees say and the law of that phase.
 use Rattle.dcs.proofs.SessionLaws.{fed-before, fed-within, fed-escaped, fed-over}
-use borrow.Author.Rules.{rules}
 use Rattle.dcs.proofs.kernel.feeding.feed_in.Goals as goal
 
 pub returns-in-Before : goal.returns-in-Before

@@ -1,7 +1,6 @@
 -- `feed_lead` meets its contract: the header goes on, begins the payload or is refused, and there is a law for each. That
 -- the header consumes no more bytes than there are is what the payload's call asks.
 use Rattle.dcs.proofs.SessionLaws.{lead-in, led_on, led-begins, led-refused, failed-over, begun-over}
-use borrow.Author.Rules.{rules}
 use Rattle.dcs.proofs.kernel.feeding.feed_lead.Goals as goal
 
 pub feed_begun-requires : goal.feed_begun-requires

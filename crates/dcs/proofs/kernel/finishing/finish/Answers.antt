@@ -1,6 +1,5 @@
 -- `finish` meets its contract: refused by 9 or 12, then by 8, or what the payload session's finish says.
 use Rattle.dcs.proofs.SessionLaws.{finish-refused, finish-on}
-use borrow.Author.Rules.{rules}
 use Rattle.dcs.proofs.kernel.finishing.finish.Goals as goal
 
 pub returns-in-Refused : goal.returns-in-Refused

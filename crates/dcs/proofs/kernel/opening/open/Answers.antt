@@ -1,6 +1,5 @@
 -- `open` meets its contract: the payload session is reserved, and the phase is before the introducer.
 use Rattle.dcs.proofs.SessionLaws.{opened-as}
-use borrow.Author.Rules.{rules}
 use Rattle.dcs.proofs.kernel.opening.open.Goals as goal
 
 pub returns : goal.returns

@@ -1,7 +1,6 @@
 -- `feed` meets its contract: a refusal, or what passes 9, 12 and 13.
 use mathlib.Core.Path.{sym, ◌∙◌}
 use Rattle.payload.proofs.SessionLaws.{fed-refused}
-use borrow.Author.Rules.{rules}
 use Rattle.payload.proofs.kernel.feeding.feed.Goals as goal
 
 pub returns-in-Refused : goal.returns-in-Refused

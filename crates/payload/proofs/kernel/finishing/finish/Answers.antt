@@ -1,7 +1,6 @@
 -- `finish` meets its contract: a refusal, or a finish of what the judgement has shown to fit.
 use Rattle.payload.proofs.RefusalLaws.{finish-fits}
 use Rattle.payload.proofs.SessionLaws.{finish-refused, finish-on}
-use borrow.Author.Rules.{rules}
 use Rattle.payload.proofs.kernel.finishing.finish.Goals as goal
 
 pub returns-in-Refused : goal.returns-in-Refused
