@@ -3,7 +3,7 @@
 
 usage: python3 tools/respell.py        at the top of the repository, once, right after the kit's port.py
 
-It turns .antt and .rt files of crates/, the edits of crates/*/must-fail and edits/, the pages, and the gate's scripts. Types, facts, modules and
+It turns .antt and .rt files of crates/, the edits of crates/*/must-fail and edits/, and the names that pages quote. Types, facts, modules and
 constructors keep their capitals; functions of src/ and what C calls had no capitals. A lemma that would get its definition's name gets `_lem`.
 The edits, which port.py leaves, get the forms of clauses and projections too; an edit whose text then stands nowhere is mended by hand.
 """
