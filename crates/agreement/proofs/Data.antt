@@ -18,7 +18,8 @@ use Rattle.frame.specs.declared.Ground.{Ground}
 use Rattle.frame.specs.declared.Kind.TheVariants as kinds
 use Rattle.frame.specs.declared.Outcome.TheVariants as outcomes
 use Rattle.frame.specs.declared.Refusal.{Refusal}
-use Rattle.frame.specs.declared.sizes.Needed.{Needed}
+use Rattle.std.specs.Prelude.{Result}
+use Rattle.frame.specs.declared.VisibleArea.{VisibleArea}
 use Rattle.frame.specs.Numbers.{number_of}
 use Rattle.frame.specs.Commands.{unread_as}
 use Rattle.reference.specs.Step.{Reached, read_as, inked, canvas_after, painted_on, drawn_in, drawn_by, moved_to, data_step, row_ceiling}
@@ -187,7 +188,7 @@ module _ {s : Setting} (bounded : Bounded s) (opening : List ℕ) (o : Parameter
           (record { drawing = stroke-same bounded opening sound bits allowed rated c p q; begun = idle })
 
   -- a sixel, with its size known
-  drawn-agrees : (b bits left : ℕ) {x : Needed} {y : Option ℕ}
+  drawn-agrees : (b bits left : ℕ) {x : Result VisibleArea Refusal} {y : Option ℕ}
       → Sized s d.area (d.pen.column + d.pen.repeats) (d.pen.row + 6) x y
       → Agrees s opening (plain o n d) ground b left
       (went_on (plain o n d) (record { begun = none; ended = [] }) (and_then d (unless y (stroked d (stroke_of bits d))) (draw_all s [])))

@@ -24,7 +24,8 @@ use Rattle.frame.specs.declared.Kind.TheVariants as kinds
 use Rattle.frame.specs.declared.Outcome.TheVariants as outcomes
 use Rattle.frame.specs.declared.Refusal.{Refusal}
 use Rattle.frame.specs.declared.Refusal.TheVariants as refusals
-use Rattle.frame.specs.declared.sizes.Needed.{Needed}
+use Rattle.std.specs.Prelude.{Result}
+use Rattle.frame.specs.declared.VisibleArea.{VisibleArea}
 use Rattle.frame.specs.Numbers.{number_of}
 use Rattle.frame.specs.Sizes.{raster_area}
 use Rattle.frame.specs.Commands as coded
@@ -176,7 +177,7 @@ neither-kept w h = go (eqb w 0) (eqb h 0) refl refl
 
 module _ {s : Setting} {d : Drawing} (sound : Sound s d) (background : List ℕ) (c : Command) where
   -- the area grows to a raster's size, or the size is refused
-  grown-ends : (r : Raster) {x : Needed} {o : Option ℕ} → Sized s d.area (max 1 r.width) (max 1 r.height) x o
+  grown-ends : (r : Raster) {x : Result VisibleArea Refusal} {o : Option ℕ} → Sized s d.area (max 1 r.width) (max 1 r.height) x o
       → Ends d c (unless o (with_raster d r (grown_to d.area (max 1 r.width) (max 1 r.height))))
       (record { progress = raster_grown (frame_of d c) (raster_of r) x; palette = d.palette })
   unfolding unless raster_grown with_raster frame_of settled_to no_command

@@ -10,8 +10,8 @@ use lib.Dec.{leb, ltb}
 use Rattle.canvas.specs.Picture.{Area, area_of, grown_to}
 use Rattle.frame.specs.declared.Refusal.{Refusal}
 use Rattle.frame.specs.declared.Refusal.TheVariants as refusals
-use Rattle.frame.specs.declared.sizes.Needed.{Needed}
-use Rattle.frame.specs.declared.sizes.Needed.TheVariants as needed
+use Rattle.frame.specs.declared.VisibleArea.{VisibleArea}
+use Rattle.std.specs.Prelude.{Result, Ok, Err}
 use Rattle.frame.specs.Numbers.{number_of}
 use Rattle.frame.specs.Sizes.{room_for, grown_area, raster_area, sixel_area}
 use Rattle.reference.specs.Step.{row_ceiling}
@@ -21,9 +21,9 @@ use Rattle.meaning.proofs.AreaLaws.{both, cond-case, Allowed, Sound}
 use Rattle.agreement.specs.Same.{ground_of, pen_of, code_area, Bounded}
 
 -- what a size comes to in the code and in the definition: the area grown to it, where it is allowed, or one refusal
-pub data Sized (s : Setting) (a : Area) (w h : ℕ) : Needed → Option ℕ → Type 0 where
-  allows : {m n : ℕ} → Allowed s a w h → m ≡ (grown_to a w h).width → n ≡ (grown_to a w h).height → Sized s a w h (needed.Area m n) none
-  turns : (why : Refusal) {n : ℕ} → number_of why ≡ n → Sized s a w h (needed.Refused why) (some n)
+pub data Sized (s : Setting) (a : Area) (w h : ℕ) : Result VisibleArea Refusal → Option ℕ → Type 0 where
+  allows : {m n : ℕ} → Allowed s a w h → m ≡ (grown_to a w h).width → n ≡ (grown_to a w h).height → Sized s a w h (Ok (record { width = m; height = n })) none
+  turns : (why : Refusal) {n : ℕ} → number_of why ≡ n → Sized s a w h (Err why) (some n)
 
 -- a test of a grown side is a test of the size where the area has passed it
 max-test : (m a w : ℕ) → a ≤ m → ltb m (max a w) ≡ ltb m w
@@ -38,11 +38,11 @@ module _ (s : Setting) (a : Area) (w h : ℕ) where
   sized-by : (wide high many far low : Bool) → ltb s.limits.width w ≡ wide → ltb s.limits.height h ≡ high
       → ltb s.limits.pixels (pixels_of (grown_to a w h)) ≡ many → ltb s.stride w ≡ far → ltb s.rows h ≡ low
       → Sized s a w h
-      (cond wide (needed.Refused refusals.Size)
-      (cond high (needed.Refused refusals.Size)
-      (cond many (needed.Refused refusals.Pixels)
-      (cond far (needed.Refused refusals.Room)
-      (cond low (needed.Refused refusals.Room) (needed.Area (max a.width w) (max a.height h)))))))
+      (cond wide (Err refusals.Size)
+      (cond high (Err refusals.Size)
+      (cond many (Err refusals.Pixels)
+      (cond far (Err refusals.Room)
+      (cond low (Err refusals.Room) (Ok (record { width = max a.width w; height = max a.height h })))))))
       (cond (wide || high) (some 5) (cond many (some 6) (cond (far || low) (some 7) none)))
   unfolding number_of grown_to
   sized-by true high many far low e₁ e₂ e₃ e₄ e₅ = turns refusals.Size refl
@@ -93,7 +93,8 @@ cond-kept w m h n x y = go (ltb m w) (ltb n h) refl refl
     go false false e₁ e₂ = rw (le-leb w m (ltb-false m w e₁), le-leb h n (ltb-false n h e₂))
 
 -- one refusal of two sizes
-same-refusal : {s : Setting} {a : Area} {w h j n : ℕ} {x : Needed} {o : Option ℕ} → Sized s a w h x o → o ≡ some n → Sized s a w j x (some n)
+same-refusal : {s : Setting} {a : Area} {w h j n : ℕ} {x : Result VisibleArea Refusal} {o : Option ℕ} → Sized s a w h x o → o ≡ some n
+    → Sized s a w j x (some n)
 same-refusal (allows k p q) e = absurd (let z : ◌≡◌ {A = ℕ} 0 1 = cc in omega arith)
 same-refusal {n} (turns why q) e = turns why {n = n} (cc)
 
@@ -107,11 +108,11 @@ module _ {s : Setting} {d : Drawing} (sound : Sound s d) (background : List ℕ)
 
   -- a size that is visible
   seen-sized : (w h : ℕ) → w ≤ d.area.width → h ≤ d.area.height
-      → Sized s d.area w h (needed.Area d.area.width d.area.height) (size_refusal s d.area w h)
+      → Sized s d.area w h (Ok (record { width = d.area.width; height = d.area.height })) (size_refusal s d.area w h)
   seen-sized w h p q =
       let k : Allowed s d.area w h = within-allowed w h sound.fits p q in
       let same : d.area ≡ grown_to d.area w h = sym (grown-same d.area w h p q) in
-      subst (Sized s d.area w h (needed.Area d.area.width d.area.height)) (sym (allowed-none k))
+      subst (Sized s d.area w h (Ok (record { width = d.area.width; height = d.area.height }))) (sym (allowed-none k))
       (allows k (ap (λ (a : Area). a.width) same) (ap (λ (a : Area). a.height) same))
 
   -- a sixel's size, its row as the code has it
@@ -122,7 +123,7 @@ module _ {s : Setting} {d : Drawing} (sound : Sound s d) (background : List ℕ)
   sixel-row p row e =
       let w : ℕ = p.column + p.repeats in
       rw (e, cond-kept w s.limits.width (row + 6) s.limits.height)
-      (cond-case (λ (x : Needed). Sized s d.area w (row + 6) x (size_refusal s d.area w (row + 6)))
+      (cond-case (λ (x : Result VisibleArea Refusal). Sized s d.area w (row + 6) x (size_refusal s d.area w (row + 6)))
       (leb w d.area.width && leb (row + 6) d.area.height)
       (λ seen.
       let fits : (leb w d.area.width ≡ true) × (leb (row + 6) d.area.height ≡ true) = both _ _ seen in

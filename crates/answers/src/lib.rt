@@ -2,7 +2,7 @@
 // Rust's ratios.
 #![tactic(auto)]
 
-ghost use Rattle.std.specs.Prelude.{◌≡◌, ◌+◌, ◌*◌};
+ghost use Rattle.std.specs.Prelude.{◌≡◌};
 ghost use Rattle.answers.specs.Adler.{with_byte, with_bytes, adler};
 ghost use Rattle.answers.specs.Numbers.{number_at, signed_of};
 ghost use Rattle.answers.specs.Ratio.{from_p1};
@@ -10,6 +10,7 @@ ghost use Rattle.answers.specs.Registers.{registers_sum};
 
 use colours::Palette;
 
+#[tactic(auto, unfolding(crate::specs::Adler::with_byte, crate::specs::Adler::lower))]
 pub fn with_byte(sum: u32, byte: u8) -> u32
     ensures { result ≡ with_byte sum byte }
 {
@@ -22,14 +23,13 @@ pub fn with_bytes(start: u32, bytes: &[u8]) -> u32
     ensures { result ≡ with_bytes start bytes.now }
 {
     let mut sum = start;
-    let mut i = 0;
-    while i < bytes.len() {
-        sum = with_byte(sum, bytes[i]);
-        i += 1;
+    for &byte in bytes {
+        sum = with_byte(sum, byte);
     }
     sum
 }
 
+#[tactic(auto, unfolding(crate::specs::Adler::adler))]
 pub fn checksum(bytes: &[u8]) -> u32
     ensures { result ≡ adler bytes.now }
 {
@@ -48,48 +48,32 @@ pub fn registers_sum(palette: Palette) -> u32
     sum
 }
 
-fn joined(a: u8, b: u8, c: u8, d: u8) -> u32
-    ensures { result ≡ a + 256 * b + 65536 * c + 16777216 * d }
-{
-    (a as u32) + 256 * (b as u32) + 65536 * (c as u32) + 16777216 * (d as u32)
-}
-
+#[tactic(auto, unfolding(crate::specs::Numbers::number_at))]
 pub fn number_at(bytes: &[u8], at: usize) -> u32
     ensures { result ≡ number_at bytes.now at }
 {
-    if bytes.len() < 4 {
+    if bytes.len() < 4 || bytes.len() - 4 < at {
         return 0;
     }
-    if bytes.len() - 4 < at {
-        return 0;
-    }
-    joined(bytes[at], bytes[at + 1], bytes[at + 2], bytes[at + 3])
+    u32::from_le_bytes([bytes[at], bytes[at + 1], bytes[at + 2], bytes[at + 3]])
 }
 
+#[tactic(auto, unfolding(crate::specs::Numbers::signed_of))]
 pub fn signed(bits: u32) -> i32
     ensures { result ≡ signed_of bits }
 {
-    if bits < 0x8000_0000 {
-        return bits as i32;
-    }
-    -1 - ((0xffff_ffff - bits) as i32)
+    bits.cast_signed()
 }
 
 // The Rust's ratio, vertical to 1, of a picture that leaves it to P1; 65,536 is no P1.
+#[tactic(auto, unfolding(crate::specs::Ratio::from_p1))]
 pub fn from_p1(p1: u32) -> u8
     ensures { result ≡ from_p1 p1 }
 {
-    if p1 < 2 {
-        return 2;
+    match p1 {
+        0 | 1 | 5 | 6 => 2,
+        2 => 5,
+        3 | 4 => 3,
+        _ => 1,
     }
-    if p1 < 3 {
-        return 5;
-    }
-    if p1 < 5 {
-        return 3;
-    }
-    if p1 < 7 {
-        return 2;
-    }
-    1
 }

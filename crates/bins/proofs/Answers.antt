@@ -1,22 +1,20 @@
 -- Laws of the answers: when a setting fits, and which of 12, 15, 16 or what is told a question comes to.
 -- Assumes nothing.
 use mathlib.Core.Path.{◌≡◌, refl, sym, ap, ◌∙◌}
-use mathlib.Core.Bool.{Bool, true, false, not, ◌&&◌}
+use mathlib.Core.Bool.{Bool, true, false, ◌&&◌}
 use mathlib.Core.Logic.{◌↔◌}
 use mathlib.Core.Option.{none, some}
 use Prim.Native.Nat.{ℕ, ◌+◌, ◌-◌, ◌*◌, ◌/◌, ◌≤◌, ◌<◌}
 use native.Mathlib.Nat.{mul-le-mul_right, le-div_iff_mul-le}
 use native.Mathlib.Omega.{arith}
 use lib.Dec.{leb}
-use borrow.Author.Tests.{leb-true, le-leb, not-true, not-false}
+use borrow.Author.Tests.{leb-true, le-leb}
 use Rattle.canvas.proofs.Covers.{and_left, and_right, and_both, by-test, same_test}
 use Rattle.bins.specs.declared.Shape.{Shape}
 use Rattle.bins.specs.declared.Setting.{Setting}
-use Rattle.bins.specs.declared.Refusal.{Refusal}
-use Rattle.bins.specs.declared.Judged.TheVariants.{Fine, Refused}
-use Rattle.bins.specs.Bins.{number_of, Answer, told, refused, picture_fits, setting_fits, answered}
+use Rattle.bins.specs.Bins.{Answer, told, refused, picture_fits, setting_fits, answered}
 use Rattle.bins.specs.Facts.{Accepted}
-use Rattle.bins.specs.Told.{judged_as, judgement}
+use Rattle.bins.specs.Told.{judgement}
 
 -- ---- when a setting fits
 
@@ -34,14 +32,8 @@ module _ (s : Setting) (width : ℕ) where
     unfolding setting_fits
     counted = and_right (leb 1 s.width) _ t
 
-    pub fits_count : 1 ≤ s.count
-    fits_count = leb-true _ _ (and_left _ _ counted)
-
     bounded : (leb s.count 512 && leb (s.origin + s.count * s.width) width) ≡ true
     bounded = and_right (leb 1 s.count) _ counted
-
-    pub fits-most : s.count ≤ 512
-    fits-most = leb-true _ _ (and_left _ _ bounded)
 
     pub fits_last : s.origin + s.count * s.width ≤ width
     fits_last = leb-true _ _ (and_right (leb s.count 512) _ bounded)
@@ -187,24 +179,3 @@ refused-alike {A} {B} p n s inside a b m e =
 
     refused-told : ◌≡◌ {A = Answer A} (refused m) (told a) → ⊥
     refused-told q = let never : ◌≡◌ {A = ℕ} 0 1 = cc in omega arith
-
--- ---- 12 and 15, one for each path through `judge`
-
-module _ {t : Bool} (p : Shape) (n : ℕ) (s : Setting) (e : t ≡ picture_fits p n) where
-  pub judge-misfit : not t ≡ true → (r : Refusal) → number_of r ≡ 12 → judged_as (Refused r) ≡ judgement p n s
-  unfolding judged_as
-  judge-misfit taken r at = ap some at ∙ sym (judged-twelve p n s (sym e ∙ not-true _ taken))
-
-  module _ {u : Bool} (left : not t ≡ false) (f : u ≡ setting_fits s p.width) where
-    pub judge-range : not u ≡ true → (r : Refusal) → number_of r ≡ 15 → judged_as (Refused r) ≡ judgement p n s
-    unfolding judged_as
-    judge-range taken r at = ap some at ∙ sym (judged-fifteen p n s (sym e ∙ not-false _ left) (sym f ∙ not-true _ taken))
-
-    pub judge-fine : not u ≡ false → judged_as Fine ≡ judgement p n s
-    unfolding judged_as
-    judge-fine fits = sym (judged-none p n s (sym e ∙ not-false _ left) (sym f ∙ not-false _ fits))
-
--- ---- the number of a refusal that a match found
-
-pub number-as : (r found : Refusal) (n : ℕ) → r ≡ found → n ≡ number_of found → n ≡ number_of r
-number-as r found n e at = at ∙ ap number_of (sym e)

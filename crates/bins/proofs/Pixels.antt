@@ -1,16 +1,15 @@
--- Laws of pixels: the bytes of one, when two are the same, and one for each path through `is_colour`.
+-- Laws of pixels: the bytes of one, and when two are the same.
 -- Assumes nothing.
-use mathlib.Core.Path.{◌≡◌, refl, sym, ap, ◌∙◌}
-use mathlib.Core.Bool.{Bool, true, false, ◌&&◌}
+use mathlib.Core.Path.{◌≡◌, sym, ap, ◌∙◌}
+use mathlib.Core.Bool.{Bool, true, ◌&&◌}
 use mathlib.Core.List.{List}
 use mathlib.Core.Logic.{◌↔◌}
 use Prim.Native.Nat.{ℕ, zero, suc, ◌+◌, ◌*◌, ◌≤◌, ◌<◌}
-use native.Mathlib.Nat.{add-zero}
 use native.Mathlib.Omega.{arith}
-use lib.Dec.{eqb, lit<}
+use lib.Dec.{eqb}
 use lib.ListN.{length, get_or, drop, length-drop}
 use lib.Seq.{length-take-le, get_or-take, get_or-drop, ext_get_or}
-use borrow.Author.Tests.{eqb-true, eq-eqb, ne_eqb}
+use borrow.Author.Tests.{eqb-true, eq-eqb}
 use Rattle.canvas.proofs.Covers.{and_left, and_right, and_both}
 use Rattle.bins.specs.Bins.{same, pixel}
 
@@ -54,37 +53,3 @@ module _ (a b : List ℕ) where
         let each : (k : ℕ) → alike k ≡ true = λ k. eq-eqb _ _ (ap (λ (l : List ℕ). get_or l k 0) e) in
         and_both (each 0) (and_both (each 1) (and_both (each 2) (each 3))),
   )
-
--- ---- one for each path through `is_colour`
-
-module _ (canvas colour : List ℕ) (p : ℕ) where
-  -- the test by the canvas's bytes
-  abbrev alike_at : ℕ → ℕ → Bool
-  alike_at i k = eqb (get_or canvas i 0) (get_or colour k 0)
-
-  bytes : (alike_at (4 * p) 0 && (alike_at (4 * p + 1) 1 && (alike_at (4 * p + 2) 2 && alike_at (4 * p + 3) 3))) ≡ same (pixel canvas p) colour
-  unfolding same
-  bytes =
-      sym
-      (rw (
-        pixel-byte canvas p 0 (lit< tt) ∙ ap (λ (n : ℕ). get_or canvas n 0) (add-zero (4 * p)),
-        pixel-byte canvas p 1 (lit< tt),
-        pixel-byte canvas p 2 (lit< tt),
-        pixel-byte canvas p 3 (lit< tt),
-      )
-      refl)
-
-  pub first-differs : (get_or canvas (4 * p) 0 ≡ get_or colour 0 0 → ⊥) → false ≡ same (pixel canvas p) colour
-  first-differs h = sym (rw (ne_eqb _ _ h) refl) ∙ bytes
-
-  module _ (first : get_or canvas (4 * p) 0 ≡ get_or colour 0 0) where
-    pub second-differs : (get_or canvas (4 * p + 1) 0 ≡ get_or colour 1 0 → ⊥) → false ≡ same (pixel canvas p) colour
-    second-differs h = sym (rw (eq-eqb _ _ first, ne_eqb _ _ h) refl) ∙ bytes
-
-    module _ (second : get_or canvas (4 * p + 1) 0 ≡ get_or colour 1 0) where
-      pub third-differs : (get_or canvas (4 * p + 2) 0 ≡ get_or colour 2 0 → ⊥) → false ≡ same (pixel canvas p) colour
-      third-differs h = sym (rw (eq-eqb _ _ first, eq-eqb _ _ second, ne_eqb _ _ h) refl) ∙ bytes
-
-      pub fourth-decides : get_or canvas (4 * p + 2) 0 ≡ get_or colour 2 0 → eqb (get_or canvas (4 * p + 3) 0) (get_or colour 3 0) ≡ same (pixel canvas p) colour
-      fourth-decides third =
-          sym (rw (eq-eqb _ _ first, eq-eqb _ _ second, eq-eqb _ _ third) refl) ∙ bytes

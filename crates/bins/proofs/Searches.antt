@@ -4,11 +4,13 @@ use mathlib.Core.Path.{◌≡◌, refl, sym, ap, ap₂, ◌∙◌}
 use mathlib.Core.Bool.{Bool, true, false, cond, ◌||◌, true≢false}
 use mathlib.Core.Option.{Option, none, some}
 use mathlib.Core.List.{List}
-use Prim.Native.Nat.{ℕ, zero, suc, ◌+◌, ◌-◌, ◌≤◌, ◌<◌}
+use Prim.Native.Nat.{ℕ, zero, suc, ◌+◌, ◌≤◌, ◌<◌}
 use native.Mathlib.Numerals.{add-one}
 use native.Mathlib.Omega.{arith}
 use Rattle.canvas.proofs.Covers.{by-test, or_left, or_right, or_case, split}
+use Rattle.std.specs.List.{list_any, range_with_len, find}
 use Rattle.bins.specs.Bins.{same, row_has, first_from}
+use Rattle.bins.specs.Told.{row_told}
 
 -- ---- the first number for which a test holds
 
@@ -121,46 +123,22 @@ row-alike r q colour first (suc count) e =
     ap₂ (λ (a b : Bool). a || b) (ap (λ (p : List ℕ). same p colour) (e first (omega arith) (omega arith)))
     (row-alike r q colour (suc first) count (λ x l h. e x (omega arith) (omega arith)))
 
--- ---- a search on its way: what is left of it decides
+-- ---- the code's searches through a range
 
-module _ (row : ℕ → List ℕ) (colour : List ℕ) (end x : ℕ) (whole : Bool) (e : row_has row x (end - x) colour ≡ whole) where
-  pub row_done : end ≤ x → false ≡ whole
-  unfolding row_has
-  row_done h = let none_left : end - x ≡ 0 = omega arith in sym (ap (λ (n : ℕ). row_has row x n colour) none_left) ∙ e
+-- `any`
+pub row_any : (row : ℕ → List ℕ) (colour : List ℕ) (first count : ℕ)
+    → list_any (λ x. same (row x) colour) (range_with_len first count) ≡ row_has row first count colour
+unfolding row_has
+row_any row colour first zero = refl
+row_any row colour first (suc count) =
+    ap (λ (b : Bool). same (row first) colour || b)
+    (row_any row colour (first + 1) count ∙ ap (λ (n : ℕ). row_has row n count colour) (add-one first))
 
-  module _ (h : x < end) where
-    one_less : end - x ≡ suc (end - (x + 1))
-    one_less = omega arith
-
-    left : (same (row x) colour || row_has row (x + 1) (end - (x + 1)) colour) ≡ whole
-    unfolding row_has
-    left =
-        ap (λ (n : ℕ). same (row x) colour || row_has row n (end - (x + 1)) colour) (add-one x)
-        ∙ sym (ap (λ (n : ℕ). row_has row x n colour) one_less)
-        ∙ e
-
-    pub row_here : same (row x) colour ≡ true → true ≡ whole
-    row_here t = sym (or_left _ _ t) ∙ left
-
-    pub row_next : same (row x) colour ≡ false → row_has row (x + 1) (end - (x + 1)) colour ≡ whole
-    row_next t = sym (ap (λ (b : Bool). b || row_has row (x + 1) (end - (x + 1)) colour) t) ∙ left
-
-module _ (test : ℕ → Bool) (end n : ℕ) (whole : Option ℕ) (e : first_from test n (end - n) ≡ whole) where
-  pub first_done : end ≤ n → none ≡ whole
-  unfolding first_from
-  first_done h = let none_left : end - n ≡ 0 = omega arith in sym (ap (λ (k : ℕ). first_from test n k) none_left) ∙ e
-
-  module _ (h : n < end) where
-    rest : cond (test n) (some n) (first_from test (n + 1) (end - (n + 1))) ≡ whole
-    unfolding first_from
-    rest =
-        let one_less : end - n ≡ suc (end - (n + 1)) = omega arith in
-        ap (λ (k : ℕ). cond (test n) (some n) (first_from test k (end - (n + 1)))) (add-one n)
-        ∙ sym (ap (λ (k : ℕ). first_from test n k) one_less)
-        ∙ e
-
-    pub first-here : test n ≡ true → some n ≡ whole
-    first-here t = sym (ap (λ (b : Bool). cond b (some n) (first_from test (n + 1) (end - (n + 1)))) t) ∙ rest
-
-    pub first_next : test n ≡ false → first_from test (n + 1) (end - (n + 1)) ≡ whole
-    first_next t = sym (ap (λ (b : Bool). cond b (some n) (first_from test (n + 1) (end - (n + 1)))) t) ∙ rest
+-- `find`
+pub first_find : (test : ℕ → Bool) (n count : ℕ) → row_told (find test (range_with_len n count)) ≡ first_from test n count
+unfolding row_told first_from
+first_find test n zero = refl
+first_find test n (suc count) =
+    by-test (test n)
+    (λ t. rw t refl)
+    (λ t. rw t (first_find test (n + 1) count ∙ ap (λ (k : ℕ). first_from test k count) (add-one n)))

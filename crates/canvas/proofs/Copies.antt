@@ -4,20 +4,22 @@ use mathlib.Core.Path.{◌≡◌, refl, sym, ap, ap₂, ◌∙◌}
 use mathlib.Core.Bool.{Bool, true, false, not, ◌&&◌}
 use mathlib.Core.List.{List, ◌++◌, append-nil, append_assoc}
 use Prim.Native.Nat.{ℕ, zero, suc, ◌+◌, ◌-◌, ◌*◌, ◌≤◌, ◌<◌}
-use native.Mathlib.Nat.{mul-le-mul_left, mul-le-mul_right, not-suc-le-zero, le_of_suc-le-suc}
+use native.Mathlib.Nat.{mul-le-mul_right, not-suc-le-zero, le_of_suc-le-suc}
 use native.Mathlib.Numerals.{add-one}
 use native.Mathlib.Omega.{arith}
 use lib.ListN.{length, get_or, take, drop, length-append, length-drop, get_or-append}
 use lib.Seq.{length-take-le, take_at, drop-append-add, drop-drop, get_or-take, get_or-drop, get_or-append-add, paste}
 use lib.Dec.{leb, ltb}
+use borrow.Rule.Slice.PartMut.{put_mid}
 use borrow.Author.Tests.{ltb-true, lt-ltb, leb-true, le-leb, lt-leb, eqb-false, not-true, not-false}
 use Rattle.canvas.specs.Picture.{area_of, fits, rows_of}
-use Rattle.canvas.specs.Copy.{number_of, has_picture, packed, size_of, copied}
-use Rattle.canvas.specs.declared.Copied.{Copied}
-use Rattle.canvas.specs.declared.Copied.TheVariants.{Done, Misfit, Short}
+use Rattle.canvas.specs.Copy.{number_of, has_picture, packed, rows_copied, size_of, copied}
+use Rattle.std.specs.Prelude.{Result, Ok, Err}
+use Rattle.canvas.specs.declared.Uncopied.{Uncopied}
+use Rattle.canvas.specs.declared.Uncopied.TheVariants.{Misfit, Short}
 use Rattle.canvas.proofs.Covers.{and_left, and_right, and_both, same_test}
 use Rattle.canvas.proofs.Grid.{rows-room}
-use Rattle.canvas.proofs.Growth.{rectangle-room, fits-columns, fits-rows, fits_in}
+use Rattle.canvas.proofs.Growth.{fits-columns, fits-rows, fits_in}
 
 -- ---- when a canvas has a picture
 
@@ -102,26 +104,21 @@ packed-row stride width (suc y) at canvas e =
     ∙ sym (append_assoc front (packed stride width y below) (take (4 * width) (drop at canvas)))
 
 -- a buffer with y rows at its front, and then the next pasted behind them
-pub packed_more : {out' : List ℕ} (stride width y : ℕ) (canvas out rows : List ℕ) → width ≤ stride → 4 * (y * stride) ≤ length canvas
-    → rows ≡ packed stride width y canvas ++ drop (4 * (width * y)) out
-    → out' ≡ paste rows (4 * (width * y)) (drop (4 * (y * stride)) canvas) (4 * width)
-    → out' ≡ packed stride width (y + 1) canvas ++ drop (4 * (width * (y + 1))) out
-packed_more stride width y canvas out rows h r e f =
+packed_more : (stride width y : ℕ) (canvas out : List ℕ) → width ≤ stride → 4 * (y * stride) ≤ length canvas
+    → paste (packed stride width y canvas ++ drop (4 * (width * y)) out) (4 * (y * width)) (drop (4 * (y * stride)) canvas) (4 * width)
+    ≡ packed stride width (suc y) canvas ++ drop (4 * (width * suc y)) out
+packed_more stride width y canvas out h r =
     let front : List ℕ = packed stride width y canvas in
     let rest : List ℕ = drop (4 * (width * y)) out in
     let row : List ℕ = take (4 * width) (drop (4 * (y * stride)) canvas) in
-    let long : length front ≡ 4 * (width * y) = length-packed stride width y canvas h r in
-    let next : 4 * (width * y) + 4 * width ≡ 4 * (width * (y + 1)) = omega arith in
-    let after : drop (4 * (width * y) + 4 * width) (front ++ rest) ≡ drop (4 * (width * (y + 1))) out =
+    let long : length front ≡ 4 * (y * width) = length-packed stride width y canvas h r ∙ omega arith in
+    let after : drop (4 * (y * width) + 4 * width) (front ++ rest) ≡ drop (4 * (width * suc y)) out =
     ap (λ (k : ℕ). drop (k + 4 * width) (front ++ rest)) (sym long)
     ∙ drop-append-add front rest (4 * width)
     ∙ drop-drop (4 * width) (4 * (width * y)) out
-    ∙ ap (λ (k : ℕ). drop k out) next in
-    f
-    ∙ ap (λ (l : List ℕ). paste l (4 * (width * y)) (drop (4 * (y * stride)) canvas) (4 * width)) e
-    ∙ ap₂ (λ (a b : List ℕ). a ++ row ++ b) (take_at front rest (4 * (width * y)) long) after
-    ∙ ap (λ (a : List ℕ). a ++ drop (4 * (width * (y + 1))) out)
-    (sym (ap (λ (k : ℕ). packed stride width k canvas) (add-one y) ∙ packed-row stride width y (4 * (y * stride)) canvas refl))
+    ∙ ap (λ (k : ℕ). drop k out) (omega arith) in
+    ap₂ (λ (a b : List ℕ). a ++ row ++ b) (take_at front rest (4 * (y * width)) long) after
+    ∙ ap (λ (a : List ℕ). a ++ drop (4 * (width * suc y)) out) (sym (packed-row stride width y (4 * (y * stride)) canvas refl))
 
 -- byte k of pixel (x, y) of a picture stands at pixel y * width + x of its rows without gaps
 pub packed_byte : (stride width height : ℕ) (canvas : List ℕ) (x y k : ℕ) → width ≤ stride → 4 * (height * stride) ≤ length canvas
@@ -152,43 +149,31 @@ packed_byte stride width (suc height) canvas x (suc y) k h r hx hy hk =
     ∙ get_or-drop (4 * stride) canvas (4 * (y * stride + x) + k) 0
     ∙ ap (λ (i : ℕ). get_or canvas i 0) at'
 
--- a row of the picture has room among the rows without gaps
-pub row_room : (width height y : ℕ) → y < height → 4 * (width * y) + 4 * width ≤ size_of (area_of width height)
-unfolding size_of
-row_room width height y h =
-    let one_more : y + 1 ≤ height = omega arith in
-    omega (arith, mul-le-mul_left width one_more)
-
--- no rows yet
-pub packed_none : (stride width : ℕ) (canvas out : List ℕ) → out ≡ packed stride width 0 canvas ++ drop (4 * (width * 0)) out
-unfolding packed
-packed_none stride width canvas out =
+-- Rows that are copied side by side are the picture without gaps, and behind it what was there.
+pub copied_packed : (stride width height : ℕ) (canvas out : List ℕ) → width ≤ stride → 4 * (height * stride) ≤ length canvas
+    → rows_copied stride width width height canvas out ≡ packed stride width height canvas ++ drop (size_of (area_of width height)) out
+unfolding rows_copied packed size_of
+copied_packed stride width zero canvas out h r =
     let start : 4 * (width * 0) ≡ 0 = omega arith in
     sym (ap (λ (k : ℕ). drop k out) start)
+copied_packed stride width (suc y) canvas out h r =
+    ap (λ (l : List ℕ). paste l (4 * (y * width)) (drop (4 * (y * stride)) canvas) (4 * width))
+    (copied_packed stride width y canvas out h (omega arith))
+    ∙ packed_more stride width y canvas out h (omega arith)
 
--- ---- a picture's rows, one after the other
-
-module _ (stride width : ℕ) (canvas out : List ℕ) where
-  -- one row more
-  pub rows_next : {before after : List ℕ} (y height : ℕ) → width ≤ stride → height ≤ rows_of (length canvas) stride → y < height
-      → before ≡ packed stride width y canvas ++ drop (4 * (width * y)) out
-      → after ≡ paste before (4 * (width * y)) (drop (4 * (y * stride)) canvas) (4 * width)
-      → after ≡ packed stride width (y + 1) canvas ++ drop (4 * (width * (y + 1))) out
-  rows_next {before} y height h r less e f =
-      let below : 4 * (y * stride) ≤ length canvas =
-      omega (arith, rectangle-room (length canvas) stride width height y h r less) in
-      packed_more stride width y canvas out before h below e f
-
-  -- all of them
-  pub rows_last : {after : List ℕ} (y height : ℕ) → y ≤ height → height ≤ y
-      → after ≡ packed stride width y canvas ++ drop (4 * (width * y)) out
-      → after ≡ packed stride width height canvas ++ drop (size_of (area_of width height)) out
-  unfolding size_of
-  rows_last y height h k e =
-      let same : y ≡ height = omega arith in
-      e ∙ ap (λ (n : ℕ). packed stride width n canvas ++ drop (4 * (width * n)) out) same
-
-pub ruleset row-turns = (packed_none, rows_next, rows_last)
+-- a row more, written to its place
+pub copied_row : {before : List ℕ} (stride stride' width y k : ℕ) (canvas out row : List ℕ) → before ≡ rows_copied stride stride' width y canvas out
+    → k ≡ 4 * width → row ≡ take k (drop (4 * (y * stride)) canvas)
+    → put_mid (4 * (y * stride')) k before row ≡ rows_copied stride stride' width (y + 1) canvas out
+unfolding rows_copied
+copied_row {before} stride stride' width y k canvas out row e at r =
+    let next : rows_copied stride stride' width (suc y) canvas out ≡ rows_copied stride stride' width (y + 1) canvas out =
+    ap (λ (n : ℕ). rows_copied stride stride' width n canvas out) (sym (add-one y)) in
+    rw (e, r, at)
+    (sym (append_assoc (take (4 * (y * stride')) (rows_copied stride stride' width y canvas out)) _ _)
+    ∙ ap (λ (l : List ℕ). take (4 * (y * stride')) (rows_copied stride stride' width y canvas out) ++ take (4 * width) (drop (4 * (y * stride)) canvas) ++ l)
+    (drop-drop (4 * width) (4 * (y * stride')) (rows_copied stride stride' width y canvas out))
+    ∙ next)
 
 -- ---- each answer
 
@@ -254,12 +239,12 @@ module _ (stride n width height : ℕ) {t : Bool} (told : t ≡ has_picture stri
   pub path-columns : width ≤ stride
   path-columns = has-columns stride n width height has
 
-  pub path-rows : height ≤ rows_of n stride
-  path-rows = has-rows stride n width height has
+  pub path-rows : 4 * (height * stride) ≤ n
+  path-rows = rows-room n stride height (has-rows stride n width height has)
 
   pub path_room : 4 * (width * height) ≤ n
   unfolding size_of
-  path_room = size_room n stride width height path-columns path-rows
+  path_room = size_room n stride width height path-columns (has-rows stride n width height has)
 
 module _ (stride width height : ℕ) (canvas out : List ℕ) {t : Bool}
     (told : t ≡ has_picture stride (length canvas) (area_of width height)) where
@@ -269,22 +254,27 @@ module _ (stride width height : ℕ) (canvas out : List ℕ) {t : Bool}
   pub path-short : not t ≡ false → length out < 4 * (width * height) → (14, out) ≡ copied stride (area_of width height) canvas out
   path-short f h = copied-short stride width height canvas out (has stride (length canvas) width height told f) h
 
-  pub path-done : {out' : List ℕ} → not t ≡ false → 4 * (width * height) ≤ length out
-      → out' ≡ packed stride width height canvas ++ drop (size_of (area_of width height)) out
+  pub path-done : {out' : List ℕ} → not t ≡ false → 4 * (width * height) ≤ length out → out' ≡ rows_copied stride width width height canvas out
       → (0, out') ≡ copied stride (area_of width height) canvas out
-  path-done f h e = copied-done stride width height canvas out (has stride (length canvas) width height told f) h e
+  path-done f h e =
+      let t = has stride (length canvas) width height told f in
+      copied-done stride width height canvas out t h
+      (e
+      ∙ copied_packed stride width height canvas out
+      (path-columns stride (length canvas) width height told f)
+      (path-rows stride (length canvas) width height told f))
 
 pub ruleset copy-paths = (path-columns, path-rows, path-misfit, path-short, path-done)
 
 -- an answer is told by its number, so that one outcome is allowed
-pub number_of-one : (a b : Copied) → number_of a ≡ number_of b → a ≡ b
+pub number_of-one : (a b : Result (Unit {0}) Uncopied) → number_of a ≡ number_of b → a ≡ b
 unfolding number_of
-number_of-one Done Done e = refl
-number_of-one Done Misfit e = absurd (eqb-false 0 12 refl e)
-number_of-one Done Short e = absurd (eqb-false 0 14 refl e)
-number_of-one Misfit Done e = absurd (eqb-false 12 0 refl e)
-number_of-one Misfit Misfit e = refl
-number_of-one Misfit Short e = absurd (eqb-false 12 14 refl e)
-number_of-one Short Done e = absurd (eqb-false 14 0 refl e)
-number_of-one Short Misfit e = absurd (eqb-false 14 12 refl e)
-number_of-one Short Short e = refl
+number_of-one (Ok _) (Ok _) e = refl
+number_of-one (Ok _) (Err Misfit) e = absurd (eqb-false 0 12 refl e)
+number_of-one (Ok _) (Err Short) e = absurd (eqb-false 0 14 refl e)
+number_of-one (Err Misfit) (Ok _) e = absurd (eqb-false 12 0 refl e)
+number_of-one (Err Misfit) (Err Misfit) e = refl
+number_of-one (Err Misfit) (Err Short) e = absurd (eqb-false 12 14 refl e)
+number_of-one (Err Short) (Ok _) e = absurd (eqb-false 14 0 refl e)
+number_of-one (Err Short) (Err Misfit) e = absurd (eqb-false 14 12 refl e)
+number_of-one (Err Short) (Err Short) e = refl

@@ -3,10 +3,9 @@
 #![tactic(auto)]
 
 ghost use Rattle.std.specs.Prelude.{◌≡◌, ◌+◌, ◌*◌, ◌≤◌, ◌++◌, length, drop};
-ghost use Rattle.std.proofs.Math.Seq.{paste};
 ghost use Rattle.canvas.specs.Picture.{area_of, rows_of, grid, span};
 ghost use Rattle.canvas.specs.Paint.{painted, rectangle, sixel_painted, grown};
-ghost use Rattle.canvas.specs.Copy.{number_of, has_picture, packed, size_of, copied};
+ghost use Rattle.canvas.specs.Copy.{number_of, has_picture, rows_copied, copied};
 
 // The whole rows of a canvas of `length` bytes; none where the stride is 0.
 pub fn rows(length: usize, stride: usize) -> usize
@@ -47,16 +46,9 @@ pub fn paint_sixel(
     requires { (column + repeat ≤ stride) × (row + 6 ≤ rows_of (length canvas.old) stride) }
     ensures { canvas.new ≡ sixel_painted stride column row repeat bits px canvas.old }
 {
-    let mut rest = bits;
-    let mut k = 0;
-    while k < 6 {
-        let y = row + k;
-        let bit = rest % 2;
-        rest = rest / 2;
-        k += 1;
-        // Last in the turn: the two branches then need not be joined.
-        if bit == 1 {
-            let from = y * stride + column;
+    for k in 0..6 {
+        if (bits >> k) % 2 == 1 {
+            let from = (row + k) * stride + column;
             fill_span(canvas, from, from + repeat, px);
         }
     }
@@ -112,11 +104,9 @@ pub fn first_pixel(canvas: &mut [u8], background: [u8; 4])
     fill_span(canvas, 0, 1, background);
 }
 
-// What copying a picture answers.
-#[derive(Clone, Copy)]
-pub enum Copied {
-    // The rows stand at the front of the other buffer.
-    Done,
+// Why a picture is not copied.
+#[derive(Clone, Copy, PartialEq, Eq, Debug)]
+pub enum Uncopied {
     // The canvas has no such picture.
     Misfit,
     // The other buffer is too short.
@@ -127,38 +117,26 @@ pub enum Copied {
 pub fn has_picture(length: usize, stride: usize, width: usize, height: usize) -> bool
     ensures { result ≡ has_picture stride length (area_of width height) }
 {
-    if stride == 0 {
-        return false;
-    }
-    if width == 0 {
-        return false;
-    }
-    if height == 0 {
-        return false;
-    }
-    if stride < width {
-        return false;
-    }
-    height <= rows(length, stride)
+    0 < stride && 0 < width && 0 < height && width <= stride && height <= rows(length, stride)
 }
 
-// Copies `count` bytes of the canvas from `from` on to `out` from `at` on.
-fn copy_bytes(canvas: &[u8], from: usize, out: &mut [u8], at: usize, count: usize)
-    requires { (from + count ≤ length canvas.now) × (at + count ≤ length out.old) }
-    ensures { out.new ≡ paste out.old at (drop from canvas.now) count }
-{
-    for j in 0..count {
-        out[at + j] = canvas[from + j];
-    }
-}
-
-// Copies the rows of a picture to the front of `out`.
-fn copy_rows(canvas: &[u8], stride: usize, width: usize, height: usize, out: &mut [u8])
-    requires { (width ≤ stride) × (height ≤ rows_of (length canvas.now) stride) × (size_of (area_of width height) ≤ length out.old) }
-    ensures { out.new ≡ packed stride width height canvas.now ++ drop (size_of (area_of width height)) out.old }
+// Copies the rows of a picture, each from its canvas's stride to that of `out`.
+// Inner: asks that the canvas has them, and `out` the room.
+pub fn copy_rows(
+    canvas: &[u8],
+    stride: usize,
+    width: usize,
+    height: usize,
+    out: &mut [u8],
+    out_stride: usize,
+)
+    requires { (width ≤ stride) × (4 * (height * stride) ≤ length canvas.now) × (width ≤ out_stride) × (4 * (height * out_stride) ≤ length out.old) }
+    ensures { out.new ≡ rows_copied stride out_stride width height canvas.now out.old }
 {
     for y in 0..height {
-        copy_bytes(canvas, 4 * (y * stride), out, 4 * (width * y), 4 * width);
+        let from = 4 * (y * stride);
+        let at = 4 * (y * out_stride);
+        out[at..at + 4 * width].copy_from_slice(&canvas[from..from + 4 * width]);
     }
 }
 
@@ -169,15 +147,15 @@ pub fn copy_picture(
     width: usize,
     height: usize,
     out: &mut [u8],
-) -> Copied
+) -> Result<(), Uncopied>
     ensures { (number_of result, out.new) ≡ copied stride (area_of width height) canvas.now out.old }
 {
     if !has_picture(canvas.len(), stride, width, height) {
-        return Copied::Misfit;
+        return Err(Uncopied::Misfit);
     }
     if out.len() < 4 * (width * height) {
-        return Copied::Short;
+        return Err(Uncopied::Short);
     }
-    copy_rows(canvas, stride, width, height, out);
-    Copied::Done
+    copy_rows(canvas, stride, width, height, out, width);
+    Ok(())
 }

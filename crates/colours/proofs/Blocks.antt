@@ -5,12 +5,12 @@ use mathlib.Core.Path.{◌≡◌, refl, sym, ap, ◌∙◌}
 use mathlib.Core.List.{List}
 use mathlib.Core.Logic.{⊎_elim}
 use Prim.Native.Nat.{ℕ, zero, suc, ◌+◌, ◌/◌, ◌%◌, ◌≤◌, ◌<◌}
-use native.Mathlib.Nat.{add-zero, add-suc, suc-add, eq-or-lt_of_le, not-suc-le-zero}
+use native.Mathlib.Nat.{add-zero, add-suc, suc-add, zero-add, eq-or-lt_of_le, not-suc-le-zero}
 use native.Mathlib.Numerals.{add-one}
 use native.Mathlib.Omega.{arith}
 use lib.Bits.{bit_or, or_add_and, and_le_l, and_le_r}
-use lib.ListN.{length, get_or, set, length-set}
-use lib.Seq.{set-get_or}
+use lib.ListN.{length, get_or, set, length-set, take, drop, length-take, length-drop}
+use lib.Seq.{set-get_or, get_or-take, get_or-drop}
 use Rattle.colours.specs.Palette.{of_table}
 use Rattle.colours.specs.Marks.{frame_unit, is_defined, counted, lasting, Lasting, defined_count}
 use Rattle.colours.proofs.Counting.{counted_none, counted-more, defined-counts}
@@ -18,18 +18,17 @@ use Rattle.colours.proofs.Filling.{Filled, filled_none, filled-as, filled_more, 
 
 -- ---- whether there is something to do
 
--- n numbers from a place on are at most this
-pub record AtMost (colors : List ℕ) (first n most : ℕ) : Type 0 where
-  pub each : (k : ℕ) → k < n → get_or colors (first + k) 0 ≤ most
+-- the first n numbers are at most this
+pub record AtMost (colors : List ℕ) (n most : ℕ) : Type 0 where
+  pub each : (k : ℕ) → k < n → get_or colors k 0 ≤ most
 
-pub most-none : (colors : List ℕ) (first most : ℕ) → AtMost colors first 0 most
-most-none colors first most = record { each = λ k h. absurd (not-suc-le-zero h) }
+pub most-none : (colors : List ℕ) (most : ℕ) → AtMost colors 0 most
+most-none colors most = record { each = λ k h. absurd (not-suc-le-zero h) }
 
 -- two numbers joined by `|` are at least each of them
-pub most-more : {colors : List ℕ} {first n most : ℕ} → AtMost colors first n most
-    → AtMost colors first (n + 1) (bit_or most (get_or colors (first + n) 0))
-most-more {colors} {first} {n} {most} so_far =
-    let number : ℕ = get_or colors (first + n) 0 in
+pub most-more : {colors : List ℕ} {n most : ℕ} → AtMost colors n most → AtMost colors (n + 1) (bit_or most (get_or colors n 0))
+most-more {colors} {n} {most} so_far =
+    let number : ℕ = get_or colors n 0 in
     let sum = or_add_and most number in
     let left = and_le_l most number in
     let right = and_le_r most number in
@@ -39,6 +38,13 @@ most-more {colors} {first} {n} {most} so_far =
           ⊎_elim (λ e. rw e (omega (arith, sum, left))) (λ l. let before = so_far.each k l in omega (arith, sum, right, before))
           (eq-or-lt_of_le last);
     }
+
+-- what holds of a part holds where it stands
+pub lasting_part : (t : List ℕ) (n m : ℕ) → n + m ≤ length t → Lasting (take m (drop n t)) 0 (length (take m (drop n t))) → Lasting t n m
+lasting_part t n m within part k h =
+    let long : length (take m (drop n t)) ≡ m = simp (length-take, length-drop) (omega arith) in
+    let here : get_or (take m (drop n t)) (0 + k) 0 < frame_unit = part k (rw long h) in
+    rw (zero-add, get_or-take m (drop n t) k 0 h, get_or-drop n t k 0) at here
 
 -- ---- the pass
 

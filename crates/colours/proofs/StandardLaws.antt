@@ -2,23 +2,10 @@
 -- Assumes nothing.
 use mathlib.Core.Path.{◌≡◌, ap, ◌∙◌}
 use mathlib.Core.List.{List}
-use Prim.Native.Nat.{ℕ, ◌*◌, ◌/◌, ◌%◌, ◌^◌, ◌<◌}
-use lib.IntN.{pos}
+use Prim.Native.Nat.{ℕ, ◌*◌, ◌/◌, ◌%◌}
 use lib.ListN.{replicate}
 use lib.Seq.{sets}
-use Rattle.hls.specs.declared.Percent.{Percent}
-use Rattle.hls.specs.Percent.{percent_of}
-use Rattle.colours.specs.Packing.{packed}
 use Rattle.colours.specs.Standard.{percents, base, cube, grey, standard_at, listed}
-use Rattle.colours.proofs.Laws.{passed, packs}
-
--- what the bytes of three percents pack to is the colour of these percents
-pub packs-percents : {color : ℕ} {red green blue : Percent} (r g b : ℕ) → r < 2 ^ 31 → g < 2 ^ 31 → b < 2 ^ 31
-    → red ≡ percent_of (passed (pos r)) → green ≡ percent_of (passed (pos g)) → blue ≡ percent_of (passed (pos b))
-    → color ≡ packed red.byte green.byte blue.byte → color ≡ percents r g b
-unfolding percents
-packs-percents r g b hr hg hb er eg eb ec =
-    packs (pos r) (pos g) (pos b) (record { sfits = hr }) (record { sfits = hg }) (record { sfits = hb }) er eg eb ec
 
 -- a colour of the cube, and a grey, by what its percents come to
 pub is-cube : (k r g b : ℕ) {color : ℕ} → color ≡ percents r g b → r ≡ 20 * (k / 36) → g ≡ 20 * (k / 6 % 6) → b ≡ 20 * (k % 6)

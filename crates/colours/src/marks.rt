@@ -13,33 +13,30 @@ const MARK: u32 = 16_777_216;
 const FRAME: u32 = 33_554_432;
 
 // A colour command defines register `index`. There is none above 255, and nothing changes.
+#[tactic(auto, unfolding(crate::specs::Palette::of_table, crate::specs::Marks::defined))]
 pub(crate) fn define(colors: &mut [u32; 256], index: usize, color: u32)
     ensures { of_table colors.new ≡ defined (of_table colors.old) index color }
 {
-    if index >= 256 {
-        return;
+    if index < 256 {
+        colors[index] = FRAME + MARK + color % COLOR;
     }
-    colors[index] = FRAME + MARK + color % COLOR;
 }
 
 // Whether register `index` is marked; above 255 whether 255 is.
+#[tactic(auto, unfolding(crate::specs::Palette::of_table, crate::specs::Marks::is_marked))]
 pub fn is_marked(colors: &[u32; 256], index: usize) -> bool
     ensures { result ≡ is_marked (of_table colors.now) index }
 {
-    if index < 256 {
-        return colors[index] / MARK % 2 == 1;
-    }
-    colors[255] / MARK % 2 == 1
+    colors[index.min(255)] / MARK % 2 == 1
 }
 
-// Whether one of the 64 registers from `first` on may have something above its mark. No is certain. Asks that there are so many.
-fn may_exceed(colors: &[u32], first: usize) -> bool
-    requires { first + 64 ≤ length colors.now }
-    ensures { result ≡ false → Lasting colors.now first 64 }
+// Whether one of some registers may have something above its mark. No is certain.
+fn may_exceed(colors: &[u32]) -> bool
+    ensures { result ≡ false → Lasting colors.now 0 (length colors.now) }
 {
-    let mut all = 0u32;
-    for k in 0..64usize {
-        all |= colors[first + k];
+    let mut all = 0;
+    for &number in colors {
+        all |= number;
     }
     all >= FRAME
 }
@@ -52,7 +49,8 @@ fn count_and_clear(colors: &mut [u32]) -> usize
 {
     let mut count = 0u32;
     for block in 0..4usize {
-        if may_exceed(colors, 64 * block) {
+        if may_exceed(&colors[64 * block..64 * block + 64]) {
+            // Kept: (c) in a loop over `&mut colors[..]` the invariant has this block alone, and the count of the table stayed open.
             for k in 64 * block..64 * block + 64 {
                 let number = colors[k];
                 count += number / FRAME % 2;

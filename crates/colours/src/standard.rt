@@ -7,6 +7,7 @@ ghost use Rattle.colours.specs.Standard.{percents, base, cube, grey, standard_at
 use crate::pack_rgb;
 
 // The colour of percents of red, green and blue.
+#[tactic(auto, unfolding(crate::specs::Standard::percents, hls::specs::Percent::percent_of))]
 fn percents(r: u16, g: u16, b: u16) -> u32
     ensures { result ≡ percents r g b }
 {
@@ -17,6 +18,7 @@ fn percents(r: u16, g: u16, b: u16) -> u32
 }
 
 // Registers 0 to 15: BASE of the Rust.
+#[tactic(auto, unfolding(crate::specs::Standard::base))]
 fn base() -> [u32; 16]
     ensures { result ≡ base }
 {
@@ -73,9 +75,7 @@ fn put(colors: &mut [u32; 256], first: usize, rule: &[u32])
     requires { first + length rule.now ≤ 256 }
     ensures { colors.new ≡ sets colors.old first rule.now }
 {
-    for k in 0..rule.len() {
-        colors[first + k] = rule[k];
-    }
+    colors[first..first + rule.len()].copy_from_slice(rule);
 }
 
 // Every register by its rule, each rule at its first register.

@@ -1,5 +1,5 @@
 -- Before the payload: introducer and header lead code and definition to the same place, or to the payload.
-use Rattle.std.specs.Prelude.{◌≡◌, ℕ, ◌+◌, true, List, [], ◌∷◌, length, drop}
+use Rattle.std.specs.Prelude.{◌≡◌, ℕ, ◌+◌, true, List, [], ◌∷◌, length, drop, Ok, Err}
 use native.Mathlib.Nat.{add-zero}
 use mathlib.Core.Option.{Option, none}
 use mathlib.Core.Path.{refl, sym, ap, ap₂, subst, ◌∙◌}
@@ -21,7 +21,6 @@ use Rattle.meaning.specs.Sessions as sessions
 use Rattle.payload.specs.declared.Life.TheVariants as lives
 use Rattle.payload.specs.declared.Session as payload_session
 use Rattle.payload.specs.declared.Settings.{Settings}
-use Rattle.payload.specs.declared.refusals.Verdict.TheVariants as judged
 use Rattle.payload.specs.Deferred.{no_settings, with_background, begun_session, begun_by, failed_of}
 use Rattle.payload.specs.Refusals.{openable, misfitting, fitting, feed_judged}
 use Rattle.payload.specs.Session as coded
@@ -31,7 +30,7 @@ use Rattle.payload.proofs.Openings as openings
 use Rattle.dcs.specs.declared.Phase.{Phase}
 use Rattle.dcs.specs.declared.Phase.TheVariants as phases
 use Rattle.header.specs.declared.Lead.{Lead}
-use Rattle.header.specs.declared.Led.{Led}
+use Rattle.header.specs.Results.{Led}
 use Rattle.header.specs.declared.Led.TheVariants as leds
 use Rattle.header.specs.declared.Place.{Place}
 use Rattle.header.specs.declared.Step as lead_step
@@ -71,11 +70,11 @@ module _ (l : Limits) (stride : ℕ) (p : Palette) (opening : List ℕ) where
       (cond_yes _ _ (le-leb 4 (length opening) (pixel-there l stride (length opening) refl opens)))
 
   -- it passes what the waiting session passed
-  fine-begun : (o : Settings) (a : ℕ) → feed_judged waiting (length opening) a ≡ judged.Fine
-      → feed_judged (begun o) (length (begun_canvas o)) a ≡ judged.Fine
+  fine-begun : (o : Settings) (a : ℕ) → feed_judged waiting (length opening) a ≡ Ok tt
+      → feed_judged (begun o) (length (begun_canvas o)) a ≡ Ok tt
   unfolding feed_judged misfitting fitting coded.session_for coded.ground_for coded.blank_frame
   fine-begun o a e =
-      subst (λ (n : ℕ). feed_judged (begun o) n a ≡ judged.Fine)
+      subst (λ (n : ℕ). feed_judged (begun o) n a ≡ Ok tt)
       (sym (length-painted (span 0 1) (coded.background_for (lasting p) o.p2) opening)) e
 
   -- before the payload there is no end and no visible area, and finishing is 8
@@ -101,7 +100,7 @@ module _ (l : Limits) (stride : ℕ) (p : Palette) (opening : List ℕ) where
 
   -- a call with these bytes, of a session before the payload that passes 9, 12 and 13
   module _ (opens : openable l stride (length opening) ≡ true) (h₀ : Parameters) (t₀ : Phase) (x₀ : sessions.Phase)
-      (whole : List ℕ) (a : ℕ) (fine : feed_judged waiting (length opening) a ≡ judged.Fine) where
+      (whole : List ℕ) (a : ℕ) (fine : feed_judged waiting (length opening) a ≡ Ok tt) where
     -- the place where the code's lead ends is answered as the definition's run is
     abbrev pub Leads : Lead → Run sessions.Phase → Type 0
     Leads z q = FeedsTo l stride p opening x₀ (led_to z.led z (session_of waiting h₀ t₀) opening whole a) q
@@ -111,11 +110,11 @@ module _ (l : Limits) (stride : ℕ) (p : Palette) (opening : List ℕ) where
     payload_by h = sessions.within (sessions.opened (payload_meant.parameters_meant (settings_from h)) p)
 
     lead-begins : (t : Place) (h : Parameters) (n : ℕ) (bs : List ℕ) → drop n whole ≡ bs
-        → Leads (lead_at t h n leds.Begins) (after n 0 (dcs_call a (payload_by h) bs))
+        → Leads (lead_at t h n (Ok leds.Begins)) (after n 0 (dcs_call a (payload_by h) bs))
     unfolding led_to sessions.opened
     lead-begins t h n bs e =
         let o : Settings = settings_from h in
-        subst (λ (us : List ℕ). Leads (lead_at t h n leds.Begins) (after n 0 (dcs_call a (payload_by h) us))) e
+        subst (λ (us : List ℕ). Leads (lead_at t h n (Ok leds.Begins)) (after n 0 (dcs_call a (payload_by h) us))) e
         (subst
         (λ (b : payload_session.Session × List ℕ).
         FeedsTo l stride p opening x₀
@@ -149,7 +148,7 @@ module _ (l : Limits) (stride : ℕ) (p : Palette) (opening : List ℕ) where
         (later s.place s.header z same))
     byte-feeds n b bs x {s} at (begins {o = o} e same) step later =
         as-led s n bs (after n 0 (dcs_call a x (b ∷ bs))) e
-        (subst (Leads (lead_at s.place s.header (n + 1) leds.Begins))
+        (subst (Leads (lead_at s.place s.header (n + 1) (Ok leds.Begins)))
         (sym
         (ap (after n 0) (call-dry (sessions.dcs_step setting p) (sessions.dcs_rested setting) a x b bs step)
         ∙ after_one n 0 (dcs_call a (sessions.within (sessions.opened o p)) bs)
@@ -157,7 +156,7 @@ module _ (l : Limits) (stride : ℕ) (p : Palette) (opening : List ℕ) where
         (lead-begins s.place s.header (n + 1) bs (sym (drop-drop 1 n whole) ∙ ap (drop 1) at)))
     byte-feeds n b bs x {s} at (turns_down {x = z} {n = m} why e number same) step later =
         as-led s n bs (after n 0 (dcs_call a x (b ∷ bs))) e
-        (subst (Leads (lead_at s.place s.header n (leds.Refused why)))
+        (subst (Leads (lead_at s.place s.header n (Err why)))
         (sym (ap (after n 0) (call-refuses (sessions.dcs_step setting p) (sessions.dcs_rested setting) a x b bs step)))
         (record { answer = ap calls.refused number; session = refused same }))
 

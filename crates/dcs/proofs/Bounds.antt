@@ -1,5 +1,5 @@
 -- No call of a payload session consumes more bytes than it has.
-use Rattle.std.specs.Prelude.{ℕ, suc, ◌+◌, ◌-◌, ◌≤◌, List, [], ◌∷◌, length}
+use Rattle.std.specs.Prelude.{ℕ, suc, ◌+◌, ◌-◌, ◌≤◌, List, [], ◌∷◌, length, Ok, Err}
 use native.Mathlib.Omega.{arith}
 use Rattle.colours.specs.declared.Palette.{Palette}
 use Rattle.frame.specs.declared.Frame.{Frame}
@@ -9,13 +9,11 @@ use Rattle.frame.specs.declared.Outcome.TheVariants as outcomes
 use Rattle.frame.specs.declared.Progress.{Progress}
 use Rattle.reference.specs.Step.{Reached}
 use Rattle.reference.specs.Feed.{byte_step, reached_as, go_on, feed_from}
-use Rattle.payload.specs.declared.Answer.{Answer}
+use Rattle.payload.specs.Results.{Answer, Verdict}
 use Rattle.payload.specs.declared.Answer.TheVariants as answers
 use Rattle.payload.specs.declared.Life.{Life}
 use Rattle.payload.specs.declared.Life.TheVariants as lives
 use Rattle.payload.specs.declared.Session.{Session}
-use Rattle.payload.specs.declared.refusals.Verdict.{Verdict}
-use Rattle.payload.specs.declared.refusals.Verdict.TheVariants as judged
 use Rattle.payload.specs.Refusals.{feed_judged}
 use Rattle.payload.specs.Session.{answered_in, answered_by, fed_live, fed_in, fed_as, fed_by}
 
@@ -38,10 +36,10 @@ reached-bound g allowance (b ∷ bs) n i f p l =
 
 -- an answer's count is at most this
 abbrev pub AtMost : ℕ → Answer → Type 0
-AtMost m (answers.More c i) = c ≤ m
-AtMost m (answers.Stopped c i) = c ≤ m
-AtMost m (answers.Ended c i b) = c ≤ m
-AtMost m (answers.Refused r) = Unit
+AtMost m (Ok (answers.More c i)) = c ≤ m
+AtMost m (Ok (answers.Stopped c i)) = c ≤ m
+AtMost m (Ok (answers.Ended c i b)) = c ≤ m
+AtMost m (Err r) = Unit
 
 answered-bound : (m : ℕ) (o : Outcome) (s : Session) (r : Progress) (p : Palette) → r.consumed ≤ m → AtMost m (answered_in o s r p).answer
 unfolding answered_in
@@ -66,8 +64,8 @@ module _ (s : Session) (canvas bs : List ℕ) (allowance : ℕ) where
 
   as-bound : (j : Verdict) → AtMost (length bs) (fed_as j s canvas bs allowance).0.answer
   unfolding fed_as
-  as-bound judged.Fine = in-bound s.life
-  as-bound (judged.Refused n) = tt
+  as-bound (Ok tt) = in-bound s.life
+  as-bound (Err n) = tt
 
   pub fed-bound : AtMost (length bs) (fed_by s canvas bs allowance).0.answer
   unfolding fed_by

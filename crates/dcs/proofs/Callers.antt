@@ -15,7 +15,7 @@ use Rattle.meaning.proofs.FeedingLaws.{feed-answers, finish-answers}
 use Rattle.meaning.proofs.ToldLaws as told_laws
 use Rattle.meaning.proofs.ToldLaws.{end_told, may-told, Tells, answered-tells, answered-leaves, Learned, learned-more, answer-status}
 use Rattle.payload.specs.Meant.{setting_meant}
-use Rattle.dcs.specs.declared.Fed.{Fed}
+use Rattle.dcs.specs.Results.{Fed}
 use Rattle.dcs.specs.Session.{fed_by}
 use Rattle.dcs.specs.History.{held_at, Stands, Feeds, Held, tell_held, called, calls_of, proper_calls}
 use Rattle.dcs.specs.Meant.{answer_meant}

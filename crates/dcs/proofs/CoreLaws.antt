@@ -7,17 +7,15 @@ use Rattle.colours.specs.Palette.{of_table}
 use Rattle.frame.specs.declared.Frame.{Frame}
 use Rattle.frame.specs.declared.Limits.{Limits}
 use Rattle.payload.specs.declared.Finished.{Finished}
-use Rattle.payload.specs.declared.Finishing.{Finishing}
+use Rattle.payload.specs.Results.{Finishing}
 use Rattle.payload.specs.declared.Life.{Life}
 use Rattle.payload.specs.declared.kernel.Setup.{Setup}
 use Rattle.payload.specs.Core as payload
 use Rattle.payload.proofs.CoreLaws as payload_laws
-use Rattle.dcs.specs.declared.Fed as session
-use Rattle.dcs.specs.declared.Opened as whole
+use Rattle.dcs.specs.Results as session
 use Rattle.dcs.specs.declared.Session.{Session}
 use Rattle.dcs.specs.declared.kernel.Core.{Core}
-use Rattle.dcs.specs.declared.kernel.feeding.Fed.{Fed}
-use Rattle.dcs.specs.declared.kernel.opening.Opened.{Opened}
+use Rattle.dcs.specs.Results.{OpenedCore, FedCore}
 use Rattle.dcs.specs.Core.{core_of, over, opened_over, fed_over}
 use Rattle.dcs.specs.Session.{session_of, opened_on, opened_by, fed_by, finished_by}
 use Rattle.dcs.proofs.SessionLaws.{owned_by}
@@ -30,15 +28,15 @@ pub core-as : {u : Setup} {life : Life} {f : Frame} (s : Session) → u ≡ payl
 core-as s eu el ef = rw (eu, el, ef) refl
 
 -- an opening over the parts, with a copy of the owner's palette: colours and marks
-pub opened-whole : {x : Opened} {q : Session} {own lent : Palette} (l : Limits) (stride : ℕ) (owner : Palette) (size : ℕ)
-    → own ≡ lasting owner → lent ≡ own → opened_over x lent ≡ opened_on l stride lent size → q ≡ over x.core own
-    → ◌≡◌ {A = whole.Opened} (record { answer = x.answer; session = q }) (opened_by l stride owner size)
+pub opened-whole : {x : OpenedCore} {q : Session} {own lent : Palette} (l : Limits) (stride : ℕ) (owner : Palette) (size : ℕ)
+    → own ≡ lasting owner → lent ≡ own → opened_over x lent ≡ opened_on l stride lent size → q ≡ over x.session own
+    → ◌≡◌ {A = session.Opened} (record { answer = x.answer; session = q }) (opened_by l stride owner size)
 unfolding opened_by
 opened-whole l stride owner size eo el e eq = rw (eq, ← eo, ← el) e
 
-pub fed-whole : {c : Core} {p : Palette} {x : Fed} {later : List ℕ} {q : Session} {after lent : Palette} (s : Session)
+pub fed-whole : {c : Core} {p : Palette} {x : FedCore} {later : List ℕ} {q : Session} {after lent : Palette} (s : Session)
     (canvas bytes : List ℕ) (allowance : ℕ) → c ≡ core_of s → p ≡ s.payload.palette
-    → (fed_over x lent, later) ≡ fed_by (over c p) canvas bytes allowance → after ≡ lent → q ≡ over x.core after
+    → (fed_over x lent, later) ≡ fed_by (over c p) canvas bytes allowance → after ≡ lent → q ≡ over x.session after
     → ◌≡◌ {A = session.Fed × List ℕ} (record { answer = x.answer; session = q }, later) (fed_by s canvas bytes allowance)
 fed-whole s canvas bytes allowance ec ep e ea eq =
     rw (eq, ea) (e ∙ ap (λ (x : Session). fed_by x canvas bytes allowance) (over-same s ec ep))

@@ -1,25 +1,21 @@
 -- No call of a DCS session consumes more bytes than it has, whatever the session.
-use Rattle.std.specs.Prelude.{ℕ, ◌+◌, ◌≤◌, Bool, true, false, cond, ◌||◌, eqb, List, [], ◌∷◌, length, drop}
+use Rattle.std.specs.Prelude.{ℕ, ◌+◌, ◌≤◌, Bool, true, false, cond, ◌||◌, eqb, List, [], ◌∷◌, length, drop, Ok, Err}
 use native.Mathlib.Omega.{arith}
 use lib.ListN.{length-drop}
-use Rattle.payload.specs.declared.Answer as payload_answer
-use Rattle.payload.specs.declared.Answer.TheVariants as payload_answers
-use Rattle.payload.specs.declared.Fed as payload_fed
+use Rattle.payload.specs.Results as payload_answer
 use Rattle.payload.specs.declared.Session as payload_session
-use Rattle.payload.specs.declared.refusals.Verdict.{Verdict}
-use Rattle.payload.specs.declared.refusals.Verdict.TheVariants as judged
+use Rattle.payload.specs.Results.{Verdict}
 use Rattle.payload.specs.Deferred.{begun_by}
 use Rattle.payload.specs.Refusals.{feed_judged}
 use Rattle.payload.specs.Session as payload
-use Rattle.dcs.specs.declared.Answer.{Answer}
-use Rattle.dcs.specs.declared.Answer.TheVariants as answers
+use Rattle.dcs.specs.Results.{Answer, Fed}
+use Rattle.payload.specs.declared.Answer.TheVariants as answers
 use Rattle.dcs.specs.declared.Ending.TheVariants as endings
-use Rattle.dcs.specs.declared.Fed.{Fed}
 use Rattle.dcs.specs.declared.Phase.{Phase}
 use Rattle.dcs.specs.declared.Phase.TheVariants as phases
 use Rattle.dcs.specs.declared.Session.{Session}
 use Rattle.header.specs.declared.Lead.{Lead}
-use Rattle.header.specs.declared.Led.{Led}
+use Rattle.header.specs.Results.{Led}
 use Rattle.header.specs.declared.Led.TheVariants as leds
 use Rattle.header.specs.Lead.{lead_from}
 use Rattle.header.specs.Settings.{settings_from}
@@ -29,10 +25,10 @@ use Rattle.dcs.proofs.Bounds.{AtMost, fed-bound}
 
 -- an answer's count is at most this
 abbrev pub Within : ℕ → Answer → Type 0
-Within m (answers.More c i) = c ≤ m
-Within m (answers.Stopped c i) = c ≤ m
-Within m (answers.Ended c i e) = c ≤ m
-Within m (answers.Refused r) = Unit
+Within m (Ok (answers.More c i)) = c ≤ m
+Within m (Ok (answers.Stopped c i)) = c ≤ m
+Within m (Ok (answers.Ended c i e)) = c ≤ m
+Within m (Err r) = Unit
 
 either : (m : ℕ) (t : Bool) (x y : Fed) → Within m x.answer → Within m y.answer → Within m (cond t x y).answer
 either m true x y h k = h
@@ -60,27 +56,27 @@ module _ (m : ℕ) where
   passed-within : (a : payload_answer.Answer) (s : Session) (bs : List ℕ) (n : ℕ) → AtMost (length bs) a → n + length bs ≤ m
       → Within m (passed_on a s bs n).answer
   unfolding passed_on
-  passed-within (payload_answers.More c i) s bs n k h = omega arith
-  passed-within (payload_answers.Stopped c i) s bs n k h = omega arith
-  passed-within (payload_answers.Ended c i b) s bs n k h = closed-within s (drop c bs) (n + c) i (omega (arith, length-drop c bs))
-  passed-within (payload_answers.Refused r) s bs n k h = tt
+  passed-within (Ok (answers.More c i)) s bs n k h = omega arith
+  passed-within (Ok (answers.Stopped c i)) s bs n k h = omega arith
+  passed-within (Ok (answers.Ended c i b)) s bs n k h = closed-within s (drop c bs) (n + c) i (omega (arith, length-drop c bs))
+  passed-within (Err r) s bs n k h = tt
 
   payload-within : (s : Session) (canvas bs : List ℕ) (n allowance : ℕ) → n + length bs ≤ m
       → Within m (fed_payload s canvas bs n allowance).0.answer
   unfolding fed_payload
   payload-within s canvas bs n allowance h =
-      let r : payload_fed.Fed × List ℕ = payload.fed_by s.payload canvas bs allowance in
+      let r : payload_answer.Fed × List ℕ = payload.fed_by s.payload canvas bs allowance in
       passed-within r.0.answer (session_of r.0.session s.header phases.Within) bs n (fed-bound s.payload canvas bs allowance) h
 
   led-within : (led : Led) (l : Lead) (s : Session) (canvas bs : List ℕ) (allowance : ℕ) → l.consumed ≤ length bs → length bs ≤ m
       → Within m (led_to led l s canvas bs allowance).0.answer
   unfolding led_to
-  led-within leds.On l s canvas bs allowance k h = omega arith
-  led-within leds.Begins l s canvas bs allowance k h =
+  led-within (Ok leds.On) l s canvas bs allowance k h = omega arith
+  led-within (Ok leds.Begins) l s canvas bs allowance k h =
       let b : payload_session.Session × List ℕ = begun_by s.payload (settings_from l.header) canvas in
       payload-within (session_of b.0 l.header phases.Within) b.1 (drop l.consumed bs) l.consumed allowance
       (omega (arith, length-drop l.consumed bs))
-  led-within (leds.Refused r) l s canvas bs allowance k h = tt
+  led-within (Err r) l s canvas bs allowance k h = tt
 
 module _ (s : Session) (canvas bs : List ℕ) (allowance : ℕ) where
   in_within : (t : Phase) → Within (length bs) (fed_in t s canvas bs allowance).0.answer
@@ -94,8 +90,8 @@ module _ (s : Session) (canvas bs : List ℕ) (allowance : ℕ) where
 
   as-within : (j : Verdict) → Within (length bs) (fed_as j s canvas bs allowance).0.answer
   unfolding fed_as
-  as-within judged.Fine = in_within s.phase
-  as-within (judged.Refused n) = tt
+  as-within (Ok tt) = in_within s.phase
+  as-within (Err n) = tt
 
   pub feed-within : Within (length bs) (fed_by s canvas bs allowance).0.answer
   unfolding fed_by

@@ -1,5 +1,5 @@
 -- Introducer and header byte by byte: the code's step is the definition's.
-use Rattle.std.specs.Prelude.{◌≡◌, ℕ, eqb, List}
+use Rattle.std.specs.Prelude.{◌≡◌, ℕ, eqb, List, Ok, Err}
 use mathlib.Core.Path.{refl}
 use Rattle.numbers.specs.declared.Parameters.{Parameters}
 use Rattle.colours.specs.declared.Palette.{Palette}
@@ -23,11 +23,11 @@ use Rattle.dcs.specs.History.{SamePlace, at_start, at_introduced, in_header}
 
 -- the code's step and the definition's: on to the same place, to the payload with the same parameters, or refused with the same number
 pub data LeadAgrees (p : Palette) : Step → reader.Step sessions.Phase → Type 0 where
-  goes_on : {s : Step} {x : sessions.Phase} → s.led ≡ leds.On → SamePlace s.place s.header x → LeadAgrees p s (reader.next x 0)
-  begins : {s : Step} {o : meant.Parameters} → s.led ≡ leds.Begins → o ≡ payload_meant.parameters_meant (settings_from s.header)
+  goes_on : {s : Step} {x : sessions.Phase} → s.led ≡ Ok leds.On → SamePlace s.place s.header x → LeadAgrees p s (reader.next x 0)
+  begins : {s : Step} {o : meant.Parameters} → s.led ≡ Ok leds.Begins → o ≡ payload_meant.parameters_meant (settings_from s.header)
       → LeadAgrees p s (reader.next (sessions.within (sessions.opened o p)) 0)
   turns_down : {s : Step} {x : sessions.Phase} {n : ℕ} (why : Refusal)
-      → s.led ≡ leds.Refused why → number_of why ≡ n → SamePlace s.place s.header x
+      → s.led ≡ Err why → number_of why ≡ n → SamePlace s.place s.header x
       → LeadAgrees p s (reader.refuse x n)
 
 module _ (s : Setting) (p : Palette) (b : ℕ) where

@@ -1,13 +1,12 @@
 -- When an opening is ready and when it is 11 (rule 1.4), and what its session stands for.
-use Rattle.std.specs.Prelude.{◌≡◌, ℕ, true, false, ◌↔◌, List, length}
+use Rattle.std.specs.Prelude.{◌≡◌, ℕ, true, false, ◌↔◌, List, length, Ok, Err}
 use Rattle.numbers.proofs.Reading.{read_none}
 use Rattle.colours.specs.declared.Palette.{Palette}
 use Rattle.frame.specs.declared.Limits.{Limits}
 use Rattle.frame.specs.declared.Refusal.TheVariants as refusals
 use Rattle.meaning.specs.Sessions.{start}
 use Rattle.meaning.proofs.Cases.{cond_map}
-use Rattle.payload.specs.declared.Opened as payload_opened
-use Rattle.payload.specs.declared.Opening.TheVariants as openings
+use Rattle.payload.specs.Results as payload_opened
 use Rattle.payload.specs.Deferred.{reserved_by}
 use Rattle.payload.specs.Refusals.{openable}
 use Rattle.payload.proofs.Openings.{opening_by, ready-exactly, refused-exactly}
@@ -20,11 +19,11 @@ module _ (l : Limits) (stride : ℕ) (p : Palette) (size : ℕ) where
   answered = cond_map (λ (o : payload_opened.Opened). o.answer) (openable l stride size) _ _
 
   -- An opening is ready exactly when its numbers are in their ranges and there is a whole row.
-  pub open-ready : ((opened_by l stride p size).answer ≡ openings.Ready) ↔ (openable l stride size ≡ true)
+  pub open-ready : ((opened_by l stride p size).answer ≡ Ok tt) ↔ (openable l stride size ≡ true)
   open-ready = ready-exactly (openable l stride size) answered
 
   -- It is 11 exactly when they are not, or there is none.
-  pub open-refused : ((opened_by l stride p size).answer ≡ openings.Refused refusals.Opening) ↔ (openable l stride size ≡ false)
+  pub open-refused : ((opened_by l stride p size).answer ≡ Err refusals.Opening) ↔ (openable l stride size ≡ false)
   open-refused = refused-exactly (openable l stride size) answered
 
 -- The session of one that succeeds waits for the introducer, and nothing is written.

@@ -1,6 +1,6 @@
 -- What a caller relies on to go on: a call that needs more has left nothing unread and a finish there is 8, a stop has consumed a
 -- byte, and an end is the one told.
-use Rattle.std.specs.Prelude.{◌≡◌, ℕ, ◌*◌, ◌<◌, ◌≤◌, true, false, List, [], ◌∷◌, ◌++◌, length}
+use Rattle.std.specs.Prelude.{◌≡◌, ℕ, ◌*◌, ◌<◌, ◌≤◌, true, false, List, [], ◌∷◌, ◌++◌, length, Ok}
 use native.Mathlib.Omega.{arith}
 use mathlib.Core.Option.{none, some}
 use mathlib.Core.Path.{refl, sym, ap, ◌∙◌, subst}
@@ -24,7 +24,7 @@ use Rattle.meaning.proofs.ToldLaws.{end_told, told-stopped, told_more, answered-
 use Rattle.payload.specs.History.{Finishes}
 use Rattle.payload.specs.Meant.{setting_meant}
 use Rattle.payload.specs.Refusals.{openable}
-use Rattle.dcs.specs.declared.Answer.TheVariants as answers
+use Rattle.payload.specs.declared.Answer.TheVariants as answers
 use Rattle.dcs.specs.declared.Ending.{Ending}
 use Rattle.dcs.specs.Session.{fed_by, finished_by}
 use Rattle.dcs.specs.History.{Held, tell_held, called, proper_calls}
@@ -163,7 +163,7 @@ module _ (l : Limits) (stride : ℕ) (p : Palette) (opening : List ℕ) (opens :
 
     -- An end that is told is the one that the definition has come to.
     pub end-told : {n i : ℕ} {e : Ending}
-        → (fed_by now.state.0 now.state.1 (now.unread ++ piece_of t) (allowance_of t)).0.answer ≡ answers.Ended n i e
+        → (fed_by now.state.0 now.state.1 (now.unread ++ piece_of t) (allowance_of t)).0.answer ≡ Ok (answers.Ended n i e)
         → calls.dcs_end (turn (dcs_step setting p) (dcs_rested setting) there t).state ≡ some (end_meant e)
     unfolding turn having answer_meant
     end-told {n} {i} {e} k =

@@ -1,6 +1,6 @@
 -- Laws of a DCS session: one for each path through a function of the code, with what its callees return as variables. The functions' own proofs
 -- find them by search, and the rulesets below say which laws belong to which functions.
-use Rattle.std.specs.Prelude.{◌≡◌, ℕ, ◌+◌, ◌-◌, ◌<◌, ◌≤◌, Bool, true, false, cond, ◌||◌, eqb, List, [], ◌∷◌, length, get_or, take, drop}
+use Rattle.std.specs.Prelude.{◌≡◌, ℕ, ◌+◌, ◌-◌, ◌<◌, ◌≤◌, Bool, true, false, cond, ◌||◌, eqb, List, [], ◌∷◌, length, get_or, take, drop, Ok, Err}
 use mathlib.Core.Path.{refl, sym, ap, ap₂, subst, ◌∙◌}
 use native.Mathlib.Numerals.{add-one}
 use native.Mathlib.Omega.{arith}
@@ -17,36 +17,31 @@ use Rattle.frame.specs.declared.Frame.{Frame}
 use Rattle.frame.specs.declared.Limits.{Limits}
 use Rattle.frame.specs.declared.Refusal.{Refusal}
 use Rattle.frame.specs.declared.Refusal.TheVariants as refusals
-use Rattle.payload.specs.declared.Answer as payload_answer
-use Rattle.payload.specs.declared.Answer.TheVariants as payload_answers
-use Rattle.payload.specs.declared.Fed as payload_fed
+use Rattle.payload.specs.Results as payload_answer
 use Rattle.payload.specs.declared.Finished.{Finished}
-use Rattle.payload.specs.declared.Finishing.TheVariants as finishes
-use Rattle.payload.specs.declared.Opened as payload_opened
 use Rattle.payload.specs.declared.Session as payload_session
 use Rattle.payload.specs.declared.Life.{Life}
 use Rattle.payload.specs.declared.Life.TheVariants as lives
 use Rattle.payload.specs.declared.Settings.{Settings}
 use Rattle.payload.specs.declared.kernel.Setup.{Setup}
-use Rattle.payload.specs.declared.refusals.Verdict.{Verdict}
-use Rattle.payload.specs.declared.refusals.Verdict.TheVariants as judged
+use Rattle.payload.specs.Results.{Verdict}
 use Rattle.payload.specs.Core.{over, begun_over, handed_back}
 use Rattle.payload.specs.Deferred.{reserved_by, begun_by, failed_of}
 use Rattle.payload.specs.Refusals.{feed_judged, finish_judged}
 use Rattle.payload.specs.Session as payload
 use Rattle.payload.proofs.CoreLaws.{owned, owned_by as payload-owned}
 use Rattle.payload.proofs.SessionLaws.{fed-refused as refused-at-once}
-use Rattle.dcs.specs.declared.Answer.TheVariants as answers
+use Rattle.payload.specs.declared.Answer as counts
+use Rattle.payload.specs.declared.Answer.TheVariants as answers
 use Rattle.dcs.specs.declared.Ending.{Ending}
 use Rattle.dcs.specs.declared.Ending.TheVariants as endings
-use Rattle.dcs.specs.declared.Fed.{Fed}
-use Rattle.dcs.specs.declared.Opened.{Opened}
+use Rattle.dcs.specs.Results.{Fed, Opened}
 use Rattle.dcs.specs.declared.Phase.{Phase}
 use Rattle.dcs.specs.declared.Phase.TheVariants as phases
 use Rattle.dcs.specs.declared.Session.{Session}
 use Rattle.dcs.specs.declared.kernel.feeding.Told.{Told}
 use Rattle.header.specs.declared.Lead.{Lead}
-use Rattle.header.specs.declared.Led.{Led}
+use Rattle.header.specs.Results.{Led}
 use Rattle.header.specs.declared.Led.TheVariants as leds
 use Rattle.header.specs.declared.Place.{Place}
 use Rattle.header.specs.declared.Place.TheVariants as places
@@ -59,7 +54,7 @@ use Rattle.dcs.specs.contracts.Phase as PhaseType
 
 -- ---- opening
 
-pub opened-as : {o : payload_opened.Opened} {h : Parameters} (l : Limits) (stride : ℕ) (p : Palette) (size : ℕ)
+pub opened-as : {o : payload_answer.Opened} {h : Parameters} (l : Limits) (stride : ℕ) (p : Palette) (size : ℕ)
     → o ≡ reserved_by l stride p size → h ≡ numbers.opened 3
     → ◌≡◌ {A = Opened} (record { answer = o.answer; session = session_of o.session h (phases.Before places.Start) }) (opened_on l stride p size)
 unfolding opened_on
@@ -68,7 +63,7 @@ opened-as l stride p size e k = rw (e, k) refl
 -- ---- the end
 
 pub over-as : (n i : ℕ) (e : Ending)
-    → ◌≡◌ {A = Told} (record { answer = answers.Ended n i e; phase = phases.Over e }) (over_told n i e)
+    → ◌≡◌ {A = Told} (record { answer = Ok (answers.Ended n i e); phase = phases.Over e }) (over_told n i e)
 unfolding over_told
 over-as n i e = refl
 
@@ -84,12 +79,12 @@ module _ (bytes : List ℕ) (at ink : ℕ) where
   closed_here = closed_told (drop at bytes) at ink
 
   pub escaped-waits : length bytes ≤ at
-      → ◌≡◌ {A = Told} (record { answer = answers.More at ink; phase = phases.Escaped }) escaped_here
+      → ◌≡◌ {A = Told} (record { answer = Ok (answers.More at ink); phase = phases.Escaped }) escaped_here
   unfolding escaped_told
   escaped-waits h = ap (λ (bs : List ℕ). escaped_told bs at ink) (sym (drop_of_length-le bytes h))
 
   pub closed-nowhere : length bytes ≤ at
-      → ◌≡◌ {A = Told} (record { answer = answers.More at ink; phase = phases.Within }) closed_here
+      → ◌≡◌ {A = Told} (record { answer = Ok (answers.More at ink); phase = phases.Within }) closed_here
   unfolding closed_told
   closed-nowhere h = ap (λ (bs : List ℕ). closed_told bs at ink) (sym (drop_of_length-le bytes h))
 
@@ -188,51 +183,55 @@ module _ (p : payload_session.Session) (h : Parameters) where
   told-passed : (a : payload_answer.Answer) (bs : List ℕ) (n : ℕ)
       → told_of p h (passed_told a bs n) ≡ passed_on a (session_of p h phases.Within) bs n
   unfolding told_of passed_told passed_on
-  told-passed (payload_answers.More c i) bs n = refl
-  told-passed (payload_answers.Stopped c i) bs n = refl
-  told-passed (payload_answers.Ended c i b) bs n = told-closed (drop c bs) (n + c) i
-  told-passed (payload_answers.Refused r) bs n = refl
+  told-passed (Ok (answers.More c i)) bs n = refl
+  told-passed (Ok (answers.Stopped c i)) bs n = refl
+  told-passed (Ok (answers.Ended c i b)) bs n = told-closed (drop c bs) (n + c) i
+  told-passed (Err r) bs n = refl
 
 -- ---- in the payload
 
 -- what an answer counts
-module _ {a : payload_answer.Answer} {c i : ℕ} where
-  pub count-more : a ≡ payload_answers.More c i → count_of a ≡ c
-  unfolding count_of
-  count-more e = ap count_of e
+abbrev Counts : Type 0
+Counts = counts.Answer ℕ
 
-  pub count-stopped : a ≡ payload_answers.Stopped c i → count_of a ≡ c
+module _ {a : payload_answer.Answer} {x : Counts} {c i : ℕ} (e : a ≡ Ok x) where
+  pub count-more : x ≡ answers.More c i → count_of a ≡ c
   unfolding count_of
-  count-stopped e = ap count_of e
+  count-more k = ap count_of (e ∙ ap Ok k)
 
-  pub count-ended : {b : ℕ} → a ≡ payload_answers.Ended c i b → count_of a ≡ c
+  pub count-stopped : x ≡ answers.Stopped c i → count_of a ≡ c
   unfolding count_of
-  count-ended e = ap count_of e
+  count-stopped k = ap count_of (e ∙ ap Ok k)
+
+  pub count-ended : {b : ℕ} → x ≡ answers.Ended c i b → count_of a ≡ c
+  unfolding count_of
+  count-ended k = ap count_of (e ∙ ap Ok k)
 
 at_most : (m : ℕ) (a : payload_answer.Answer) → AtMost m a → count_of a ≤ m
 unfolding count_of
-at_most m (payload_answers.More c i) h = h
-at_most m (payload_answers.Stopped c i) h = h
-at_most m (payload_answers.Ended c i b) h = h
-at_most m (payload_answers.Refused r) h = omega arith
+at_most m (Ok (answers.More c i)) h = h
+at_most m (Ok (answers.Stopped c i)) h = h
+at_most m (Ok (answers.Ended c i b)) h = h
+at_most m (Err r) h = omega arith
 
 pub passed-as : {r : Told} {a b : payload_answer.Answer} (bs : List ℕ) (n : ℕ) → a ≡ b
     → r ≡ passed_told b bs n → r ≡ passed_told a bs n
 passed-as bs n e h = h ∙ ap (λ (a : payload_answer.Answer). passed_told a bs n) (sym e)
 
-pub passed-ended : {r : Told} {a : payload_answer.Answer} {c i b : ℕ} (bytes : List ℕ) (from : ℕ) → a ≡ payload_answers.Ended c i b
+pub passed-ended : {r : Told} {a : payload_answer.Answer} {x : Counts} {c i b : ℕ} (bytes : List ℕ) (from : ℕ)
+    → a ≡ Ok x → x ≡ answers.Ended c i b
     → r ≡ closed_told (drop (from + c) bytes) (from + c) i
     → r ≡ passed_told a (drop from bytes) from
 unfolding passed_told
-passed-ended {c = c} {i = i} bytes from e h =
-    passed-as (drop from bytes) from e (h ∙ ap (λ (bs : List ℕ). closed_told bs (from + c) i) (sym (drop-drop c from bytes)))
+passed-ended {c = c} {i = i} bytes from e k h =
+    passed-as (drop from bytes) from (e ∙ ap Ok k) (h ∙ ap (λ (bs : List ℕ). closed_told bs (from + c) i) (sym (drop-drop c from bytes)))
 
 -- the part of a slice from a place on
 pub part-drop : (bytes : List ℕ) (from : ℕ) → take (length bytes - from) (drop from bytes) ≡ drop from bytes
 part-drop bytes from = ap (λ (n : ℕ). take n (drop from bytes)) (sym (length-drop from bytes)) ∙ take-length (drop from bytes)
 
 -- the payload session is fed the part of the bytes from a place on
-module _ (p : payload_session.Session) (canvas bytes : List ℕ) (from allowance : ℕ) {part : List ℕ} {f : payload_fed.Fed} {after : List ℕ}
+module _ (p : payload_session.Session) (canvas bytes : List ℕ) (from allowance : ℕ) {part : List ℕ} {f : payload_answer.Fed} {after : List ℕ}
     (same : part ≡ drop from bytes) (fed : (f, after) ≡ payload.fed_by p canvas part allowance) where
   whole : (f, after) ≡ payload.fed_by p canvas (drop from bytes) allowance
   whole = fed ∙ ap (λ (bs : List ℕ). payload.fed_by p canvas bs allowance) same
@@ -242,7 +241,7 @@ module _ (p : payload_session.Session) (canvas bytes : List ℕ) (from allowance
   passed-bound h =
       let most : AtMost (length (drop from bytes)) f.answer =
       subst (AtMost (length (drop from bytes)))
-      (ap (λ (x : payload_fed.Fed × List ℕ). x.0.answer) (sym whole)) (fed-bound p canvas (drop from bytes) allowance) in
+      (ap (λ (x : payload_answer.Fed × List ℕ). x.0.answer) (sym whole)) (fed-bound p canvas (drop from bytes) allowance) in
       omega (arith, h, at_most (length (drop from bytes)) f.answer most, length-drop from bytes)
 
   pub payload-fed : {t : Told} {r : Fed} (h : Parameters)
@@ -252,13 +251,13 @@ module _ (p : payload_session.Session) (canvas bytes : List ℕ) (from allowance
   payload-fed h t r =
       ap (λ (x : Fed). (x, after)) (r ∙ ap (told_of f.session h) t ∙ told-passed f.session h f.answer (drop from bytes) from)
       ∙ ap
-      (λ (x : payload_fed.Fed × List ℕ).
+      (λ (x : payload_answer.Fed × List ℕ).
       (passed_on x.0.answer (session_of x.0.session h phases.Within) (drop from bytes) from, x.1)) whole
 
 -- or is refused
 pub begun-refused : {j : Verdict} {n : Refusal} {r : Fed} (p : payload_session.Session) (h : Parameters) (canvas bytes : List ℕ) (from allowance : ℕ)
-    → j ≡ feed_judged p (length canvas) allowance → j ≡ judged.Refused n
-    → r ≡ told_of p h (record { answer = answers.Refused n; phase = phases.Within })
+    → j ≡ feed_judged p (length canvas) allowance → j ≡ Err n
+    → r ≡ told_of p h (record { answer = Err n; phase = phases.Within })
     → (r, canvas) ≡ fed_payload (session_of p h phases.Within) canvas (drop from bytes) from allowance
 unfolding passed_told
 begun-refused p h canvas bytes from allowance e k q =
@@ -285,25 +284,25 @@ module _ (p : payload_session.Session) (h : Parameters) (t : Place) (canvas byte
       ∙ ap (λ (x : Lead). led_to x.led x early canvas bytes allowance) lead
 
   module _ {r : Fed} where
-    pub led_on : l.led ≡ leds.On
-        → r ≡ told_of p l.header (record { answer = answers.More l.consumed 0; phase = phases.Before l.place })
+    pub led_on : l.led ≡ Ok leds.On
+        → r ≡ told_of p l.header (record { answer = Ok (answers.More l.consumed 0); phase = phases.Before l.place })
         → (r, canvas) ≡ fed_lead early t canvas bytes allowance
     unfolding led_to told_of
     led_on e k = led e (ap (λ (x : Fed). (x, canvas)) k)
 
-    pub led-refused : {n : Refusal} {y : payload_session.Session} → l.led ≡ leds.Refused n → y ≡ failed_of p
-        → r ≡ told_of y l.header (record { answer = answers.Refused n; phase = phases.Before l.place })
+    pub led-refused : {n : Refusal} {y : payload_session.Session} → l.led ≡ Err n → y ≡ failed_of p
+        → r ≡ told_of y l.header (record { answer = Err n; phase = phases.Before l.place })
         → (r, canvas) ≡ fed_lead early t canvas bytes allowance
     unfolding led_to told_of
     led-refused {n} e y k =
         led e
         (ap (λ (x : Fed). (x, canvas))
         (k
-        ∙ ap (λ (x : payload_session.Session). told_of x l.header (record { answer = answers.Refused n; phase = phases.Before l.place }))
+        ∙ ap (λ (x : payload_session.Session). told_of x l.header (record { answer = Err n; phase = phases.Before l.place }))
         y))
 
     pub led-begins : {o : Settings} {b : payload_session.Session} {l₁ l₂ : List ℕ}
-        → l.led ≡ leds.Begins → o ≡ settings_from l.header
+        → l.led ≡ Ok leds.Begins → o ≡ settings_from l.header
         → (b, l₁) ≡ begun_by p o canvas
         → (r, l₂) ≡ fed_payload (session_of b l.header phases.Within) l₁ (drop l.consumed bytes) l.consumed allowance
         → (r, l₂) ≡ fed_lead early t canvas bytes allowance
@@ -362,12 +361,12 @@ module _ (t : Phase) (p : payload_session.Session) (h : Parameters) (canvas byte
 
 module _ (s : Session) (canvas bytes : List ℕ) (allowance : ℕ) {j : Verdict}
     (e : j ≡ feed_judged s.payload (length canvas) allowance) where
-  pub fed-refused : {n : Refusal} → j ≡ judged.Refused n
-      → ◌≡◌ {A = Fed × List ℕ} (record { answer = answers.Refused n; session = s }, canvas) (fed_by s canvas bytes allowance)
+  pub fed-refused : {n : Refusal} → j ≡ Err n
+      → ◌≡◌ {A = Fed × List ℕ} (record { answer = Err n; session = s }, canvas) (fed_by s canvas bytes allowance)
   unfolding fed_by fed_as
   fed-refused h = ap (λ (k : Verdict). fed_as k s canvas bytes allowance) (sym h ∙ e)
 
-  pub fed-on : {r : Fed} {after : List ℕ} → j ≡ judged.Fine
+  pub fed-on : {r : Fed} {after : List ℕ} → j ≡ Ok tt
       → (r, after) ≡ fed_in s.phase (session_of s.payload s.header s.phase) canvas bytes allowance
       → (r, after) ≡ fed_by s canvas bytes allowance
   unfolding fed_by fed_as
@@ -376,33 +375,33 @@ module _ (s : Session) (canvas bytes : List ℕ) (allowance : ℕ) {j : Verdict}
 -- ---- finishing
 
 module _ {j : Verdict} (t : Phase) where
-  pub end_refused : {n : Refusal} → j ≡ judged.Refused n → j ≡ end_judged j t
+  pub end_refused : {n : Refusal} → j ≡ Err n → Err n ≡ end_judged j t
   unfolding end_judged
-  end_refused e = e ∙ ap (λ (k : Verdict). end_judged k t) (sym e)
+  end_refused e = ap (λ (k : Verdict). end_judged k t) (sym e)
 
-  pub end-over : {d : Ending} → j ≡ judged.Fine → t ≡ phases.Over d → judged.Fine ≡ end_judged j t
+  pub end-over : {d : Ending} → j ≡ Ok tt → t ≡ phases.Over d → Ok tt ≡ end_judged j t
   unfolding end_judged
   end-over e k = sym (ap₂ end_judged e k)
 
 not-over : (t : Phase) → OneOf (0 ∷ 1 ∷ 2 ∷ []) (tag_of PhaseType.the_type t)
-    → judged.Refused refusals.Unfinished ≡ end_judged judged.Fine t
+    → Err refusals.Unfinished ≡ end_judged (Ok tt) t
 unfolding end_judged
 not-over (phases.Before p) h = refl
 not-over phases.Within h = refl
 not-over phases.Escaped h = refl
 not-over (phases.Over e) h = absurd (miss (0 ∷ 1 ∷ 2 ∷ []) 3 tt h)
 
-pub end-unfinished : {j : Verdict} (t : Phase) → j ≡ judged.Fine → OneOf (0 ∷ 1 ∷ 2 ∷ []) (tag_of PhaseType.the_type t)
-    → judged.Refused refusals.Unfinished ≡ end_judged j t
+pub end-unfinished : {j : Verdict} (t : Phase) → j ≡ Ok tt → OneOf (0 ∷ 1 ∷ 2 ∷ []) (tag_of PhaseType.the_type t)
+    → Err refusals.Unfinished ≡ end_judged j t
 end-unfinished t e h = not-over t h ∙ ap (λ (k : Verdict). end_judged k t) (sym e)
 
 module _ (s : Session) (owner : Palette) (canvas : List ℕ) where
   -- a finish by its refusal, which is all told by then
   unfoldable concluded : Verdict → Finished × List ℕ
-  concluded judged.Fine = payload.finished_by s.payload owner canvas
-  concluded (judged.Refused n) = payload.turned_away owner n canvas
+  concluded (Ok tt) = payload.finished_by s.payload owner canvas
+  concluded (Err n) = payload.turned_away owner n canvas
 
-  concluded-in : (t : Phase) → concluded (end_judged judged.Fine t) ≡ finished_in t s owner canvas
+  concluded-in : (t : Phase) → concluded (end_judged (Ok tt) t) ≡ finished_in t s owner canvas
   unfolding concluded end_judged finished_in
   concluded-in (phases.Before p) = refl
   concluded-in phases.Within = refl
@@ -411,20 +410,20 @@ module _ (s : Session) (owner : Palette) (canvas : List ℕ) where
 
   concluded-as : (j : Verdict) → concluded (end_judged j s.phase) ≡ finished_as j s owner canvas
   unfolding concluded end_judged finished_as
-  concluded-as judged.Fine = concluded-in s.phase
-  concluded-as (judged.Refused n) = refl
+  concluded-as (Ok tt) = concluded-in s.phase
+  concluded-as (Err n) = refl
 
   module _ {j k : Verdict} (e : j ≡ finish_judged s.payload (length canvas)) (d : k ≡ end_judged j s.phase) where
     finish-by : {x : Verdict} {r : Finished × List ℕ} → k ≡ x → r ≡ concluded x → r ≡ finished_by s owner canvas
     unfolding finished_by
     finish-by h y = y ∙ ap concluded (sym h ∙ d) ∙ concluded-as j ∙ ap (λ (i : Verdict). finished_as i s owner canvas) e
 
-    pub finish-refused : {n : Refusal} → k ≡ judged.Refused n
-        → ◌≡◌ {A = Finished × List ℕ} (record { answer = finishes.Refused n; palette = owner }, canvas) (finished_by s owner canvas)
+    pub finish-refused : {n : Refusal} → k ≡ Err n
+        → ◌≡◌ {A = Finished × List ℕ} (record { answer = Err n; palette = owner }, canvas) (finished_by s owner canvas)
     unfolding concluded payload.turned_away
     finish-refused h = finish-by h refl
 
-    pub finish-on : {x : Finished} {after : List ℕ} → k ≡ judged.Fine
+    pub finish-on : {x : Finished} {after : List ℕ} → k ≡ Ok tt
         → (x, after) ≡ payload.finished_by s.payload owner canvas
         → (x, after) ≡ finished_by s owner canvas
     unfolding concluded
@@ -441,8 +440,8 @@ module _ (s : Session) (owner other : Palette) (canvas : List ℕ) where
 
   owned-as : (j : Verdict) → finished_as j s owner canvas ≡ owned owner (finished_as j s other canvas)
   unfolding finished_as payload.turned_away handed_back
-  owned-as judged.Fine = owned_in s.phase
-  owned-as (judged.Refused n) = refl
+  owned-as (Ok tt) = owned_in s.phase
+  owned-as (Err n) = refl
 
   pub owned_by : finished_by s owner canvas ≡ owned owner (finished_by s other canvas)
   unfolding finished_by

@@ -1,6 +1,6 @@
 -- Every session that a call hands back has its fields in their ranges, where the session that it is given has, and where the bytes
 -- are bytes.
-use Rattle.std.specs.Prelude.{ℕ, zero, suc, ◌+◌, ◌<◌, ◌||◌, eqb, leb, List, [], ◌∷◌, length, drop}
+use Rattle.std.specs.Prelude.{ℕ, zero, suc, ◌+◌, ◌<◌, ◌||◌, eqb, leb, List, [], ◌∷◌, length, drop, Ok, Err}
 use native.Mathlib.Omega.{arith}
 use Rattle.numbers.specs.declared.Parameters.{Parameters}
 use Rattle.numbers.specs.Bytes.{skipped, digit, ends, semicolon}
@@ -12,12 +12,10 @@ use Rattle.colours.specs.declared.Palette.{Palette}
 use Rattle.colours.specs.Marks.{lasting}
 use Rattle.meaning.proofs.AreaLaws.{cond-case}
 use Rattle.frame.specs.declared.Limits.{Limits}
-use Rattle.payload.specs.declared.Answer as payload_answer
+use Rattle.payload.specs.Results as payload_answer
 use Rattle.payload.specs.declared.Answer.TheVariants as payload_answers
-use Rattle.payload.specs.declared.Fed as payload_fed
 use Rattle.payload.specs.declared.Session as payload_session
-use Rattle.payload.specs.declared.refusals.Verdict.{Verdict}
-use Rattle.payload.specs.declared.refusals.Verdict.TheVariants as judged
+use Rattle.payload.specs.Results.{Verdict}
 use Rattle.payload.specs.Deferred.{begun_by}
 use Rattle.payload.specs.Refusals.{feed_judged}
 use Rattle.payload.specs.Session as payload
@@ -25,12 +23,12 @@ use Rattle.payload.specs.Ranges.{GivenRanged, SettingsRanged}
 use Rattle.payload.proofs.SessionRanges.{fed-ranged, reserved-ranged, begun-ranged, failed-ranged}
 use Rattle.dcs.specs.declared.Ending.{Ending}
 use Rattle.dcs.specs.declared.Ending.TheVariants as endings
-use Rattle.dcs.specs.declared.Fed.{Fed}
+use Rattle.dcs.specs.Results.{Fed}
 use Rattle.dcs.specs.declared.Phase.{Phase}
 use Rattle.dcs.specs.declared.Phase.TheVariants as phases
 use Rattle.dcs.specs.declared.Session.{Session}
 use Rattle.header.specs.declared.Lead.{Lead}
-use Rattle.header.specs.declared.Led.{Led}
+use Rattle.header.specs.Results.{Led}
 use Rattle.header.specs.declared.Led.TheVariants as leds
 use Rattle.header.specs.declared.Place.{Place}
 use Rattle.header.specs.declared.Place.TheVariants as places
@@ -76,9 +74,9 @@ on-ranged : (led : Led) (s : Step) (n : ℕ) (later : ℕ → Place → Paramete
     → ((n' : ℕ) (t' : Place) (h' : Parameters) → parameters.Ranged h' → LeadRanged (later n' t' h'))
     → LeadRanged (lead_on led s n later)
 unfolding lead_on
-on-ranged leds.On s n later k j = j _ _ _ k
-on-ranged leds.Begins s n later k j = k
-on-ranged (leds.Refused r) s n later k j = k
+on-ranged (Ok leds.On) s n later k j = j _ _ _ k
+on-ranged (Ok leds.Begins) s n later k j = k
+on-ranged (Err r) s n later k j = k
 
 lead-ranged : (bs : List ℕ) (n : ℕ) (t : Place) (h : Parameters) → parameters.Ranged h → LeadRanged (lead_from bs n t h)
 unfolding lead_from
@@ -138,24 +136,24 @@ closed-ranged s (b ∷ bs) n i h k =
 
 passed-ranged : (a : payload_answer.Answer) (s : Session) (bs : List ℕ) (n : ℕ) → Ranged s → Bytes bs → FedRanged (said.passed_on a s bs n)
 unfolding said.passed_on
-passed-ranged (payload_answers.More c i) s bs n h k = h
-passed-ranged (payload_answers.Stopped c i) s bs n h k = h
-passed-ranged (payload_answers.Ended c i b) s bs n h k = closed-ranged s (drop c bs) (n + c) i h (bytes_drop c bs k)
-passed-ranged (payload_answers.Refused r) s bs n h k = h
+passed-ranged (Ok (payload_answers.More c i)) s bs n h k = h
+passed-ranged (Ok (payload_answers.Stopped c i)) s bs n h k = h
+passed-ranged (Ok (payload_answers.Ended c i b)) s bs n h k = closed-ranged s (drop c bs) (n + c) i h (bytes_drop c bs k)
+passed-ranged (Err r) s bs n h k = h
 
 payload-ranged : (s : Session) (canvas bs : List ℕ) (n allowance : ℕ) → Ranged s → Bytes bs
     → FedRanged (said.fed_payload s canvas bs n allowance).0
 unfolding said.fed_payload
 payload-ranged s canvas bs n allowance h k =
-    let r : payload_fed.Fed × List ℕ = payload.fed_by s.payload canvas bs allowance in
+    let r : payload_answer.Fed × List ℕ = payload.fed_by s.payload canvas bs allowance in
     passed-ranged r.0.answer (said.session_of r.0.session s.header phases.Within) bs n
     (record { payload = fed-ranged s.payload h.payload canvas bs allowance; header = h.header; phase = tt }) k
 
 led-ranged : (led : Led) (l : Lead) (s : Session) (canvas bs : List ℕ) (allowance : ℕ) → LeadRanged l → Ranged s → Bytes bs
     → FedRanged (said.led_to led l s canvas bs allowance).0
 unfolding said.led_to
-led-ranged leds.On l s canvas bs allowance j h k = record { payload = h.payload; header = j; phase = tt }
-led-ranged leds.Begins l s canvas bs allowance j h k =
+led-ranged (Ok leds.On) l s canvas bs allowance j h k = record { payload = h.payload; header = j; phase = tt }
+led-ranged (Ok leds.Begins) l s canvas bs allowance j h k =
     let b : payload_session.Session × List ℕ = begun_by s.payload (settings_from l.header) canvas in
     payload-ranged (said.session_of b.0 l.header phases.Within) b.1 (drop l.consumed bs) l.consumed allowance
     (record {
@@ -164,7 +162,7 @@ led-ranged leds.Begins l s canvas bs allowance j h k =
       phase = tt;
     })
     (bytes_drop l.consumed bs k)
-led-ranged (leds.Refused r) l s canvas bs allowance j h k =
+led-ranged (Err r) l s canvas bs allowance j h k =
     record { payload = failed-ranged s.payload h.payload; header = j; phase = tt }
 
 module _ (s : Session) (h : Ranged s) (canvas bs : List ℕ) (allowance : ℕ) (k : Bytes bs) where
@@ -179,8 +177,8 @@ module _ (s : Session) (h : Ranged s) (canvas bs : List ℕ) (allowance : ℕ) (
 
   as-ranged : (j : Verdict) → FedRanged (said.fed_as j s canvas bs allowance).0
   unfolding said.fed_as
-  as-ranged judged.Fine = in-ranged s.phase h.phase
-  as-ranged (judged.Refused n) = h
+  as-ranged (Ok tt) = in-ranged s.phase h.phase
+  as-ranged (Err n) = h
 
   pub fed-ranged-by : Ranged (said.fed_by s canvas bs allowance).0.session
   unfolding said.fed_by

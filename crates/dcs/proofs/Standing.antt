@@ -1,6 +1,6 @@
 -- A DCS session of the code and its canvas stand for a session of the definition: from the opening on, after every feed, and at the finish.
 -- Every split of a stream then leaves the same session: `read-append` and the laws of `Demand3` say it of the definition.
-use Rattle.std.specs.Prelude.{◌≡◌, ℕ, ◌*◌, Bool, true, false, ltb, List, [], ◌∷◌, length}
+use Rattle.std.specs.Prelude.{◌≡◌, ℕ, ◌*◌, Bool, true, false, ltb, List, [], ◌∷◌, length, Ok, Err}
 use native.Mathlib.Omega.{arith}
 use mathlib.Core.Option.{Option, none, some}
 use mathlib.Core.Path.{refl, sym, ap, subst, ◌∙◌}
@@ -21,12 +21,10 @@ use Rattle.meaning.specs.Reader.{after, call}
 use Rattle.meaning.specs.Sessions as sessions
 use Rattle.meaning.proofs.FeedingLaws.{fed-as, finished_as_lem}
 use Rattle.meaning.proofs.RunLaws.{after-zero}
-use Rattle.payload.specs.declared.Finishing.TheVariants as finishes
 use Rattle.payload.specs.declared.Session as payload_session
-use Rattle.payload.specs.declared.refusals.Verdict.{Verdict}
-use Rattle.payload.specs.declared.refusals.Verdict.TheVariants as judged
+use Rattle.payload.specs.Results.{Verdict}
 use Rattle.payload.specs.Deferred.{no_settings, reserved_by}
-use Rattle.payload.specs.declared.Opened as payload_opened
+use Rattle.payload.specs.Results as payload_opened
 use Rattle.payload.specs.Refusals.{in_range, limits_fit, openable, is_failed, feed_judged, finish_judged}
 use Rattle.payload.specs.Session as coded
 use Rattle.payload.specs.History as payload
@@ -35,8 +33,7 @@ use Rattle.payload.proofs.Openings as openings
 use Rattle.payload.proofs.Judgements as judgements
 use Rattle.payload.proofs.Finishings as finishings
 use Rattle.header.proofs.Cases.{both}
-use Rattle.dcs.specs.declared.Answer.TheVariants as answers
-use Rattle.dcs.specs.declared.Fed.{Fed}
+use Rattle.dcs.specs.Results.{Fed}
 use Rattle.dcs.specs.declared.Phase.TheVariants as phases
 use Rattle.dcs.specs.declared.Session.{Session}
 use Rattle.header.specs.declared.Place.{Place}
@@ -74,19 +71,19 @@ module _ (l : Limits) (stride : ℕ) (p : Palette) (opening : List ℕ) where
   -- 9, 12 and 13 are the definition's, and leave all as it is; else the bytes are read
   by-judged : {s : Session} {c : List ℕ} {m : calls.Session sessions.Phase} → StandsFor s c m → (bs : List ℕ) (a : ℕ)
       → judgements.judged_meant (feed_judged s.payload (length c) a) ≡ calls.feed_refusal area_of m (length c) a
-      → (feed_judged s.payload (length c) a ≡ judged.Fine → FedAlike (fed_in s.phase s c bs a)
+      → (feed_judged s.payload (length c) a ≡ Ok tt → FedAlike (fed_in s.phase s c bs a)
       (calls.answered calls.dcs_end m (call (sessions.dcs_step m.setting p) (sessions.dcs_rested m.setting) a m.state bs)))
       → FedAlike (fed_by s c bs a) (calls.feed_dcs p m (length c) a bs)
   unfolding fed_by fed_as judgements.judged_meant answer_meant calls.feed_dcs
   by-judged {s} {c} {m} k bs a same read = go (feed_judged s.payload (length c) a) refl
     where
       go : (j : Verdict) → feed_judged s.payload (length c) a ≡ j → FedAlike (fed_as j s c bs a) (calls.feed_dcs p m (length c) a bs)
-      go judged.Fine e =
+      go (Ok tt) e =
           subst (FedAlike (fed_in s.phase s c bs a))
           (sym (fed-as area_of (λ t. sessions.dcs_step t p) sessions.dcs_rested calls.dcs_end m (length c) a bs
           (sym same ∙ ap judgements.judged_meant e))) (read e)
-      go (judged.Refused n) e =
-          subst (FedAlike (record { answer = answers.Refused n; session = s }, c))
+      go (Err n) e =
+          subst (FedAlike (record { answer = Err n; session = s }, c))
           (sym (fed-as area_of (λ t. sessions.dcs_step t p) sessions.dcs_rested calls.dcs_end m (length c) a bs
           (sym same ∙ ap judgements.judged_meant e))) (record { answer = refl; session = k })
 
@@ -208,7 +205,7 @@ module _ (l : Limits) (stride : ℕ) (p : Palette) (opening : List ℕ) where
     -- 9 and 12 are the definition's
     by-finish : {s : Session} {c : List ℕ} {m : calls.Session sessions.Phase} → StandsFor s c m → (picture : List ℕ)
         → judgements.judged_meant (finish_judged s.payload (length c)) ≡ refusal_at_finish m.failed (calls.misfits area_of m (length c))
-        → (finish_judged s.payload (length c) ≡ judged.Fine
+        → (finish_judged s.payload (length c) ≡ Ok tt
         → payload.Finishes picture owner c (finished_in s.phase s owner c) (sessions.finish_dcs m.setting m.state))
         → payload.Finishes picture owner c (finished_by s owner c) (calls.finish_dcs_session m (length c))
     unfolding finished_by finished_as judgements.judged_meant coded.turned_away calls.finish_dcs_session
@@ -216,11 +213,11 @@ module _ (l : Limits) (stride : ℕ) (p : Palette) (opening : List ℕ) where
       where
         go : (j : Verdict) → finish_judged s.payload (length c) ≡ j
             → payload.Finishes picture owner c (finished_as j s owner c) (calls.finish_dcs_session m (length c))
-        go judged.Fine e =
+        go (Ok tt) e =
             subst (payload.Finishes picture owner c (finished_in s.phase s owner c))
             (sym (finished_as_lem area_of sessions.finish_dcs m (length c) (sym same ∙ ap judgements.judged_meant e))) (read e)
-        go (judged.Refused n) e =
-            subst (payload.Finishes picture owner c (record { answer = finishes.Refused n; palette = owner }, c))
+        go (Err n) e =
+            subst (payload.Finishes picture owner c (record { answer = Err n; palette = owner }, c))
             (sym (finished_as_lem area_of sessions.finish_dcs m (length c) (sym same ∙ ap judgements.judged_meant e))) (payload.declines n)
 
     -- a finish of the code is the definition's
@@ -232,7 +229,7 @@ module _ (l : Limits) (stride : ℕ) (p : Palette) (opening : List ℕ) where
     finish-stands (before opens same) =
         by-finish (before opens same) _ (before-ends opens same)
         (λ _.
-        subst (payload.Finishes _ owner opening (record { answer = finishes.Refused refusals.Unfinished; palette = owner }, opening))
+        subst (payload.Finishes _ owner opening (record { answer = Err refusals.Unfinished; palette = owner }, opening))
         (sym (place-unfinished l stride p opening same)) (payload.declines refusals.Unfinished))
     finish-stands (refused same) =
         by-finish (refused same) _ refl (λ fine. let never : ◌≡◌ {A = ℕ} 0 1 = cc in absurd (omega arith))

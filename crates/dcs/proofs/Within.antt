@@ -1,5 +1,5 @@
 -- In the payload and at its end: what the code makes of the payload session's call is what the definition makes of the payload's.
-use Rattle.std.specs.Prelude.{◌≡◌, ℕ, ◌+◌, ◌-◌, false, ◌||◌, eqb, List, [], ◌∷◌, length, drop}
+use Rattle.std.specs.Prelude.{◌≡◌, ℕ, ◌+◌, ◌-◌, false, ◌||◌, eqb, List, [], ◌∷◌, length, drop, Ok, Err}
 use native.Mathlib.Nat.{add-zero, zero-add}
 use native.Mathlib.Omega.{arith}
 use mathlib.Core.Bool.{true≢false}
@@ -22,11 +22,9 @@ use Rattle.meaning.proofs.RunLaws.{after-after}
 use Rattle.meaning.proofs.CallLaws.{called}
 use Rattle.meaning.proofs.FeedingLaws.{fed-as}
 use Rattle.agreement.proofs.Feed.{EndsAlike, all_read, stopped_early, at_end, turned_down}
-use Rattle.payload.specs.declared.Answer as payload_answer
+use Rattle.payload.specs.Results as payload_answer
 use Rattle.payload.specs.declared.Answer.TheVariants as payload_answers
-use Rattle.payload.specs.declared.Fed as payload_fed
 use Rattle.payload.specs.declared.Session as payload_session
-use Rattle.payload.specs.declared.refusals.Verdict.TheVariants as judged
 use Rattle.payload.specs.Refusals.{feed_judged}
 use Rattle.payload.specs.Session as coded
 use Rattle.payload.specs.History as payload
@@ -36,7 +34,7 @@ use Rattle.payload.proofs.Feedings as feedings
 use Rattle.header.proofs.Cases.{both}
 use Rattle.dcs.specs.declared.Ending.{Ending}
 use Rattle.dcs.specs.declared.Ending.TheVariants as endings
-use Rattle.dcs.specs.declared.Fed.{Fed}
+use Rattle.dcs.specs.Results.{Fed}
 use Rattle.dcs.specs.declared.Phase.{Phase}
 use Rattle.dcs.specs.declared.Phase.TheVariants as phases
 use Rattle.dcs.specs.declared.Session.{Session}
@@ -48,36 +46,36 @@ use Rattle.dcs.proofs.Runs.{after_one, halted-at, end_call, framed_call, within-
 -- ---- what an answer of the payload session means, read back
 
 more-from : (a : payload_answer.Answer) (c i : ℕ)
-    → payload_meant.answer_meant a ≡ calls.told c i calls.needs_more → a ≡ payload_answers.More c i
+    → payload_meant.answer_meant a ≡ calls.told c i calls.needs_more → a ≡ Ok (payload_answers.More c i)
 unfolding payload_meant.answer_meant
-more-from (payload_answers.More c' i') c i e = cc
-more-from (payload_answers.Stopped c' i') c i e = cc
-more-from (payload_answers.Ended c' i' b) c i e = cc
-more-from (payload_answers.Refused n) c i e = cc
+more-from (Ok (payload_answers.More c' i')) c i e = cc
+more-from (Ok (payload_answers.Stopped c' i')) c i e = cc
+more-from (Ok (payload_answers.Ended c' i' b)) c i e = cc
+more-from (Err n) c i e = cc
 
 stopped-from : (a : payload_answer.Answer) (c i : ℕ)
-    → payload_meant.answer_meant a ≡ calls.told c i calls.stopped_for_ink → a ≡ payload_answers.Stopped c i
+    → payload_meant.answer_meant a ≡ calls.told c i calls.stopped_for_ink → a ≡ Ok (payload_answers.Stopped c i)
 unfolding payload_meant.answer_meant
-stopped-from (payload_answers.More c' i') c i e = cc
-stopped-from (payload_answers.Stopped c' i') c i e = cc
-stopped-from (payload_answers.Ended c' i' b) c i e = cc
-stopped-from (payload_answers.Refused n) c i e = cc
+stopped-from (Ok (payload_answers.More c' i')) c i e = cc
+stopped-from (Ok (payload_answers.Stopped c' i')) c i e = cc
+stopped-from (Ok (payload_answers.Ended c' i' b)) c i e = cc
+stopped-from (Err n) c i e = cc
 
 ended-from : (a : payload_answer.Answer) (c i b : ℕ)
-    → payload_meant.answer_meant a ≡ calls.told c i (calls.ended b) → a ≡ payload_answers.Ended c i b
+    → payload_meant.answer_meant a ≡ calls.told c i (calls.ended b) → a ≡ Ok (payload_answers.Ended c i b)
 unfolding payload_meant.answer_meant
-ended-from (payload_answers.More c' i') c i b e = cc
-ended-from (payload_answers.Stopped c' i') c i b e = cc
-ended-from (payload_answers.Ended c' i' b') c i b e = cc
-ended-from (payload_answers.Refused n) c i b e = cc
+ended-from (Ok (payload_answers.More c' i')) c i b e = cc
+ended-from (Ok (payload_answers.Stopped c' i')) c i b e = cc
+ended-from (Ok (payload_answers.Ended c' i' b')) c i b e = cc
+ended-from (Err n) c i b e = cc
 
 refused-from : (a : payload_answer.Answer) (n : ℕ) → payload_meant.answer_meant a ≡ calls.refused n
-    → (why : Refusal) × (a ≡ payload_answers.Refused why) × (number_of why ≡ n)
+    → (why : Refusal) × (a ≡ Err why) × (number_of why ≡ n)
 unfolding payload_meant.answer_meant
-refused-from (payload_answers.More c i) n e = let never : ◌≡◌ {A = ℕ} 0 1 = cc in absurd (omega arith)
-refused-from (payload_answers.Stopped c i) n e = let never : ◌≡◌ {A = ℕ} 0 1 = cc in absurd (omega arith)
-refused-from (payload_answers.Ended c i b) n e = let never : ◌≡◌ {A = ℕ} 0 1 = cc in absurd (omega arith)
-refused-from (payload_answers.Refused why) n e = (why, refl, cc)
+refused-from (Ok (payload_answers.More c i)) n e = let never : ◌≡◌ {A = ℕ} 0 1 = cc in absurd (omega arith)
+refused-from (Ok (payload_answers.Stopped c i)) n e = let never : ◌≡◌ {A = ℕ} 0 1 = cc in absurd (omega arith)
+refused-from (Ok (payload_answers.Ended c i b)) n e = let never : ◌≡◌ {A = ℕ} 0 1 = cc in absurd (omega arith)
+refused-from (Err why) n e = (why, refl, cc)
 
 -- whether a payload that came to its end so has an end
 abbrev EndOf : How → Option ℕ → Type 0
@@ -191,7 +189,7 @@ module _ (l : Limits) (stride : ℕ) (p : Palette) (opening : List ℕ) where
 
   -- ---- in the payload
 
-  module _ (r : sessions.Reading) (h : Parameters) (x : sessions.Phase) (y : payload_fed.Fed × List ℕ) (u : sessions.Reading)
+  module _ (r : sessions.Reading) (h : Parameters) (x : sessions.Phase) (y : payload_answer.Fed × List ℕ) (u : sessions.Reading)
       (c i a n : ℕ) (bs : List ℕ) where
     abbrev ran : How → Run sessions.Reading
     ran how = record { state = u; consumed = c; ink = i; how = how }
@@ -246,12 +244,12 @@ module _ (l : Limits) (stride : ℕ) (p : Palette) (opening : List ℕ) where
   module _ {s : payload_session.Session} {c : List ℕ} {r : sessions.Reading} (k : PayloadStands s c r) (going : r.over ≡ none)
       (h : Parameters) (x : sessions.Phase) where
     -- the payload's bytes, with a session that passes 9, 12 and 13
-    pub payload-feeds : (n a : ℕ) (bs : List ℕ) → feed_judged s (length c) a ≡ judged.Fine
+    pub payload-feeds : (n a : ℕ) (bs : List ℕ) → feed_judged s (length c) a ≡ Ok tt
         → FeedsTo x (fed_payload (session_of s h phases.Within) c bs n a) (after n 0 (dcs_call a (sessions.within r) bs))
     unfolding fed_payload judgements.judged_meant calls.feed_payload
     payload-feeds n a bs fine =
         let q : Run sessions.Reading = call (sessions.payload_step setting) (sessions.rested setting) a r bs in
-        let y : payload_fed.Fed × List ℕ = coded.fed_by s c bs a in
+        let y : payload_answer.Fed × List ℕ = coded.fed_by s c bs a in
         let m : calls.Session sessions.Reading = held_at l stride (length opening) r false in
         let f : payload.Feeds opening y (calls.answered (λ (r : sessions.Reading). r.over) m q) =
         subst (payload.Feeds opening y)

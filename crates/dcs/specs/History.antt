@@ -1,5 +1,5 @@
 -- The simulation relation: when a DCS session of the code and its canvas stand for a session of the definition, and its callers.
-use Rattle.std.specs.Prelude.{◌≡◌, ℕ, Bool, true, false, List, [], length}
+use Rattle.std.specs.Prelude.{◌≡◌, ℕ, Bool, true, false, List, [], length, Ok, Err}
 use Rattle.std.proofs.Math.Option.{none}
 use Rattle.numbers.specs.declared.Parameters.{Parameters}
 use Rattle.numbers.specs.Read.{Read}
@@ -14,17 +14,14 @@ use Rattle.meaning.specs.Callers.{Ask}
 use Rattle.meaning.specs.Reader.{Turn, Caller}
 use Rattle.meaning.specs.Sessions as sessions
 use Rattle.payload.specs.declared.Life.TheVariants as lives
-use Rattle.payload.specs.declared.Opening.TheVariants as openings
 use Rattle.payload.specs.declared.Session as payload_session
 use Rattle.payload.specs.Deferred.{no_settings}
 use Rattle.payload.specs.Refusals.{openable}
 use Rattle.payload.specs.Session.{session_for}
 use Rattle.payload.specs.History as payload
 use Rattle.payload.specs.Meant as payload_meant
-use Rattle.dcs.specs.declared.Answer.{Answer}
+use Rattle.dcs.specs.Results.{Answer, Fed, Opened}
 use Rattle.dcs.specs.declared.Ending.{Ending}
-use Rattle.dcs.specs.declared.Fed.{Fed}
-use Rattle.dcs.specs.declared.Opened.{Opened}
 use Rattle.dcs.specs.declared.Phase.TheVariants as phases
 use Rattle.dcs.specs.declared.Session.{Session}
 use Rattle.header.specs.declared.Place.{Place}
@@ -66,9 +63,9 @@ pub data Stands (l : Limits) (stride : ℕ) (p : Palette) (opening : List ℕ) :
 -- an opening: a session that stands for the definition's, or the definition's refusal
 pub data Opens (l : Limits) (stride : ℕ) (p : Palette) (opening : List ℕ) : Opened → calls.Opened sessions.Phase → Type 0 where
   is_ready : {s : Session} {m : calls.Session sessions.Phase} → Stands l stride p opening s opening m
-      → Opens l stride p opening (record { answer = openings.Ready; session = s }) (calls.is_open m)
+      → Opens l stride p opening (record { answer = Ok tt; session = s }) (calls.is_open m)
   is_refused : (n : Refusal) {s : Session}
-      → Opens l stride p opening (record { answer = openings.Refused n; session = s }) (calls.not_opened (number_of n))
+      → Opens l stride p opening (record { answer = Err n; session = s }) (calls.not_opened (number_of n))
 
 -- a feed: the definition's answer, and a session and a canvas that stand for its session
 pub record Feeds (l : Limits) (stride : ℕ) (p : Palette) (opening : List ℕ)

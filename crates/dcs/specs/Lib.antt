@@ -1,3 +1,4 @@
+pub mod Results
 pub mod Session
 pub mod Core
 pub mod Meant

@@ -1,33 +1,28 @@
 -- The whole outcome of each function over a DCS session: its answer, the session, the palette and every byte of the canvas.
-use Rattle.std.specs.Prelude.{ℕ, ◌+◌, cond, ◌||◌, List, [], ◌∷◌, length, drop, ◌==◌}
+use Rattle.std.specs.Prelude.{ℕ, ◌+◌, cond, ◌||◌, List, [], ◌∷◌, length, drop, ◌==◌, Ok, Err}
 use Rattle.numbers.specs.declared.Parameters.{Parameters}
 use Rattle.numbers.specs.Step as numbers
 use Rattle.colours.specs.declared.Palette.{Palette}
 use Rattle.colours.specs.Marks.{lasting}
 use Rattle.frame.specs.declared.Limits.{Limits}
 use Rattle.frame.specs.declared.Refusal.TheVariants as refusals
-use Rattle.payload.specs.declared.Answer as payload_answer
-use Rattle.payload.specs.declared.Answer.TheVariants as payload_answers
-use Rattle.payload.specs.declared.Fed as payload_fed
+use Rattle.payload.specs.Results as payload_answer
 use Rattle.payload.specs.declared.Finished.{Finished}
-use Rattle.payload.specs.declared.Opened as payload_opened
 use Rattle.payload.specs.declared.Session as payload_session
-use Rattle.payload.specs.declared.refusals.Verdict.{Verdict}
-use Rattle.payload.specs.declared.refusals.Verdict.TheVariants as judged
+use Rattle.payload.specs.Results.{Verdict}
 use Rattle.payload.specs.Deferred.{reserved_by, begun_by, failed_of}
 use Rattle.payload.specs.Refusals.{feed_judged, finish_judged}
 use Rattle.payload.specs.Session as payload
-use Rattle.dcs.specs.declared.Answer.TheVariants as answers
+use Rattle.payload.specs.declared.Answer.TheVariants as answers
 use Rattle.dcs.specs.declared.Ending.{Ending}
 use Rattle.dcs.specs.declared.Ending.TheVariants as endings
-use Rattle.dcs.specs.declared.Fed.{Fed}
-use Rattle.dcs.specs.declared.Opened.{Opened}
+use Rattle.dcs.specs.Results.{Fed, Opened}
 use Rattle.dcs.specs.declared.Phase.{Phase}
 use Rattle.dcs.specs.declared.Phase.TheVariants as phases
 use Rattle.dcs.specs.declared.Session.{Session}
 use Rattle.dcs.specs.declared.kernel.feeding.Told.{Told}
 use Rattle.header.specs.declared.Lead.{Lead}
-use Rattle.header.specs.declared.Led.{Led}
+use Rattle.header.specs.Results.{Led}
 use Rattle.header.specs.declared.Led.TheVariants as leds
 use Rattle.header.specs.declared.Place.{Place}
 use Rattle.header.specs.declared.Place.TheVariants as places
@@ -49,7 +44,7 @@ before s h t = session_of s h (phases.Before t)
 -- a payload session that has not begun, with the registers that it is to start from; nothing is written
 unfoldable pub opened_on : Limits → ℕ → Palette → ℕ → Opened
 opened_on l stride p size =
-    let o : payload_opened.Opened = reserved_by l stride p size in
+    let o : payload_answer.Opened = reserved_by l stride p size in
     record { answer = o.answer; session = session_of o.session (numbers.opened 3) (phases.Before places.Start) }
 
 -- with its owner's palette, of which it has a copy: colours and marks
@@ -64,19 +59,19 @@ moved_to s t = session_of s.payload s.header t
 
 unfoldable pub over_as : Session → ℕ → ℕ → Ending → Fed
 unfolding moved_to
-over_as s n i e = record { answer = answers.Ended n i e; session = moved_to s (phases.Over e) }
+over_as s n i e = record { answer = Ok (answers.Ended n i e); session = moved_to s (phases.Over e) }
 
 -- after 1B, with `n` bytes consumed: `\` completes and is consumed; another byte stays unread
 unfoldable pub escaped_by : Session → List ℕ → ℕ → ℕ → Fed
 unfolding moved_to over_as
-escaped_by s [] n i = record { answer = answers.More n i; session = moved_to s phases.Escaped }
+escaped_by s [] n i = record { answer = Ok (answers.More n i); session = moved_to s phases.Escaped }
 escaped_by s (b ∷ bs) n i =
     cond (b == 0x5C) (over_as s (n + 1) i endings.Complete) (over_as s n i (endings.Interrupted 0x1B))
 
 -- the byte that ended the payload: 1B is consumed and waits for the next, 9C and 18 and 1A are consumed, another stays unread
 unfoldable pub closed_by : Session → List ℕ → ℕ → ℕ → Fed
 unfolding escaped_by over_as
-closed_by s [] n i = record { answer = answers.More n i; session = s }
+closed_by s [] n i = record { answer = Ok (answers.More n i); session = s }
 closed_by s (b ∷ bs) n i =
     cond (b == 0x1B) (escaped_by s bs (n + 1) i)
     (cond (b == 0x9C) (over_as s (n + 1) i endings.Complete)
@@ -86,16 +81,16 @@ closed_by s (b ∷ bs) n i =
 -- ---- an answer and the phase after it: what bytes alone decide
 
 unfoldable pub over_told : ℕ → ℕ → Ending → Told
-over_told n i e = record { answer = answers.Ended n i e; phase = phases.Over e }
+over_told n i e = record { answer = Ok (answers.Ended n i e); phase = phases.Over e }
 
 unfoldable pub escaped_told : List ℕ → ℕ → ℕ → Told
 unfolding over_told
-escaped_told [] n i = record { answer = answers.More n i; phase = phases.Escaped }
+escaped_told [] n i = record { answer = Ok (answers.More n i); phase = phases.Escaped }
 escaped_told (b ∷ bs) n i = cond (b == 0x5C) (over_told (n + 1) i endings.Complete) (over_told n i (endings.Interrupted 0x1B))
 
 unfoldable pub closed_told : List ℕ → ℕ → ℕ → Told
 unfolding escaped_told over_told
-closed_told [] n i = record { answer = answers.More n i; phase = phases.Within }
+closed_told [] n i = record { answer = Ok (answers.More n i); phase = phases.Within }
 closed_told (b ∷ bs) n i =
     cond (b == 0x1B) (escaped_told bs (n + 1) i)
     (cond (b == 0x9C) (over_told (n + 1) i endings.Complete)
@@ -104,17 +99,17 @@ closed_told (b ∷ bs) n i =
 
 -- the bytes that a payload session's call counts
 unfoldable pub count_of : payload_answer.Answer → ℕ
-count_of (payload_answers.More c i) = c
-count_of (payload_answers.Stopped c i) = c
-count_of (payload_answers.Ended c i b) = c
-count_of (payload_answers.Refused r) = 0
+count_of (Ok (answers.More c i)) = c
+count_of (Ok (answers.Stopped c i)) = c
+count_of (Ok (answers.Ended c i b)) = c
+count_of (Err r) = 0
 
 unfoldable pub passed_told : payload_answer.Answer → List ℕ → ℕ → Told
 unfolding closed_told
-passed_told (payload_answers.More c i) bs n = record { answer = answers.More (n + c) i; phase = phases.Within }
-passed_told (payload_answers.Stopped c i) bs n = record { answer = answers.Stopped (n + c) i; phase = phases.Within }
-passed_told (payload_answers.Ended c i b) bs n = closed_told (drop c bs) (n + c) i
-passed_told (payload_answers.Refused r) bs n = record { answer = answers.Refused r; phase = phases.Within }
+passed_told (Ok (answers.More c i)) bs n = record { answer = Ok (answers.More (n + c) i); phase = phases.Within }
+passed_told (Ok (answers.Stopped c i)) bs n = record { answer = Ok (answers.Stopped (n + c) i); phase = phases.Within }
+passed_told (Ok (answers.Ended c i b)) bs n = closed_told (drop c bs) (n + c) i
+passed_told (Err r) bs n = record { answer = Err r; phase = phases.Within }
 
 unfoldable pub told_of : payload_session.Session → Parameters → Told → Fed
 told_of s h t = record { answer = t.answer; session = session_of s h t.phase }
@@ -124,28 +119,28 @@ told_of s h t = record { answer = t.answer; session = session_of s h t.phase }
 -- what a payload session's call came to, after `n` bytes before it
 unfoldable pub passed_on : payload_answer.Answer → Session → List ℕ → ℕ → Fed
 unfolding closed_by
-passed_on (payload_answers.More c i) s bs n = record { answer = answers.More (n + c) i; session = s }
-passed_on (payload_answers.Stopped c i) s bs n = record { answer = answers.Stopped (n + c) i; session = s }
-passed_on (payload_answers.Ended c i b) s bs n = closed_by s (drop c bs) (n + c) i
-passed_on (payload_answers.Refused r) s bs n = record { answer = answers.Refused r; session = s }
+passed_on (Ok (answers.More c i)) s bs n = record { answer = Ok (answers.More (n + c) i); session = s }
+passed_on (Ok (answers.Stopped c i)) s bs n = record { answer = Ok (answers.Stopped (n + c) i); session = s }
+passed_on (Ok (answers.Ended c i b)) s bs n = closed_by s (drop c bs) (n + c) i
+passed_on (Err r) s bs n = record { answer = Err r; session = s }
 
 -- the payload's bytes, after `n` before them
 unfoldable pub fed_payload : Session → List ℕ → List ℕ → ℕ → ℕ → Fed × List ℕ
 unfolding passed_on
 fed_payload s canvas bs n allowance =
-    let r : payload_fed.Fed × List ℕ = payload.fed_by s.payload canvas bs allowance in
+    let r : payload_answer.Fed × List ℕ = payload.fed_by s.payload canvas bs allowance in
     (passed_on r.0.answer (session_of r.0.session s.header phases.Within) bs n, r.1)
 
 -- where introducer and header led to: on, to the payload, or to a refusal, which fails the session
 unfoldable pub led_to : Led → Lead → Session → List ℕ → List ℕ → ℕ → Fed × List ℕ
 unfolding fed_payload
-led_to leds.On l s canvas bs allowance =
-    (record { answer = answers.More l.consumed 0; session = session_of s.payload l.header (phases.Before l.place) }, canvas)
-led_to leds.Begins l s canvas bs allowance =
+led_to (Ok leds.On) l s canvas bs allowance =
+    (record { answer = Ok (answers.More l.consumed 0); session = session_of s.payload l.header (phases.Before l.place) }, canvas)
+led_to (Ok leds.Begins) l s canvas bs allowance =
     let b : payload_session.Session × List ℕ = begun_by s.payload (settings_from l.header) canvas in
     fed_payload (session_of b.0 l.header phases.Within) b.1 (drop l.consumed bs) l.consumed allowance
-led_to (leds.Refused r) l s canvas bs allowance =
-    (record { answer = answers.Refused r; session = session_of (failed_of s.payload) l.header (phases.Before l.place) }, canvas)
+led_to (Err r) l s canvas bs allowance =
+    (record { answer = Err r; session = session_of (failed_of s.payload) l.header (phases.Before l.place) }, canvas)
 
 unfoldable pub fed_lead : Session → Place → List ℕ → List ℕ → ℕ → Fed × List ℕ
 unfolding led_to
@@ -162,8 +157,8 @@ fed_in (phases.Over e) s canvas bs allowance = (over_as s 0 0 e, canvas)
 -- 9, 12, 13 leave all as it is
 unfoldable pub fed_as : Verdict → Session → List ℕ → List ℕ → ℕ → Fed × List ℕ
 unfolding fed_in
-fed_as judged.Fine s canvas bs allowance = fed_in s.phase s canvas bs allowance
-fed_as (judged.Refused n) s canvas bs allowance = (record { answer = answers.Refused n; session = s }, canvas)
+fed_as (Ok tt) s canvas bs allowance = fed_in s.phase s canvas bs allowance
+fed_as (Err n) s canvas bs allowance = (record { answer = Err n; session = s }, canvas)
 
 unfoldable pub fed_by : Session → List ℕ → List ℕ → ℕ → Fed × List ℕ
 unfolding fed_as
@@ -173,11 +168,11 @@ fed_by s canvas bs allowance = fed_as (feed_judged s.payload (length canvas) all
 
 -- 8 before the end, where there is no refusal yet
 unfoldable pub end_judged : Verdict → Phase → Verdict
-end_judged judged.Fine (phases.Before t) = judged.Refused refusals.Unfinished
-end_judged judged.Fine phases.Within = judged.Refused refusals.Unfinished
-end_judged judged.Fine phases.Escaped = judged.Refused refusals.Unfinished
-end_judged judged.Fine (phases.Over e) = judged.Fine
-end_judged (judged.Refused n) t = judged.Refused n
+end_judged (Ok tt) (phases.Before t) = Err refusals.Unfinished
+end_judged (Ok tt) phases.Within = Err refusals.Unfinished
+end_judged (Ok tt) phases.Escaped = Err refusals.Unfinished
+end_judged (Ok tt) (phases.Over e) = Ok tt
+end_judged (Err n) t = Err n
 
 -- 8 before the end
 unfoldable pub finished_in : Phase → Session → Palette → List ℕ → Finished × List ℕ
@@ -188,8 +183,8 @@ finished_in (phases.Over e) s owner canvas = payload.finished_by s.payload owner
 
 unfoldable pub finished_as : Verdict → Session → Palette → List ℕ → Finished × List ℕ
 unfolding finished_in
-finished_as judged.Fine s owner canvas = finished_in s.phase s owner canvas
-finished_as (judged.Refused n) s owner canvas = payload.turned_away owner n canvas
+finished_as (Ok tt) s owner canvas = finished_in s.phase s owner canvas
+finished_as (Err n) s owner canvas = payload.turned_away owner n canvas
 
 -- 9, 12, 8, the pending command's refusal
 unfoldable pub finished_by : Session → Palette → List ℕ → Finished × List ℕ

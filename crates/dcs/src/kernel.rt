@@ -28,14 +28,12 @@ pub struct Core {
 pub fn core_of(session: Session) -> Core
     ensures { result ≡ core_of session }
 {
-    let header = session.header;
-    let phase = session.phase;
     Core {
         setup: setup_of(session.payload),
         life: life_of(session.payload),
         frame: frame_of(session.payload),
-        header,
-        phase,
+        header: session.header,
+        phase: session.phase,
     }
 }
 
@@ -49,12 +47,9 @@ pub fn palette_of(session: Session) -> Palette
 pub fn with_palette(core: Core, palette: Palette) -> Session
     ensures { result ≡ over core palette }
 {
-    let life = core.life;
-    let header = core.header;
-    let phase = core.phase;
     Session {
-        payload: session_of(core.setup, life, core.frame, palette),
-        header,
-        phase,
+        payload: session_of(core.setup, core.life, core.frame, palette),
+        header: core.header,
+        phase: core.phase,
     }
 }

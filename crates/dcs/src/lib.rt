@@ -10,11 +10,11 @@ ghost use Rattle.dcs.specs.Session.{opened_by, fed_by, finished_by};
 
 use crate::kernel::{core_of, palette_of, with_palette};
 use colours::Palette;
-use frame::{Limits, Refusal};
+use frame::Limits;
 use header::Place;
 use numbers::Parameters;
 use payload::kernel::{frame_of, life_of, setup_of};
-use payload::{Finished, hand_back};
+use payload::{Fed, Finished, Opened, hand_back};
 
 // How a sequence came to its end, with the byte that cancelled or interrupted it.
 #[derive(Clone, Copy)]
@@ -41,64 +41,35 @@ pub struct Session {
     phase: Phase,
 }
 
-// An opening's answer and the session, which is a failed one where the opening is refused.
-#[derive(Clone, Copy)]
-pub struct Opened {
-    pub answer: payload::Opening,
-    pub session: Session,
-}
-
-// Bytes consumed and ink of one call, or its refusal.
-#[derive(Clone, Copy)]
-pub enum Answer {
-    More {
-        consumed: usize,
-        ink: usize,
-    },
-    Stopped {
-        consumed: usize,
-        ink: usize,
-    },
-    Ended {
-        consumed: usize,
-        ink: usize,
-        ending: Ending,
-    },
-    Refused(Refusal),
-}
-
-#[derive(Clone, Copy)]
-pub struct Fed {
-    pub answer: Answer,
-    pub session: Session,
-}
-
 // Opens a session for a canvas of `length` bytes and `stride` pixels a row, with a copy of the owner's palette. Nothing is
 // written before `q`.
-pub fn open(limits: Limits, stride: usize, palette: Palette, length: usize) -> Opened
+pub fn open(limits: Limits, stride: usize, palette: Palette, length: usize) -> Opened<Session>
     ensures { result ≡ opened_by limits stride palette length }
 {
     let own = palette.lasting();
     let colors = own.table();
     let opened = kernel::opening::open(limits, stride, &colors, length);
-    let answer = opened.answer;
     Opened {
-        answer,
-        session: with_palette(opened.core, own),
+        answer: opened.answer,
+        session: with_palette(opened.session, own),
     }
 }
 
 // Reads bytes, painting on the canvas, until all are read, the sequence ends, or a sixel's ink exceeds the allowance.
-pub fn feed(session: Session, canvas: &mut [u8], bytes: &[u8], allowance: usize) -> Fed
+pub fn feed(
+    session: Session,
+    canvas: &mut [u8],
+    bytes: &[u8],
+    allowance: usize,
+) -> Fed<Session, Ending>
     ensures { (result, canvas.new) ≡ fed_by session canvas.old bytes.now allowance }
 {
     let palette = palette_of(session);
     let mut colors = palette.table();
     let fed = kernel::feeding::feed(core_of(session), &mut colors, canvas, bytes, allowance);
-    let answer = fed.answer;
     Fed {
-        answer,
-        session: with_palette(fed.core, Palette::of_table(colors)),
+        answer: fed.answer,
+        session: with_palette(fed.session, Palette::of_table(colors)),
     }
 }
 
@@ -108,13 +79,12 @@ pub fn finish(session: Session, owner: Palette, canvas: &mut [u8]) -> Finished
 {
     let palette = palette_of(session);
     let mut colors = palette.table();
-    let phase = session.phase;
     let life = life_of(session.payload);
     let answer = kernel::finishing::finish(
         setup_of(session.payload),
         life,
         frame_of(session.payload),
-        phase,
+        session.phase,
         &mut colors,
         canvas,
     );

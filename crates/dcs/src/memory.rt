@@ -13,6 +13,7 @@ use payload::codes::life_from;
 use payload::memory::{frame_from, numbers_of as payload_numbers, setup_from};
 use payload::places;
 
+// Kept: numbers for places, endings and phases, since the session lies in a C caller's memory (`owlgantry_raw_dcs_feed`).
 fn place_number(place: Place) -> u64
     ensures { result ≡ place_number place }
 {
@@ -74,11 +75,9 @@ pub fn phase_from(number: u64) -> Phase
 pub fn numbers_of(core: Core) -> [u64; 48]
     ensures { (p : Palette) → result ≡ numbers_of (over core p) }
 {
-    let phase = core.phase;
     let values = header_numbers(core.header);
-    let life = core.life;
-    let mut numbers = payload_numbers(core.setup, life, core.frame);
-    numbers[places::PHASE] = phase_number(phase);
+    let mut numbers = payload_numbers(core.setup, core.life, core.frame);
+    numbers[places::PHASE] = phase_number(core.phase);
     numbers[places::HEADER_0] = values[0];
     numbers[places::HEADER_1] = values[1];
     numbers[places::HEADER_2] = values[2];
@@ -91,6 +90,8 @@ pub fn numbers_of(core: Core) -> [u64; 48]
     numbers
 }
 
+// The hint makes it part of a feed, though explaining one calls it too.
+#[inline(always)]
 pub fn core_from(numbers: &[u64; 48]) -> Core
     ensures { result ≡ core_from numbers.now }
 {

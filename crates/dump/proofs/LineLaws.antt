@@ -1,19 +1,14 @@
--- Laws of the lines: what is put part by part is the line; a case's line is the line where the value is that case.
+-- Laws of the lines: what is put part by part is the line, and the lines are the text.
 -- Assumes nothing.
 use mathlib.Core.Path.{◌≡◌}
-use mathlib.Core.Bool.{Bool}
 use mathlib.Core.List.{List, [], ◌∷◌, ◌++◌}
 use Prim.Native.Nat.{ℕ}
 use Rattle.text.specs.Text.{put_byte, put, decimal, hex, words}
 use Rattle.text.proofs.Laws.{put_one, put_then}
-use Rattle.frame.specs.declared.Refusal.{Refusal}
-use Rattle.frame.specs.Numbers.{number_of}
-use Rattle.payload.specs.declared.Given.{Given}
-use Rattle.payload.specs.declared.Ratio.{Ratio}
 use Rattle.payload.specs.declared.Ratio.TheVariants as ratios
 use Rattle.payload.specs.declared.Report.{Report}
 use Rattle.dcs.specs.declared.Ending.{Ending}
-use Rattle.dump.specs.Dump.{count_line, pair_line, stop_line, status_line, size_line, extent_line, ratio_line, background_line, ink_line, picture_rows, picture_text, refusal_text}
+use Rattle.dump.specs.Dump.{count_line, pair_line, stop_line, status_line, size_line, extent_line, ratio_line, background_line, ink_line, picture_rows, picture_text}
 
 -- words, a number and a space
 spaced : (name : List ℕ) (n : ℕ) (s₀ s₁ s₂ s₃ : ℕ × List ℕ) → s₁ ≡ put name s₀ → s₂ ≡ put (decimal n) s₁ → s₃ ≡ put_byte 32 s₂
@@ -26,10 +21,10 @@ ended : (text : List ℕ) (s₀ s₁ s₂ : ℕ × List ℕ) → s₁ ≡ put te
 unfolding words
 ended text s₀ s₁ s₂ a b = put_then text (10 ∷ []) s₀ a (put_one 10 s₁ b)
 
-pub count-put : (name : List ℕ) (n : ℕ) (s₀ s₁ s₂ s₃ : ℕ × List ℕ) → s₁ ≡ put name s₀ → s₂ ≡ put (decimal n) s₁ → s₃ ≡ put_byte 10 s₂
+pub count_put : (name : List ℕ) (n : ℕ) (s₀ s₁ s₂ s₃ : ℕ × List ℕ) → s₁ ≡ put name s₀ → s₂ ≡ put (decimal n) s₁ → s₃ ≡ put_byte 10 s₂
     → s₃ ≡ put (count_line name n) s₀
 unfolding count_line
-count-put name n s₀ s₁ s₂ s₃ a b c = ended (name ++ decimal n) s₀ s₂ s₃ (put_then name (decimal n) s₀ a b) c
+count_put name n s₀ s₁ s₂ s₃ a b c = ended (name ++ decimal n) s₀ s₂ s₃ (put_then name (decimal n) s₀ a b) c
 
 -- a name, a number, a space, some text and the line's end: both lines of two
 named : (name : List ℕ) (n : ℕ) (text : List ℕ) (s₀ s₁ s₂ s₃ s₄ s₅ : ℕ × List ℕ)
@@ -45,51 +40,27 @@ pub pair_put : (name : List ℕ) (m n : ℕ) (s₀ s₁ s₂ s₃ s₄ s₅ : �
 unfolding pair_line
 pair_put name m n = named name m (decimal n)
 
-pub stop-put : (name : List ℕ) (n byte : ℕ) (s₀ s₁ s₂ s₃ s₄ s₅ : ℕ × List ℕ)
+pub stop_put : (name : List ℕ) (n byte : ℕ) (s₀ s₁ s₂ s₃ s₄ s₅ : ℕ × List ℕ)
     → s₁ ≡ put name s₀ → s₂ ≡ put (decimal n) s₁ → s₃ ≡ put_byte 32 s₂
     → s₄ ≡ put (hex byte) s₃ → s₅ ≡ put_byte 10 s₄ → s₅ ≡ put (stop_line name n byte) s₀
 unfolding stop_line
-stop-put name n byte = named name n (hex byte)
+stop_put name n byte = named name n (hex byte)
 
-pub raster-put : (n : ℕ) (s₀ s₁ s₂ s₃ : ℕ × List ℕ) → s₁ ≡ put (words "ratio ") s₀ → s₂ ≡ put (decimal n) s₁ → s₃ ≡ put (words ":1\n") s₂
+pub raster_put : (n : ℕ) (s₀ s₁ s₂ s₃ : ℕ × List ℕ) → s₁ ≡ put (words "ratio ") s₀ → s₂ ≡ put (decimal n) s₁ → s₃ ≡ put (words ":1\n") s₂
     → s₃ ≡ put (ratio_line (ratios.Raster n)) s₀
 unfolding ratio_line
-raster-put n s₀ s₁ s₂ s₃ a b c =
+raster_put n s₀ s₁ s₂ s₃ a b c =
     put_then (words "ratio " ++ decimal n) (words ":1\n") s₀ (put_then (words "ratio ") (decimal n) s₀ a b) c
-
--- ---- cases
-
-pub status-as : (ending case : Ending) (n : ℕ) (before : ℕ × List ℕ) {after : ℕ × List ℕ}
-    → ending ≡ case → after ≡ put (status_line case n) before
-    → after ≡ put (status_line ending n) before
-status-as ending case n before e h = rw e h
-
-pub p1-as : (p1 case : Given) (before : ℕ × List ℕ) {after : ℕ × List ℕ} → p1 ≡ case → after ≡ put (ratio_line (ratios.LeftToP1 case)) before
-    → after ≡ put (ratio_line (ratios.LeftToP1 p1)) before
-p1-as p1 case before e h = rw e h
-
-pub ratio-as : (ratio case : Ratio) (before : ℕ × List ℕ) {after : ℕ × List ℕ} → ratio ≡ case → after ≡ put (ratio_line case) before
-    → after ≡ put (ratio_line ratio) before
-ratio-as ratio case before e h = rw e h
-
-pub background-as : (transparent case : Bool) (before : ℕ × List ℕ) {after : ℕ × List ℕ} → transparent ≡ case
-    → after ≡ put (background_line case) before → after ≡ put (background_line transparent) before
-background-as transparent case before e h = rw e h
-
-pub refusal-as : (refusal : Refusal) (n : ℕ) (before : ℕ × List ℕ) {after : ℕ × List ℕ} → n ≡ number_of refusal
-    → after ≡ put (count_line (words "refused ") n) before → after ≡ put (refusal_text refusal) before
-unfolding refusal_text
-refusal-as refusal n before e h = rw e at h
 
 -- ---- the whole text
 
-pub picture-put : (ending : Ending) (consumed ink : ℕ) (report : Report) (stride : ℕ) (canvas : List ℕ)
+pub picture_put : (ending : Ending) (consumed ink : ℕ) (report : Report) (stride : ℕ) (canvas : List ℕ)
     (s₀ s₁ s₂ s₃ s₄ s₅ s₆ s₇ : ℕ × List ℕ)
-    → s₁ ≡ put (status_line ending consumed) s₀ → s₂ ≡ put (size_line report.width report.height) s₁
-    → s₃ ≡ put (extent_line report.right report.bottom) s₂ → s₄ ≡ put (ratio_line report.ratio) s₃
-    → s₅ ≡ put (background_line report.transparent) s₄ → s₆ ≡ put (ink_line ink) s₅
+    → s₁ ≡ put (status_line ending consumed) s₀ → s₂ ≡ put (pair_line (words "size ") report.width report.height) s₁
+    → s₃ ≡ put (pair_line (words "extent ") report.right report.bottom) s₂ → s₄ ≡ put (ratio_line report.ratio) s₃
+    → s₅ ≡ put (background_line report.transparent) s₄ → s₆ ≡ put (count_line (words "ink ") ink) s₅
     → s₇ ≡ put (picture_rows canvas stride report.width report.height) s₆
     → s₇ ≡ put (picture_text ending consumed ink report stride canvas) s₀
-unfolding picture_text
-picture-put ending consumed ink report stride canvas s₀ s₁ s₂ s₃ s₄ s₅ s₆ s₇ a b c d e f g =
+unfolding picture_text size_line extent_line ink_line
+picture_put ending consumed ink report stride canvas s₀ s₁ s₂ s₃ s₄ s₅ s₆ s₇ a b c d e f g =
     put_then _ _ s₀ (put_then _ _ s₀ (put_then _ _ s₀ (put_then _ _ s₀ (put_then _ _ s₀ (put_then _ _ s₀ a b) c) d) e) f) g

@@ -1,4 +1,4 @@
--- Laws of a reader's text: a case's text is the text where the value is that case; what the parts come to is the whole.
+-- What a reader's text comes to from its parts.
 -- Assumes nothing.
 use mathlib.Core.Path.{◌≡◌, sym, ap}
 use mathlib.Core.List.{List}
@@ -6,7 +6,6 @@ use Prim.Native.Nat.{ℕ}
 use Rattle.text.specs.Text.{put}
 use Rattle.colours.specs.declared.Palette.{Palette}
 use Rattle.payload.specs.declared.Finished.{Finished}
-use Rattle.payload.specs.declared.Finishing.{Finishing}
 use Rattle.dcs.specs.declared.Ending.{Ending}
 use Rattle.pieces.specs.declared.Counts.{Counts}
 use Rattle.pieces.specs.declared.Reader.{Reader}
@@ -14,21 +13,13 @@ use Rattle.pieces.specs.declared.Standing.{Standing}
 use Rattle.pieces.specs.Pieces.{finished_by}
 use Rattle.dump.specs.Outcome.{ending_of, finish_text, dumped_by}
 
-pub ending-as : (standing case : Standing) (ending : Ending) → standing ≡ case → ending ≡ ending_of case → ending ≡ ending_of standing
-ending-as standing case ending e h = rw e h
-
-pub finish-as : (finishing case : Finishing) (ending : Ending) (counts : Counts) (stride : ℕ) (canvas : List ℕ) (before : ℕ × List ℕ)
-    {after : ℕ × List ℕ} → finishing ≡ case → after ≡ put (finish_text case ending counts stride canvas) before
-    → after ≡ put (finish_text finishing ending counts stride canvas) before
-finish-as finishing case ending counts stride canvas before e h = rw e h
-
-pub outcome-put : (reader : Reader) (owner : Palette) (stride : ℕ) (canvas later out : List ℕ) (standing : Standing) (ending : Ending)
+pub outcome_put : (reader : Reader) (owner : Palette) (stride : ℕ) (canvas later out : List ℕ) (standing : Standing) (ending : Ending)
     (counts : Counts) (finished : Finished) (after : ℕ × List ℕ) → standing ≡ reader.standing → ending ≡ ending_of standing
     → counts ≡ reader.counts → (finished, later) ≡ finished_by reader owner canvas
     → after ≡ put (finish_text finished.answer ending counts stride later) (0, out)
     → (after, later) ≡ dumped_by reader owner stride canvas out
 unfolding dumped_by
-outcome-put reader owner stride canvas later out standing ending counts finished after s e c f h =
+outcome_put reader owner stride canvas later out standing ending counts finished after s e c f h =
     let text : List ℕ = finish_text finished.answer (ending_of reader.standing) reader.counts stride later in
     let whole : after ≡ put text (0, out) = rw (e, s, c) at h in
     rw (sym f) (ap {B = (ℕ × List ℕ) × List ℕ} (λ (x : ℕ × List ℕ). (x, later)) whole)

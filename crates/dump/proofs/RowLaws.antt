@@ -13,11 +13,11 @@ use Rattle.canvas.specs.Copy.{has_picture}
 use Rattle.canvas.proofs.Copies.{has_width, has-columns, has-rows}
 use Rattle.dump.specs.Dump.{pixel_text, further_text, row_text, rows_text, picture_rows}
 
-pub pixel-put : (canvas : List ℕ) (p : ℕ) (s₀ s₁ s₂ s₃ s₄ : ℕ × List ℕ) → s₁ ≡ put (hex (get_or canvas (4 * p) 0)) s₀
+pub pixel_put : (canvas : List ℕ) (p : ℕ) (s₀ s₁ s₂ s₃ s₄ : ℕ × List ℕ) → s₁ ≡ put (hex (get_or canvas (4 * p) 0)) s₀
     → s₂ ≡ put (hex (get_or canvas (4 * p + 1) 0)) s₁ → s₃ ≡ put (hex (get_or canvas (4 * p + 2) 0)) s₂
     → s₄ ≡ put (hex (get_or canvas (4 * p + 3) 0)) s₃ → s₄ ≡ put (pixel_text canvas p) s₀
 unfolding pixel_text
-pixel-put canvas p s₀ s₁ s₂ s₃ s₄ a b c d = put_then _ _ s₀ (put_then _ _ s₀ (put_then _ _ s₀ a b) c) d
+pixel_put canvas p s₀ s₁ s₂ s₃ s₄ a b c d = put_then _ _ s₀ (put_then _ _ s₀ (put_then _ _ s₀ a b) c) d
 
 -- one pixel more of a row's further ones
 pub pixel-more : (canvas : List ℕ) (p width x : ℕ) (s₀ s₁ s₂ whole : ℕ × List ℕ) → x < width → s₁ ≡ put_byte 32 s₀

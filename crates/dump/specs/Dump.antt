@@ -1,12 +1,11 @@
 -- What `sixdump` prints (docs/RULES.md, section 13): for a picture a line for each field and one for each row; a refusal is one line.
 -- A text that is longer than the buffer is truncated.
-use Rattle.std.specs.Prelude.{ℕ, zero, suc, ◌+◌, ◌-◌, ◌*◌, Bool, true, false, cond, List, [], ◌++◌, length, get_or}
+use Rattle.std.specs.Prelude.{ℕ, zero, suc, ◌+◌, ◌-◌, ◌*◌, Bool, true, false, cond, List, [], ◌++◌, length, get_or, Some, None}
 use Rattle.text.specs.Text.{decimal, hex, words}
 use Rattle.canvas.specs.Picture.{area_of}
 use Rattle.canvas.specs.Copy.{has_picture}
 use Rattle.frame.specs.declared.Refusal.{Refusal}
 use Rattle.frame.specs.Numbers.{number_of}
-use Rattle.payload.specs.declared.Given.TheVariants as givens
 use Rattle.payload.specs.declared.Ratio.{Ratio}
 use Rattle.payload.specs.declared.Ratio.TheVariants as ratios
 use Rattle.payload.specs.declared.Report.{Report}
@@ -44,8 +43,8 @@ extent_line x y = pair_line (words "extent ") x y
 -- the ratio as `2:1`, or `p1` and its number or `none`
 unfoldable pub ratio_line : Ratio → List ℕ
 ratio_line (ratios.Raster n) = words "ratio " ++ decimal n ++ words ":1\n"
-ratio_line (ratios.LeftToP1 givens.Nothing) = words "ratio p1 none\n"
-ratio_line (ratios.LeftToP1 (givens.Number n)) = count_line (words "ratio p1 ") n
+ratio_line (ratios.LeftToP1 None) = words "ratio p1 none\n"
+ratio_line (ratios.LeftToP1 (Some n)) = count_line (words "ratio p1 ") n
 
 -- the background: is it transparent?
 unfoldable pub background_line : Bool → List ℕ

@@ -1,9 +1,8 @@
 -- The text of rule 13.4, computed: two columns and six rows, of which the upper two are red, on a canvas of three columns.
-use Rattle.std.specs.Prelude.{◌≡◌, refl, false, List, [], ◌∷◌, ◌++◌, ℕ}
+use Rattle.std.specs.Prelude.{◌≡◌, refl, false, List, [], ◌∷◌, ◌++◌, ℕ, None}
 use Rattle.text.specs.Text.{digits, decimal, hex_digit, hex, words}
 use Rattle.canvas.specs.Picture.{fits, rows_of}
 use Rattle.canvas.specs.Copy.{has_picture}
-use Rattle.payload.specs.declared.Given.TheVariants as givens
 use Rattle.payload.specs.declared.Ratio.TheVariants as ratios
 use Rattle.payload.specs.declared.Report.{Report}
 use Rattle.dcs.specs.declared.Ending.TheVariants as endings
@@ -16,7 +15,7 @@ report =
       height = 6;
       right = 2;
       bottom = 2;
-      ratio = ratios.LeftToP1 givens.Nothing;
+      ratio = ratios.LeftToP1 None;
       transparent = false;
       defined = 1;
       declared_width = 0;

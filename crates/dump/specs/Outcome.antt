@@ -1,10 +1,9 @@
 -- What is printed of a reader that has taken its bytes: the picture that its finish gives, or the refusal.
-use Rattle.std.specs.Prelude.{ℕ, List}
+use Rattle.std.specs.Prelude.{ℕ, List, Ok, Err}
 use Rattle.text.specs.Text.{put}
 use Rattle.colours.specs.declared.Palette.{Palette}
 use Rattle.payload.specs.declared.Finished.{Finished}
-use Rattle.payload.specs.declared.Finishing.{Finishing}
-use Rattle.payload.specs.declared.Finishing.TheVariants as finishings
+use Rattle.payload.specs.Results.{Finishing}
 use Rattle.dcs.specs.declared.Ending.{Ending}
 use Rattle.dcs.specs.declared.Ending.TheVariants as endings
 use Rattle.pieces.specs.declared.Counts.{Counts}
@@ -22,9 +21,9 @@ ending_of (standings.Refused refusal) = endings.Complete
 
 -- the text of a finish
 unfoldable pub finish_text : Finishing → Ending → Counts → ℕ → List ℕ → List ℕ
-finish_text (finishings.Picture report) ending counts stride canvas =
+finish_text (Ok report) ending counts stride canvas =
     picture_text ending counts.consumed counts.ink report stride canvas
-finish_text (finishings.Refused refusal) ending counts stride canvas = refusal_text refusal
+finish_text (Err refusal) ending counts stride canvas = refusal_text refusal
 
 -- the length of the text, the buffer and the canvas, after the finish of a reader
 unfoldable pub dumped_by : Reader → Palette → ℕ → List ℕ → List ℕ → (ℕ × List ℕ) × List ℕ

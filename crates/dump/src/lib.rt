@@ -5,148 +5,140 @@ pub mod outcome;
 
 ghost use Rattle.std.specs.Prelude.{◌≡◌, ◌+◌, ◌*◌, ◌<◌, ◌≤◌, length};
 ghost use Rattle.text.specs.Text.{put};
+ghost use Rattle.text.specs.Stand.{there};
 ghost use Rattle.canvas.specs.Picture.{rows_of};
 ghost use Rattle.dump.specs.Dump.{count_line, pair_line, stop_line, status_line, ratio_line, background_line, pixel_text, row_text, rows_text, picture_rows, picture_text, refusal_text};
 
 use dcs::Ending;
 use frame::Refusal;
-use payload::{Given, Ratio, Report};
-use text::{put_byte, put_decimal, put_hex, put_words};
+use payload::{Ratio, Report};
+use text::Cursor;
 
-fn put_count(out: &mut [u8], at: usize, words: &[u8], n: usize) -> usize
-    ensures { (result, out.new) ≡ put (count_line words.now n) (at, out.old) }
+#[tactic(auto, using(crate::proofs::LineLaws::count_put))]
+fn put_count(to: &mut Cursor<'_>, words: &[u8], n: usize)
+    ensures buffer { to.new.out.ghost_name ≡ to.old.out.ghost_name }
+    ensures text { there to.new ≡ put (count_line words.now n) (there to.old) }
 {
-    let count = put_words(out, at, words);
-    let end = put_decimal(out, count, n as u64);
-    put_byte(out, end, b'\n')
+    to.put_words(words);
+    to.put_decimal(n as u64);
+    to.put_byte(b'\n');
 }
 
-fn put_pair(out: &mut [u8], at: usize, words: &[u8], a: usize, b: usize) -> usize
-    ensures { (result, out.new) ≡ put (pair_line words.now a b) (at, out.old) }
+#[tactic(auto, using(crate::proofs::LineLaws::pair_put))]
+fn put_pair(to: &mut Cursor<'_>, words: &[u8], a: usize, b: usize)
+    ensures buffer { to.new.out.ghost_name ≡ to.old.out.ghost_name }
+    ensures text { there to.new ≡ put (pair_line words.now a b) (there to.old) }
 {
-    let first = put_words(out, at, words);
-    let space = put_decimal(out, first, a as u64);
-    let second = put_byte(out, space, b' ');
-    let end = put_decimal(out, second, b as u64);
-    put_byte(out, end, b'\n')
+    to.put_words(words);
+    to.put_decimal(a as u64);
+    to.put_byte(b' ');
+    to.put_decimal(b as u64);
+    to.put_byte(b'\n');
 }
 
-fn put_stop(out: &mut [u8], at: usize, words: &[u8], n: usize, byte: u8) -> usize
-    ensures { (result, out.new) ≡ put (stop_line words.now n byte) (at, out.old) }
+// Kept: apart from put_pair, since a closure for the one call in which they differ is no plainer than that call.
+#[tactic(auto, using(crate::proofs::LineLaws::stop_put))]
+fn put_stop(to: &mut Cursor<'_>, words: &[u8], n: usize, byte: u8)
+    ensures buffer { to.new.out.ghost_name ≡ to.old.out.ghost_name }
+    ensures text { there to.new ≡ put (stop_line words.now n byte) (there to.old) }
 {
-    let count = put_words(out, at, words);
-    let space = put_decimal(out, count, n as u64);
-    let digits = put_byte(out, space, b' ');
-    let end = put_hex(out, digits, byte);
-    put_byte(out, end, b'\n')
+    to.put_words(words);
+    to.put_decimal(n as u64);
+    to.put_byte(b' ');
+    to.put_hex(byte);
+    to.put_byte(b'\n');
 }
 
-fn put_status(out: &mut [u8], at: usize, ending: Ending, consumed: usize) -> usize
-    ensures { (result, out.new) ≡ put (status_line ending consumed) (at, out.old) }
+#[tactic(auto, unfolding(crate::specs::Dump::status_line, text::specs::Text::words))]
+fn put_status(to: &mut Cursor<'_>, ending: Ending, consumed: usize)
+    ensures buffer { to.new.out.ghost_name ≡ to.old.out.ghost_name }
+    ensures text { there to.new ≡ put (status_line ending consumed) (there to.old) }
 {
     match ending {
-        Ending::Complete => put_count(out, at, b"complete ", consumed),
-        Ending::Cancelled(byte) => put_stop(out, at, b"cancelled ", consumed, byte),
-        Ending::Interrupted(byte) => put_stop(out, at, b"interrupted ", consumed, byte),
+        Ending::Complete => put_count(to, b"complete ", consumed),
+        Ending::Cancelled(byte) => put_stop(to, b"cancelled ", consumed, byte),
+        Ending::Interrupted(byte) => put_stop(to, b"interrupted ", consumed, byte),
     }
 }
 
-fn put_raster(out: &mut [u8], at: usize, n: u8) -> usize
-    ensures { (result, out.new) ≡ put (ratio_line (Ratio.Raster n)) (at, out.old) }
-{
-    let count = put_words(out, at, b"ratio ");
-    let end = put_decimal(out, count, n as u64);
-    put_words(out, end, b":1\n")
-}
-
-fn put_p1(out: &mut [u8], at: usize, p1: Given) -> usize
-    ensures { (result, out.new) ≡ put (ratio_line (Ratio.LeftToP1 p1)) (at, out.old) }
-{
-    match p1 {
-        Given::Nothing => put_words(out, at, b"ratio p1 none\n"),
-        Given::Number(n) => put_count(out, at, b"ratio p1 ", n as usize),
-    }
-}
-
-fn put_ratio(out: &mut [u8], at: usize, ratio: Ratio) -> usize
-    ensures { (result, out.new) ≡ put (ratio_line ratio) (at, out.old) }
+#[tactic(auto, using(crate::proofs::LineLaws::raster_put), unfolding(crate::specs::Dump::ratio_line, text::specs::Text::words))]
+fn put_ratio(to: &mut Cursor<'_>, ratio: Ratio)
+    ensures buffer { to.new.out.ghost_name ≡ to.old.out.ghost_name }
+    ensures text { there to.new ≡ put (ratio_line ratio) (there to.old) }
 {
     match ratio {
-        Ratio::Raster(n) => put_raster(out, at, n),
-        Ratio::LeftToP1(p1) => put_p1(out, at, p1),
+        Ratio::Raster(n) => {
+            to.put_words(b"ratio ");
+            to.put_decimal(n as u64);
+            to.put_words(b":1\n");
+        }
+        Ratio::LeftToP1(None) => to.put_words(b"ratio p1 none\n"),
+        Ratio::LeftToP1(Some(n)) => put_count(to, b"ratio p1 ", n as usize),
     }
 }
 
-fn put_background(out: &mut [u8], at: usize, is_transparent: bool) -> usize
-    ensures { (result, out.new) ≡ put (background_line is_transparent) (at, out.old) }
+#[tactic(auto, unfolding(crate::specs::Dump::background_line, text::specs::Text::words))]
+fn put_background(to: &mut Cursor<'_>, is_transparent: bool)
+    ensures buffer { to.new.out.ghost_name ≡ to.old.out.ghost_name }
+    ensures text { there to.new ≡ put (background_line is_transparent) (there to.old) }
 {
     if is_transparent {
-        return put_words(out, at, b"background transparent\n");
+        to.put_words(b"background transparent\n");
+    } else {
+        to.put_words(b"background opaque\n");
     }
-    put_words(out, at, b"background opaque\n")
 }
 
 // Pixel `p` of the canvas, as RRGGBBAA.
-fn put_pixel(out: &mut [u8], at: usize, canvas: &[u8], p: usize) -> usize
+#[tactic(auto, using(crate::proofs::RowLaws::pixel_put))]
+fn put_pixel(to: &mut Cursor<'_>, canvas: &[u8], p: usize)
     requires { 4 * p + 4 ≤ length canvas.now }
-    ensures { (result, out.new) ≡ put (pixel_text canvas.now p) (at, out.old) }
+    ensures buffer { to.new.out.ghost_name ≡ to.old.out.ghost_name }
+    ensures text { there to.new ≡ put (pixel_text canvas.now p) (there to.old) }
 {
     let i = 4 * p;
-    let green = put_hex(out, at, canvas[i]);
-    let blue = put_hex(out, green, canvas[i + 1]);
-    let alpha = put_hex(out, blue, canvas[i + 2]);
-    put_hex(out, alpha, canvas[i + 3])
+    to.put_hex(canvas[i]);
+    to.put_hex(canvas[i + 1]);
+    to.put_hex(canvas[i + 2]);
+    to.put_hex(canvas[i + 3]);
 }
 
 // A row of `width` pixels from pixel `p` on.
-fn put_row(out: &mut [u8], at: usize, canvas: &[u8], p: usize, width: usize) -> usize
+fn put_row(to: &mut Cursor<'_>, canvas: &[u8], p: usize, width: usize)
     requires { (0 < width) × (4 * (p + width) ≤ length canvas.now) }
-    ensures { (result, out.new) ≡ put (row_text canvas.now p width) (at, out.old) }
+    ensures buffer { to.new.out.ghost_name ≡ to.old.out.ghost_name }
+    ensures text { there to.new ≡ put (row_text canvas.now p width) (there to.old) }
 {
-    let mut place = put_pixel(out, at, canvas, p);
+    put_pixel(to, canvas, p);
     for x in 1..width {
-        let next = put_byte(out, place, b' ');
-        place = put_pixel(out, next, canvas, p + x);
+        to.put_byte(b' ');
+        put_pixel(to, canvas, p + x);
     }
-    put_byte(out, place, b'\n')
+    to.put_byte(b'\n');
 }
 
-fn put_rows(
-    out: &mut [u8],
-    at: usize,
-    canvas: &[u8],
-    stride: usize,
-    width: usize,
-    height: usize,
-) -> usize
+fn put_rows(to: &mut Cursor<'_>, canvas: &[u8], stride: usize, width: usize, height: usize)
     requires { (0 < width) × (width ≤ stride) × (height ≤ rows_of (length canvas.now) stride) }
-    ensures { (result, out.new) ≡ put (rows_text canvas.now stride width 0 height) (at, out.old) }
+    ensures buffer { to.new.out.ghost_name ≡ to.old.out.ghost_name }
+    ensures text { there to.new ≡ put (rows_text canvas.now stride width 0 height) (there to.old) }
 {
-    let mut place = at;
     for y in 0..height {
-        place = put_row(out, place, canvas, y * stride, width);
+        put_row(to, canvas, y * stride, width);
     }
-    place
 }
 
 // A picture's rows, or nothing where the canvas has no such picture.
-fn put_picture(
-    out: &mut [u8],
-    at: usize,
-    canvas: &[u8],
-    stride: usize,
-    width: usize,
-    height: usize,
-) -> usize
-    ensures { (result, out.new) ≡ put (picture_rows canvas.now stride width height) (at, out.old) }
+fn put_picture(to: &mut Cursor<'_>, canvas: &[u8], stride: usize, width: usize, height: usize)
+    ensures buffer { to.new.out.ghost_name ≡ to.old.out.ghost_name }
+    ensures text { there to.new ≡ put (picture_rows canvas.now stride width height) (there to.old) }
 {
     if canvas::has_picture(canvas.len(), stride, width, height) {
-        return put_rows(out, at, canvas, stride, width, height);
+        put_rows(to, canvas, stride, width, height);
     }
-    at
 }
 
 // Writes the fields and the rows of a finished picture at the front of `out`, and answers the text's length there.
+#[tactic(auto, using(crate::proofs::LineLaws::picture_put), unfolding(text::specs::Text::words))]
 pub fn write_picture(
     out: &mut [u8],
     ending: Ending,
@@ -159,19 +151,23 @@ pub fn write_picture(
     ensures { (result, out.new)
         ≡ put (picture_text ending consumed ink report stride canvas.now) (0, out.old) }
 {
-    let ratio = report.ratio;
-    let size = put_status(out, 0, ending, consumed);
-    let extent = put_pair(out, size, b"size ", report.width, report.height);
-    let shape = put_pair(out, extent, b"extent ", report.right, report.bottom);
-    let ground = put_ratio(out, shape, ratio);
-    let count = put_background(out, ground, report.transparent);
-    let rows = put_count(out, count, b"ink ", ink);
-    put_picture(out, rows, canvas, stride, report.width, report.height)
+    let mut to = Cursor { out, at: 0 };
+    put_status(&mut to, ending, consumed);
+    put_pair(&mut to, b"size ", report.width, report.height);
+    put_pair(&mut to, b"extent ", report.right, report.bottom);
+    put_ratio(&mut to, report.ratio);
+    put_background(&mut to, report.transparent);
+    put_count(&mut to, b"ink ", ink);
+    put_picture(&mut to, canvas, stride, report.width, report.height);
+    to.at
 }
 
 // Writes a refusal at the front of `out`, and answers the text's length there.
+#[tactic(auto, unfolding(crate::specs::Dump::refusal_text, text::specs::Text::words))]
 pub fn write_refusal(out: &mut [u8], refusal: Refusal) -> usize
     ensures { (result, out.new) ≡ put (refusal_text refusal) (0, out.old) }
 {
-    put_count(out, 0, b"refused ", frame::number(refusal) as usize)
+    let mut to = Cursor { out, at: 0 };
+    put_count(&mut to, b"refused ", frame::number(refusal) as usize);
+    to.at
 }

@@ -6,22 +6,24 @@ ghost use Rattle.dump.specs.Outcome.{ending_of, finish_text, dumped_by};
 use crate::{write_picture, write_refusal};
 use colours::Palette;
 use dcs::Ending;
-use payload::Finishing;
+use frame::Refusal;
+use payload::Report;
 use pieces::{Counts, Reader, Standing};
 
+#[tactic(auto, unfolding(crate::specs::Outcome::ending_of))]
 fn ending_of(standing: Standing) -> Ending
     ensures { result ≡ ending_of standing }
 {
     match standing {
-        Standing::Reading => Ending::Complete,
         Standing::Ended(ending) => ending,
-        Standing::Refused(_) => Ending::Complete,
+        Standing::Reading | Standing::Refused(_) => Ending::Complete,
     }
 }
 
+#[tactic(auto, unfolding(crate::specs::Outcome::finish_text))]
 fn write_finish(
     out: &mut [u8],
-    finishing: Finishing,
+    finishing: Result<Report, Refusal>,
     ending: Ending,
     counts: Counts,
     stride: usize,
@@ -30,7 +32,7 @@ fn write_finish(
     ensures { (result, out.new) ≡ put (finish_text finishing ending counts stride canvas.now) (0, out.old) }
 {
     match finishing {
-        Finishing::Picture(report) => {
+        Ok(report) => {
             write_picture(
                 out,
                 ending,
@@ -41,11 +43,12 @@ fn write_finish(
                 canvas,
             )
         }
-        Finishing::Refused(refusal) => write_refusal(out, refusal),
+        Err(refusal) => write_refusal(out, refusal),
     }
 }
 
 // Finishes a reader on its canvas, writes the text at the front of `out`, and answers the text's length there.
+#[tactic(auto, using(crate::proofs::OutcomeLaws::outcome_put))]
 pub fn write_outcome(
     out: &mut [u8],
     reader: Reader,
@@ -58,6 +61,5 @@ pub fn write_outcome(
     let ending = ending_of(pieces::standing_of(reader));
     let counts = pieces::counts_of(reader);
     let finished = pieces::finish(reader, owner, canvas);
-    let answer = finished.answer;
-    write_finish(out, answer, ending, counts, stride, canvas)
+    write_finish(out, finished.answer, ending, counts, stride, canvas)
 }

@@ -1,5 +1,6 @@
 -- What is told of a DCS session's feed and finish is what the definition tells.
-use Rattle.std.specs.Prelude.{◌≡◌, ℕ, ◌*◌, Bool, true, false, cond, eqb, ltb, List, [], ◌∷◌, length, drop}
+use Rattle.std.specs.Prelude.{None}
+use Rattle.std.specs.Prelude.{◌≡◌, ℕ, ◌*◌, Bool, true, false, cond, eqb, ltb, List, [], ◌∷◌, length, drop, Ok, Err}
 use mathlib.Core.Option.{Option, none, some}
 use mathlib.Core.Path.{refl, sym, ap, ap₂, ◌∙◌, subst}
 use Rattle.numbers.specs.declared.Parameters.{Parameters}
@@ -17,7 +18,7 @@ use Rattle.meaning.specs.Tellings.{Telling, told_at, placeless, call_telling, fe
 use Rattle.meaning.specs.Tellings.{finish_telling, dcs_shortage, dcs_feed_telling, dcs_end_telling, dcs_finish_telling}
 use Rattle.payload.specs.Meant as payload_meant
 use Rattle.header.specs.declared.Lead.{Lead}
-use Rattle.header.specs.declared.Led.{Led}
+use Rattle.header.specs.Results.{Led}
 use Rattle.header.specs.declared.Place.{Place}
 use Rattle.header.specs.Lead.{lead_from}
 use Rattle.header.specs.Settings.{settings_from}
@@ -40,11 +41,8 @@ use Rattle.payload.specs.History as payload
 use Rattle.payload.specs.Session as coded
 use Rattle.payload.proofs.Judgements.{judged_meant, misfit, feed-judged, finish-judged}
 use Rattle.payload.proofs.Openings as openings
-use Rattle.words.specs.declared.Need.TheVariants as needs
-use Rattle.payload.specs.declared.refusals.Verdict.{Verdict}
-use Rattle.payload.specs.declared.refusals.Verdict.TheVariants as verdicts
+use Rattle.payload.specs.Results.{Verdict}
 use Rattle.payload.specs.Refusals.{openable, is_failed, misfitting, fitting, feed_judged, finish_judged}
-use Rattle.explain.specs.declared.Explained.TheVariants.{Fine}
 use Rattle.explain.specs.Explained.{placeless_for, told_for, unless_judged, pending_explained, led_explained, lead_explained, fed_explained, fed_explained_in}
 use Rattle.explain.specs.Explained.{dcs_feed_in, dcs_feed_explained, dcs_finish_in, dcs_finish_explained}
 use Rattle.explain.specs.Meant.{place_meant, need_meant, telling_meant, explained_meant}
@@ -64,7 +62,7 @@ module _ (l : Limits) (stride : ℕ) (p : Palette) (opening : List ℕ) where
   begun_with o = coded.session_for l stride size o (lasting p) lives.Live
 
   -- it is fed what follows
-  begun-told : openable l stride size ≡ true → (o : Settings) (a from : ℕ) (us : List ℕ) → feed_judged (waiting l stride p opening) size a ≡ verdicts.Fine
+  begun-told : openable l stride size ≡ true → (o : Settings) (a from : ℕ) (us : List ℕ) → feed_judged (waiting l stride p opening) size a ≡ Ok tt
       → explained_meant (fed_explained (begun_session (waiting l stride p opening) o) size us from a)
       ≡ told_if (call_of setting a (sessions.opened (payload_meant.parameters_meant o) p) us).how
       (first_of setting from (sessions.opened (payload_meant.parameters_meant o) p) us)
@@ -75,7 +73,7 @@ module _ (l : Limits) (stride : ℕ) (p : Palette) (opening : List ℕ) where
 
   -- what stands before a payload, told
   lead-told : {q : Place} {h : Parameters} {x : Phase} → openable l stride size ≡ true → SamePlace q h x → (a : ℕ) (bs : List ℕ)
-      → feed_judged (waiting l stride p opening) size a ≡ verdicts.Fine
+      → feed_judged (waiting l stride p opening) size a ≡ Ok tt
       → explained_meant (lead_explained q (session_of (waiting l stride p opening) h (phases.Before q)) size bs a)
       ≡ told_if (dcs_call setting p a x bs).how (dcs_first setting p 0 x bs)
   unfolding lead_explained led_explained explained_meant told_for telling_meant place_meant need_meant told_at
@@ -97,7 +95,7 @@ module _ (l : Limits) (stride : ℕ) (p : Palette) (opening : List ℕ) where
   -- in the payload what is told is the payload's
   inside-told : {s : payload_session.Session} {c : List ℕ} {r : Reading} {failed : Bool}
       (k : payload.Stands opening s c (held_at l stride size r failed)) (a n : ℕ)
-      (bs : List ℕ) → feed_judged s n a ≡ verdicts.Fine
+      (bs : List ℕ) → feed_judged s n a ≡ Ok tt
       → explained_meant (fed_explained_in s.life s bs 0 a) ≡ told_if (dcs_call setting p a (within r) bs).how (dcs_first setting p 0 (within r) bs)
   inside-told {r = r} k a n bs fine =
       passed-told k a 0 n bs fine
@@ -124,11 +122,11 @@ module _ (l : Limits) (stride : ℕ) (p : Palette) (opening : List ℕ) where
         ∷ []))
         (other-misfits x)
 
-    other-judged : (a : ℕ) → feed_judged (waiting l stride p opening) n a ≡ verdicts.Refused refusals.Canvas
+    other-judged : (a : ℕ) → feed_judged (waiting l stride p opening) n a ≡ Err refusals.Canvas
     unfolding feed_judged misfitting fitting is_failed coded.session_for
     other-judged a = rw differs refl
 
-    other-ended : finish_judged (waiting l stride p opening) n ≡ verdicts.Refused refusals.Canvas
+    other-ended : finish_judged (waiting l stride p opening) n ≡ Err refusals.Canvas
     unfolding finish_judged misfitting fitting is_failed coded.session_for
     other-ended = rw differs refl
 
@@ -185,10 +183,10 @@ module _ (l : Limits) (stride : ℕ) (p : Palette) (opening : List ℕ) where
   dcs-feed-told (inside {s} {h} {c} k going) n a bs =
       judged-told (feed_judged s n a) (fed_explained_in s.life s bs 0 a) _ _ (feed-judged k n a) (inside-told k a n bs)
   dcs-feed-told (escaped {s} {h} {c} {r} k) n a bs =
-      judged-told (feed_judged s n a) Fine _ _ (feed-judged k n a)
+      judged-told (feed_judged s n a) (Ok tt) _ _ (feed-judged k n a)
       (λ fine. ap (λ (u : Bool). cond u (dcs_first setting p 0 (after_escape r) bs) none) (sym (escape-refused setting p r bs a)))
   dcs-feed-told (ended {s} {h} {c} {r} {e} k) n a bs =
-      judged-told (feed_judged s n a) Fine _ _ (feed-judged k n a)
+      judged-told (feed_judged s n a) (Ok tt) _ _ (feed-judged k n a)
       (λ fine. ap (λ (u : Bool). cond u (dcs_first setting p 0 (over (end_meant e) r) bs) none) (sym (over-refused setting p (end_meant e) r bs a)))
 
   -- before the end it is 8
@@ -211,13 +209,13 @@ module _ (l : Limits) (stride : ℕ) (p : Palette) (opening : List ℕ) where
       explained_meant (dcs_finish_explained (session_of (waiting l stride p opening) h (phases.Before t)) k)
       ≡ dcs_finish_telling (held_at l stride size x false) k)
       (sym (eqb-true n size yes))
-      (judged-told (finish_judged (waiting l stride p opening) size) (told_for 0 refusals.Unfinished needs.Nothing) _ _
+      (judged-told (finish_judged (waiting l stride p opening) size) (told_for 0 refusals.Unfinished None) _ _
       (before-ends l stride p opening opens same) (λ fine. sym (place-early same))))
       (λ differs. other-finish n differs t h x)
   dcs-finish-told (refused same) n = refl
   dcs-finish-told (inside {s} {h} {c} k going) n =
-      judged-told (finish_judged s n) (told_for 0 refusals.Unfinished needs.Nothing) _ _ (finish-judged k n) (λ fine. refl)
+      judged-told (finish_judged s n) (told_for 0 refusals.Unfinished None) _ _ (finish-judged k n) (λ fine. refl)
   dcs-finish-told (escaped {s} {h} {c} k) n =
-      judged-told (finish_judged s n) (told_for 0 refusals.Unfinished needs.Nothing) _ _ (finish-judged k n) (λ fine. refl)
+      judged-told (finish_judged s n) (told_for 0 refusals.Unfinished None) _ _ (finish-judged k n) (λ fine. refl)
   dcs-finish-told (ended {s} {h} {c} {r} {e} k) n =
       judged-told (finish_judged s n) (pending_explained s.frame s.ground s.palette 0) _ _ (finish-judged k n) (pending-told k n 0)

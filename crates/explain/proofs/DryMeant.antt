@@ -13,8 +13,9 @@ use Rattle.frame.specs.declared.Kind.TheVariants as kinds
 use Rattle.frame.specs.declared.Outcome.{Outcome}
 use Rattle.frame.specs.declared.Outcome.TheVariants as outcomes
 use Rattle.frame.specs.declared.Progress.{Progress}
-use Rattle.frame.specs.declared.sizes.Needed.{Needed}
-use Rattle.frame.specs.declared.sizes.Needed.TheVariants.{Area, Refused}
+use Rattle.frame.specs.declared.VisibleArea.{VisibleArea}
+use Rattle.frame.specs.declared.Refusal.{Refusal}
+use Rattle.std.specs.Prelude.{Result, Ok, Err}
 use Rattle.frame.specs.Commands.{Ended}
 use Rattle.frame.specs.Sizes.{sixel_area}
 use Rattle.reference.specs.Step.{Reached, painted_on, drawn_in, drawn_by, data_step, takes_semicolon, settled_step, argument_step, step_in, step_of}
@@ -33,11 +34,11 @@ painted-dry : (f : Frame) (g : Ground) (bits left w h : ℕ) (p : Palette) (l : 
 unfolding painted_on inked_dry
 painted-dry f g bits left w h p l = by-test (ltb left (ones bits * f.pen.repeat)) (λ t. rw t) (λ t. rw t)
 
-drawn-dry : (x : Needed) (f : Frame) (g : Ground) (bits left : ℕ) (p : Palette) (l : List ℕ)
+drawn-dry : (x : Result VisibleArea Refusal) (f : Frame) (g : Ground) (bits left : ℕ) (p : Palette) (l : List ℕ)
     → uncanvassed (drawn_in x f g bits left p l) ≡ record { progress = drawn_dry_in x f bits left; palette = p }
 unfolding drawn_in drawn_dry_in
-drawn-dry (Area w h) f g bits left p l = painted-dry f g bits left w h p l
-drawn-dry (Refused r) f g bits left p l = refl
+drawn-dry (Ok a) f g bits left p l = painted-dry f g bits left a.width a.height p l
+drawn-dry (Err r) f g bits left p l = refl
 
 module _ (f : Frame) (g : Ground) (b left : ℕ) (p : Palette) (l : List ℕ) where
   pub data-dry : uncanvassed (data_step f g b left p l) ≡ record { progress = data_dry f g b left; palette = p }

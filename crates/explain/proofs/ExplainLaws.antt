@@ -1,5 +1,5 @@
 -- Laws of what is told of a call: one for each path through a function, with what its callees return as variables.
-use Rattle.std.specs.Prelude.{◌≡◌, ℕ, suc, ◌+◌, ◌-◌, ◌≤◌, Bool, true, false, leb, List, [], ◌∷◌, length, take, drop}
+use Rattle.std.specs.Prelude.{◌≡◌, ℕ, suc, ◌+◌, ◌-◌, ◌≤◌, Bool, true, false, leb, List, [], ◌∷◌, length, take, drop, Ok, Err, Some, None}
 use mathlib.Core.Path.{refl, sym, ap, ap₂, ◌∙◌}
 use native.Mathlib.Omega.{arith}
 use denote.Enum.Declared.{tag_of}
@@ -23,20 +23,19 @@ use Rattle.frame.specs.Commands.{Ended}
 use Rattle.frame.specs.contracts.Outcome as OutcomeType
 use Rattle.payload.specs.declared.Life.{Life}
 use Rattle.payload.specs.declared.Life.TheVariants as lives
-use Rattle.payload.specs.declared.Opened as whole
+use Rattle.payload.specs.Results as whole
 use Rattle.payload.specs.declared.Session as payload_session
 use Rattle.payload.specs.declared.Settings.{Settings}
 use Rattle.payload.specs.declared.kernel.Setup.{Setup}
 use Rattle.payload.specs.declared.kernel.opening.Opened.{Opened}
-use Rattle.payload.specs.declared.refusals.Verdict.{Verdict}
-use Rattle.payload.specs.declared.refusals.Verdict.TheVariants as verdicts
+use Rattle.payload.specs.Results.{Verdict}
 use Rattle.payload.specs.Core.{over, opened_over, begun_over}
 use Rattle.payload.specs.Deferred.{no_settings, reserved_by, begun_session, begun_by}
 use Rattle.payload.specs.Refusals.{openable, feed_judged, finish_judged}
 use Rattle.payload.specs.Session.{blank_frame}
 use Rattle.payload.specs.contracts.Life as LifeType
 use Rattle.header.specs.declared.Lead.{Lead}
-use Rattle.header.specs.declared.Led as header
+use Rattle.header.specs.Results as header
 use Rattle.header.specs.declared.Led.TheVariants as leds
 use Rattle.header.specs.declared.Place.{Place}
 use Rattle.header.specs.declared.Place.TheVariants as lead_places
@@ -49,17 +48,11 @@ use Rattle.dcs.specs.declared.Session as dcs_session
 use Rattle.dcs.specs.Session.{session_of}
 use Rattle.dcs.proofs.SessionLaws.{part-drop}
 use Rattle.dcs.specs.contracts.Phase as PhaseType
-use Rattle.oneshot.specs.declared.search.Start.{Start}
-use Rattle.oneshot.specs.declared.search.Start.TheVariants as starts
-use Rattle.oneshot.specs.Search.{start_from}
-use Rattle.words.specs.declared.Need.{Need}
-use Rattle.words.specs.declared.Need.TheVariants as needs
-use Rattle.words.specs.declared.Place.TheVariants as places
-use Rattle.explain.specs.declared.Explained.{Explained}
-use Rattle.explain.specs.declared.Explained.TheVariants.{Fine, Refused}
+use Rattle.oneshot.specs.Search.{Start, start_from}
+use Rattle.explain.specs.Explained.{Explained}
 use Rattle.explain.specs.declared.dry.Led.{Led}
 use Rattle.explain.specs.Dry.{byte_dry, cost_of, led_as, go_on_dry, dry_from}
-use Rattle.explain.specs.Need.{largest, need_of}
+use Rattle.explain.specs.Need.{Need, largest, need_of}
 use Rattle.explain.specs.Explained.{placeless_for, told_for, explained_in, part_explained, pending_explained, unless_judged, fed_explained_in, fed_explained}
 use Rattle.explain.specs.Explained.{payload_feed_explained, payload_finish_explained, led_explained, lead_explained, dcs_feed_in, dcs_feed_explained}
 use Rattle.explain.specs.Explained.{dcs_finish_in, dcs_finish_explained, whole_in, whole_explained, started_explained, headed_in, headed_from, found_explained}
@@ -67,11 +60,11 @@ use Rattle.explain.specs.Explained.{input_explained, read_explained_on, read_exp
 
 -- ---- what is told
 
-pub placeless-as : (r : Refusal) → Refused (record { refusal = r; place = places.Nowhere; need = needs.Nothing }) ≡ placeless_for r
+pub placeless-as : (r : Refusal) → Err (record { refusal = r; place = None; need = None }) ≡ placeless_for r
 unfolding placeless_for
 placeless-as r = refl
 
-pub told-as : (at : ℕ) (r : Refusal) (need : Need) → Refused (record { refusal = r; place = places.At at; need = need }) ≡ told_for at r need
+pub told-as : (at : ℕ) (r : Refusal) (need : Need) → Err (record { refusal = r; place = Some at; need = need }) ≡ told_for at r need
 unfolding told_for
 told-as at r need = refl
 
@@ -80,7 +73,7 @@ pub outcome-refused : {o : Outcome} {r : Refusal} {n : Need} {x : Explained} (f 
 unfolding explained_in
 outcome-refused {r = r} f g at o n e = e ∙ ap (told_for at r) n ∙ ap (λ (y : Outcome). explained_in y f g at) (sym o)
 
-pub outcome-fine : (o : Outcome) (f : Frame) (g : Ground) (at : ℕ) → OneOf (0 ∷ 1 ∷ 2 ∷ []) (tag_of OutcomeType.the_type o) → Fine ≡ explained_in o f g at
+pub outcome-fine : (o : Outcome) (f : Frame) (g : Ground) (at : ℕ) → OneOf (0 ∷ 1 ∷ 2 ∷ []) (tag_of OutcomeType.the_type o) → Ok tt ≡ explained_in o f g at
 unfolding explained_in
 outcome-fine outcomes.Read f g at h = refl
 outcome-fine outcomes.Stopped f g at h = refl
@@ -151,17 +144,17 @@ pending-told f g p at k e = e ∙ ap (λ (y : Led). explained_in y.outcome y.fra
 
 -- ---- a payload session
 
-judged : {v : Verdict} {r : Refusal} {x : Explained} (w : Verdict) (later : Explained) → v ≡ w → v ≡ verdicts.Refused r → x ≡ placeless_for r
+judged : {v : Verdict} {r : Refusal} {x : Explained} (w : Verdict) (later : Explained) → v ≡ w → v ≡ Err r → x ≡ placeless_for r
     → x ≡ unless_judged w later
 unfolding unless_judged
 judged w later j k e = e ∙ ap (λ (y : Verdict). unless_judged y later) (sym k ∙ j)
 
-unjudged : {v : Verdict} {x : Explained} (w : Verdict) (later : Explained) → v ≡ w → v ≡ verdicts.Fine → x ≡ later → x ≡ unless_judged w later
+unjudged : {v : Verdict} {x : Explained} (w : Verdict) (later : Explained) → v ≡ w → v ≡ Ok tt → x ≡ later → x ≡ unless_judged w later
 unfolding unless_judged
 unjudged w later j k e = e ∙ ap (λ (y : Verdict). unless_judged y later) (sym k ∙ j)
 
 module _ (s : payload_session.Session) (bs : List ℕ) (from a : ℕ) where
-  pub passed-ended : {life : Life} {b : ℕ} → life ≡ lives.Ended b → Fine ≡ fed_explained_in life s bs from a
+  pub passed-ended : {life : Life} {b : ℕ} → life ≡ lives.Ended b → Ok tt ≡ fed_explained_in life s bs from a
   unfolding fed_explained_in
   passed-ended e = ap (λ (y : Life). fed_explained_in y s bs from a) (sym e)
 
@@ -177,11 +170,11 @@ module _ (s : payload_session.Session) (bs : List ℕ) (from a : ℕ) where
   passed-live life h e = e ∙ live-passed life h
 
 module _ (s : payload_session.Session) (size : ℕ) (bs : List ℕ) (from a : ℕ) {v : Verdict} (verdict : v ≡ feed_judged s size a) where
-  pub fed-refused : {r : Refusal} {x : Explained} → v ≡ verdicts.Refused r → x ≡ placeless_for r → x ≡ fed_explained s size bs from a
+  pub fed-refused : {r : Refusal} {x : Explained} → v ≡ Err r → x ≡ placeless_for r → x ≡ fed_explained s size bs from a
   unfolding fed_explained
   fed-refused k e = judged (feed_judged s size a) (fed_explained_in s.life s bs from a) verdict k e
 
-  pub fed-passed : {x : Explained} → v ≡ verdicts.Fine → x ≡ fed_explained_in s.life s bs from a → x ≡ fed_explained s size bs from a
+  pub fed-passed : {x : Explained} → v ≡ Ok tt → x ≡ fed_explained_in s.life s bs from a → x ≡ fed_explained s size bs from a
   unfolding fed_explained
   fed-passed k e = unjudged (feed_judged s size a) (fed_explained_in s.life s bs from a) verdict k e
 
@@ -191,11 +184,11 @@ unfolding payload_feed_explained
 fed-all s size bs a e = e
 
 module _ (s : payload_session.Session) (size : ℕ) {v : Verdict} (verdict : v ≡ finish_judged s size) where
-  pub finish-refused : {r : Refusal} {x : Explained} → v ≡ verdicts.Refused r → x ≡ placeless_for r → x ≡ payload_finish_explained s size
+  pub finish-refused : {r : Refusal} {x : Explained} → v ≡ Err r → x ≡ placeless_for r → x ≡ payload_finish_explained s size
   unfolding payload_finish_explained
   finish-refused k e = judged (finish_judged s size) (pending_explained s.frame s.ground s.palette 0) verdict k e
 
-  pub finish-passed : {x : Explained} → v ≡ verdicts.Fine → x ≡ pending_explained s.frame s.ground s.palette 0
+  pub finish-passed : {x : Explained} → v ≡ Ok tt → x ≡ pending_explained s.frame s.ground s.palette 0
       → x ≡ payload_finish_explained s size
   unfolding payload_finish_explained
   finish-passed k e = unjudged (finish_judged s size) (pending_explained s.frame s.ground s.palette 0) verdict k e
@@ -225,28 +218,28 @@ module _ (t : Place) (s : payload_session.Session) (h : Parameters) (size : ℕ)
       ap (λ (y : header.Led). led_explained y l s size bs a) (sym e)
       ∙ ap (λ (y : Lead). led_explained y.led y s size bs a) lead
 
-  pub lead-on : l.led ≡ leds.On → Fine ≡ lead_explained t (session_of s h (phases.Before t)) size bs a
+  pub lead-on : l.led ≡ Ok leds.On → Ok tt ≡ lead_explained t (session_of s h (phases.Before t)) size bs a
   unfolding led_explained
   lead-on e = led-known e
 
-  pub lead-begins : {o : Settings} {x : Explained} → l.led ≡ leds.Begins → o ≡ settings_from l.header
+  pub lead-begins : {o : Settings} {x : Explained} → l.led ≡ Ok leds.Begins → o ≡ settings_from l.header
       → x ≡ fed_explained (begun_session s o) size (drop l.consumed bs) l.consumed a
       → x ≡ lead_explained t (session_of s h (phases.Before t)) size bs a
   unfolding led_explained
   lead-begins e o k =
       k ∙ ap (λ (y : Settings). fed_explained (begun_session s y) size (drop l.consumed bs) l.consumed a) o ∙ led-known e
 
-  pub lead-refused : {r : Refusal} {x : Explained} → l.led ≡ leds.Refused r → x ≡ told_for l.consumed r needs.Nothing
+  pub lead-refused : {r : Refusal} {x : Explained} → l.led ≡ Err r → x ≡ told_for l.consumed r None
       → x ≡ lead_explained t (session_of s h (phases.Before t)) size bs a
   unfolding led_explained
   lead-refused e k = k ∙ led-known e
 
 module _ (s : dcs_session.Session) (size : ℕ) (bs : List ℕ) (a : ℕ) {v : Verdict} (verdict : v ≡ feed_judged s.payload size a) where
-  pub dcs-refused : {r : Refusal} {x : Explained} → v ≡ verdicts.Refused r → x ≡ placeless_for r → x ≡ dcs_feed_explained s size bs a
+  pub dcs-refused : {r : Refusal} {x : Explained} → v ≡ Err r → x ≡ placeless_for r → x ≡ dcs_feed_explained s size bs a
   unfolding dcs_feed_explained
   dcs-refused k e = judged (feed_judged s.payload size a) (dcs_feed_in s.phase s size bs a) verdict k e
 
-  module _ (fine : v ≡ verdicts.Fine) where
+  module _ (fine : v ≡ Ok tt) where
     dcs-passed : {t : Phase} {x : Explained} → s.phase ≡ t → x ≡ dcs_feed_in t s size bs a → x ≡ dcs_feed_explained s size bs a
     unfolding dcs_feed_explained
     dcs-passed k e =
@@ -264,26 +257,26 @@ module _ (s : dcs_session.Session) (size : ℕ) (bs : List ℕ) (a : ℕ) {v : V
     unfolding dcs_feed_in
     dcs-within k e = dcs-passed k e
 
-    pub dcs-escaped : s.phase ≡ phases.Escaped → Fine ≡ dcs_feed_explained s size bs a
+    pub dcs-escaped : s.phase ≡ phases.Escaped → Ok tt ≡ dcs_feed_explained s size bs a
     unfolding dcs_feed_in
     dcs-escaped k = dcs-passed k refl
 
-    pub dcs-over : OneOf (3 ∷ []) (tag_of PhaseType.the_type s.phase) → Fine ≡ dcs_feed_explained s size bs a
+    pub dcs-over : OneOf (3 ∷ []) (tag_of PhaseType.the_type s.phase) → Ok tt ≡ dcs_feed_explained s size bs a
     unfolding dcs_feed_in
     dcs-over h = go s.phase refl h
       where
-        go : (t : Phase) → s.phase ≡ t → OneOf (3 ∷ []) (tag_of PhaseType.the_type t) → Fine ≡ dcs_feed_explained s size bs a
+        go : (t : Phase) → s.phase ≡ t → OneOf (3 ∷ []) (tag_of PhaseType.the_type t) → Ok tt ≡ dcs_feed_explained s size bs a
         go (phases.Before p) k h = absurd (miss (3 ∷ []) 0 tt h)
         go phases.Within k h = absurd (miss (3 ∷ []) 1 tt h)
         go phases.Escaped k h = absurd (miss (3 ∷ []) 2 tt h)
         go (phases.Over e) k h = dcs-passed k refl
 
 module _ (s : dcs_session.Session) (size : ℕ) {v : Verdict} (verdict : v ≡ finish_judged s.payload size) where
-  pub ending-refused : {r : Refusal} {x : Explained} → v ≡ verdicts.Refused r → x ≡ placeless_for r → x ≡ dcs_finish_explained s size
+  pub ending-refused : {r : Refusal} {x : Explained} → v ≡ Err r → x ≡ placeless_for r → x ≡ dcs_finish_explained s size
   unfolding dcs_finish_explained
   ending-refused k e = judged (finish_judged s.payload size) (dcs_finish_in s.phase s.payload) verdict k e
 
-  module _ (fine : v ≡ verdicts.Fine) where
+  module _ (fine : v ≡ Ok tt) where
     ending-in : {x : Explained} → x ≡ dcs_finish_in s.phase s.payload → x ≡ dcs_finish_explained s size
     unfolding dcs_finish_explained
     ending-in e = unjudged (finish_judged s.payload size) (dcs_finish_in s.phase s.payload) verdict fine e
@@ -296,7 +289,7 @@ module _ (s : dcs_session.Session) (size : ℕ) {v : Verdict} (verdict : v ≡ f
     over-in phases.Escaped h = absurd (miss (3 ∷ []) 2 tt h)
     over-in (phases.Over e) h = refl
 
-    early-in : (t : Phase) → OneOf (0 ∷ 1 ∷ 2 ∷ []) (tag_of PhaseType.the_type t) → told_for 0 refusals.Unfinished needs.Nothing ≡ dcs_finish_in t s.payload
+    early-in : (t : Phase) → OneOf (0 ∷ 1 ∷ 2 ∷ []) (tag_of PhaseType.the_type t) → told_for 0 refusals.Unfinished None ≡ dcs_finish_in t s.payload
     unfolding dcs_finish_in
     early-in (phases.Before p) h = refl
     early-in phases.Within h = refl
@@ -307,7 +300,7 @@ module _ (s : dcs_session.Session) (size : ℕ) {v : Verdict} (verdict : v ≡ f
         → x ≡ pending_explained s.payload.frame s.payload.ground s.payload.palette 0 → x ≡ dcs_finish_explained s size
     ending-over h e = ending-in (e ∙ over-in s.phase h)
 
-    pub ending-early : {x : Explained} → OneOf (0 ∷ 1 ∷ 2 ∷ []) (tag_of PhaseType.the_type s.phase) → x ≡ told_for 0 refusals.Unfinished needs.Nothing
+    pub ending-early : {x : Explained} → OneOf (0 ∷ 1 ∷ 2 ∷ []) (tag_of PhaseType.the_type s.phase) → x ≡ told_for 0 refusals.Unfinished None
         → x ≡ dcs_finish_explained s size
     ending-early h e = ending-in (e ∙ early-in s.phase h)
 
@@ -325,7 +318,7 @@ started-told {v} u life f o p canvas bs from e k q =
     (begun-as u life f o p canvas e)
 
 -- what stands before a payload ends within the bytes
-pub headed-within : {l : Lead} (at : ℕ) (bs : List ℕ) (h : Parameters) → l ≡ lead_from (drop at bs) at lead_places.Header h → l.led ≡ leds.Begins
+pub headed-within : {l : Lead} (at : ℕ) (bs : List ℕ) (h : Parameters) → l ≡ lead_from (drop at bs) at lead_places.Header h → l.led ≡ Ok leds.Begins
     → l.consumed ≤ length bs
 unfolding lead_from
 headed-within {l} at bs h lead e =
@@ -339,7 +332,7 @@ headed-within {l} at bs h lead e =
         let h : length bs ≤ at = omega (arith, leb-false at (length bs) t) in
         drop_of_length-le bs h
 
-    never : l.led ≡ leds.On → ⊥
+    never : l.led ≡ Ok leds.On → ⊥
     never k = let z : ◌≡◌ {A = ℕ} 0 1 = cc in omega arith
 
 module _ (at : ℕ) (s : payload_session.Session) (bs : List ℕ) {h : Parameters} {l : Lead} (opened : h ≡ numbers.opened 3)
@@ -350,16 +343,16 @@ module _ (at : ℕ) (s : payload_session.Session) (bs : List ℕ) {h : Parameter
       ap (λ (y : header.Led). headed_in y l s bs) (sym e)
       ∙ ap (λ (y : Lead). headed_in y.led y s bs) (lead ∙ ap (lead_from (drop at bs) at lead_places.Header) opened)
 
-  pub headed-on : {x : Explained} → l.led ≡ leds.On → x ≡ told_for l.consumed refusals.Unfinished needs.Nothing → x ≡ headed_from at s bs
+  pub headed-on : {x : Explained} → l.led ≡ Ok leds.On → x ≡ told_for l.consumed refusals.Unfinished None → x ≡ headed_from at s bs
   unfolding headed_in
   headed-on e k = k ∙ headed-known e
 
-  pub headed-begins : {o : Settings} {x : Explained} → l.led ≡ leds.Begins → o ≡ settings_from l.header → x ≡ started_explained s o bs l.consumed
+  pub headed-begins : {o : Settings} {x : Explained} → l.led ≡ Ok leds.Begins → o ≡ settings_from l.header → x ≡ started_explained s o bs l.consumed
       → x ≡ headed_from at s bs
   unfolding headed_in
   headed-begins e o k = k ∙ ap (λ (y : Settings). started_explained s y bs l.consumed) o ∙ headed-known e
 
-  pub headed-refused : {r : Refusal} {x : Explained} → l.led ≡ leds.Refused r → x ≡ told_for l.consumed r needs.Nothing → x ≡ headed_from at s bs
+  pub headed-refused : {r : Refusal} {x : Explained} → l.led ≡ Err r → x ≡ told_for l.consumed r None → x ≡ headed_from at s bs
   unfolding headed_in
   headed-refused e k = k ∙ headed-known e
 
@@ -368,11 +361,11 @@ module _ (s : payload_session.Session) (bs : List ℕ) {t : Start} (found : t �
   unfolding input_explained
   found-known e = ap (λ (y : Start). found_explained y s bs) (sym e ∙ found)
 
-  pub input-headed : {at : ℕ} {x : Explained} → t ≡ starts.At at → x ≡ headed_from at s bs → x ≡ input_explained s bs
+  pub input-headed : {at : ℕ} {x : Explained} → t ≡ Some at → x ≡ headed_from at s bs → x ≡ input_explained s bs
   unfolding found_explained
   input-headed e k = k ∙ found-known e
 
-  pub input-bare : {o : Settings} {x : Explained} → t ≡ starts.Nowhere → o ≡ no_settings → x ≡ started_explained s o bs 0 → x ≡ input_explained s bs
+  pub input-bare : {o : Settings} {x : Explained} → t ≡ None → o ≡ no_settings → x ≡ started_explained s o bs 0 → x ≡ input_explained s bs
   unfolding found_explained
   input-bare e o k = k ∙ ap (λ (y : Settings). started_explained s y bs 0) o ∙ found-known e
 

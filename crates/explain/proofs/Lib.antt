@@ -1,5 +1,4 @@
 pub mod DryLaws
-pub mod NeedLaws
 pub mod ExplainLaws
 pub mod NeedMeant
 pub mod DryMeant

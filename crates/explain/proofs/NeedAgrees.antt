@@ -15,8 +15,8 @@ use Rattle.frame.specs.declared.Ground.{Ground}
 use Rattle.frame.specs.declared.Kind.TheVariants as kinds
 use Rattle.frame.specs.declared.Outcome.TheVariants as outcomes
 use Rattle.frame.specs.declared.Refusal.{Refusal}
-use Rattle.frame.specs.declared.sizes.Needed.{Needed}
-use Rattle.frame.specs.declared.sizes.Needed.TheVariants as needed
+use Rattle.frame.specs.declared.VisibleArea.{VisibleArea}
+use Rattle.std.specs.Prelude.{Result, Ok, Err}
 use Rattle.frame.specs.Commands.{unread_as, refused_as, Ended, ended}
 use Rattle.frame.specs.Sizes.{sixel_area}
 use Rattle.reference.specs.Step.{Reached, read_as, inked, canvas_after, painted_on, drawn_in, drawn_by, data_step, takes_semicolon, settled_step, argument_step}
@@ -89,7 +89,8 @@ module _ {s : Setting} (bounded : Bounded s) {d : Drawing} (sound : Sound s d) (
   f = frame_of d c
 
   -- a sixel, with its size known
-  drawn-need : {why : Refusal} (bits : ℕ) {x : Needed} {y : Option ℕ} → size_refusal s d.area (d.pen.column + d.pen.repeats) (d.pen.row + 6) ≡ y
+  drawn-need : {why : Refusal} (bits : ℕ) {x : Result VisibleArea Refusal} {y : Option ℕ}
+      → size_refusal s d.area (d.pen.column + d.pen.repeats) (d.pen.row + 6) ≡ y
       → Sized s d.area (d.pen.column + d.pen.repeats) (d.pen.row + 6) x y
       → (drawn_in x f g bits left p l).progress.outcome ≡ outcomes.Refused why
       → first_shortage s (record { place = at; command = draw bits } ∷ []) d ≡ need_meant (need_of (drawn_in x f g bits left p l).progress.frame g)
@@ -249,11 +250,12 @@ rest-need {s} {opening} {u} {g} {f} {p} {l} at b left {why} same none-begun =
     left)
 
 -- a sixel that is read is consumed
-drawn-once : (x : Needed) (f : Frame) (g : Ground) (bits left : ℕ) (p : Palette) (l : List ℕ) → (drawn_in x f g bits left p l).progress.outcome ≡ outcomes.Read
+drawn-once : (x : Result VisibleArea Refusal) (f : Frame) (g : Ground) (bits left : ℕ) (p : Palette) (l : List ℕ)
+    → (drawn_in x f g bits left p l).progress.outcome ≡ outcomes.Read
     → (drawn_in x f g bits left p l).progress.consumed ≡ 1
 unfolding drawn_in painted_on refused_as unread_as read_as
-drawn-once (needed.Refused r) f g bits left p l e = absurd (let z : ◌≡◌ {A = ℕ} 0 1 = cc in omega arith)
-drawn-once (needed.Area w h) f g bits left p l e = by-test (ltb left (ones bits * f.pen.repeat)) (λ t. absurd (stopped (rw t at e))) (λ t. rw t)
+drawn-once (Err r) f g bits left p l e = absurd (let z : ◌≡◌ {A = ℕ} 0 1 = cc in omega arith)
+drawn-once (Ok a) f g bits left p l e = by-test (ltb left (ones bits * f.pen.repeat)) (λ t. absurd (stopped (rw t at e))) (λ t. rw t)
   where
     stopped : outcomes.Stopped ≡ outcomes.Read → ⊥
     stopped k = let z : ◌≡◌ {A = ℕ} 0 1 = cc in omega arith
@@ -269,7 +271,8 @@ data-once f g b left p l e =
     ended : outcomes.Ended b ≡ outcomes.Read → ⊥
     ended k = let z : ◌≡◌ {A = ℕ} 0 1 = cc in omega arith
 
-    six : (x : Needed) → (drawn_in x f g (b - 63) left p l).progress.outcome ≡ outcomes.Read → (drawn_in x f g (b - 63) left p l).progress.consumed ≡ 1
+    six : (x : Result VisibleArea Refusal) → (drawn_in x f g (b - 63) left p l).progress.outcome ≡ outcomes.Read
+        → (drawn_in x f g (b - 63) left p l).progress.consumed ≡ 1
     six x e = drawn-once x f g (b - 63) left p l e
 
 module _ {s : Setting} {opening : List ℕ} {r : Reading} {g : Ground} {f : Frame} {p : Palette} {l : List ℕ} (same : Same s opening r g f p l)

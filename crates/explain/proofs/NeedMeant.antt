@@ -1,4 +1,5 @@
 -- What a refused command or sixel needed is in the code what it is in the definition.
+use Rattle.std.specs.Prelude.{Some}
 use Rattle.std.specs.Prelude.{◌≡◌, ℕ, ◌+◌, ◌*◌, ◌<◌, min, max, Bool, true, ltb, List}
 use mathlib.Core.Option.{Option, some}
 use mathlib.Core.Path.{refl, sym, ap, ap₂, ◌∙◌}
@@ -22,7 +23,6 @@ use Rattle.meaning.specs.Tellings.{Shortage, short, most_of_side, most_of_all, s
 use Rattle.meaning.specs.Tellings as tellings
 use Rattle.agreement.specs.Same.{ground_of, pen_of, code_area, raster_of, frame_of, Bounded, SameBegun}
 use Rattle.agreement.proofs.Ends.{rasters}
-use Rattle.words.specs.declared.Need.TheVariants as needs
 use Rattle.words.specs.declared.Thing.{Thing}
 use Rattle.explain.specs.Meant.{thing_meant, shortage_meant, need_meant}
 use Rattle.explain.specs.Need.{largest, short_of, pixels_short, size_short, sixel_short, raster_short, repeat_short, need_in, need_of}
@@ -93,7 +93,7 @@ size-held {s} bounded a w row =
 -- ---- the sixel, the repeat, the raster
 
 module _ {s : Setting} (bounded : Bounded s) (d : Drawing) (background : List ℕ) (c : Command) where
-  sixel-meant : (bits : ℕ) → need_meant (needs.Short (sixel_short (frame_of d c) (ground_of s background))) ≡ command_shortage s (draw bits) d
+  sixel-meant : (bits : ℕ) → need_meant (Some (sixel_short (frame_of d c) (ground_of s background))) ≡ command_shortage s (draw bits) d
   unfolding need_meant sixel_short frame_of pen_of command_shortage
   sixel-meant bits =
       ap (λ (k : Shortage). some k)
@@ -101,7 +101,7 @@ module _ {s : Setting} (bounded : Bounded s) (d : Drawing) (background : List �
       ∙ size-held bounded d.area (d.pen.column + d.pen.repeats) d.pen.row)
 
   repeat-meant : {bs : List ℕ} → Counted bs c.number
-      → need_meant (needs.Short (repeat_short (frame_of d c) (ground_of s background))) ≡ command_shortage s (argued repeat bs) d
+      → need_meant (Some (repeat_short (frame_of d c) (ground_of s background))) ≡ command_shortage s (argued repeat bs) d
   unfolding need_meant shortage_meant thing_meant repeat_short short_of frame_of ground_of command_shortage short
   repeat-meant {bs} h =
       ap (λ (k : Shortage). some k)
@@ -109,7 +109,7 @@ module _ {s : Setting} (bounded : Bounded s) (d : Drawing) (background : List �
       ∙ held-short most_of_all repeats (decimal bs) ceiling s.limits.repeats (omega arith))
 
   raster-meant : {bs : List ℕ} → Read 4 bs c.parameters
-      → need_meant (needs.Short (raster_short (frame_of d c) (ground_of s background))) ≡ command_shortage s (argued raster bs) d
+      → need_meant (Some (raster_short (frame_of d c) (ground_of s background))) ≡ command_shortage s (argued raster bs) d
   unfolding need_meant raster_short finished_of frame_of raster_of command_shortage raster_shortage
   raster-meant {bs} h =
       ap (λ (k : Shortage). some k)

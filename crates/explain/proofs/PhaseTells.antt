@@ -1,5 +1,5 @@
 -- Where a call of a DCS sequence is refused first, phase by phase: before the payload, in it, and at and after its end.
-use Rattle.std.specs.Prelude.{◌≡◌, ℕ, suc, ◌+◌, ◌-◌, Bool, true, false, cond, ◌||◌, eqb, List, [], ◌∷◌, drop}
+use Rattle.std.specs.Prelude.{◌≡◌, ℕ, suc, ◌+◌, ◌-◌, Bool, true, false, cond, ◌||◌, eqb, List, [], ◌∷◌, drop, Ok, Err}
 use native.Mathlib.Numerals.{add-one}
 use mathlib.Core.Option.{Option, none, some}
 use mathlib.Core.Path.{refl, sym, ap, ap₂, ◌∙◌, subst}
@@ -19,7 +19,7 @@ use Rattle.meaning.specs.Tellings.{dcs_shortage}
 use Rattle.meaning.proofs.Framing.{in_payload}
 use Rattle.payload.specs.Meant as payload_meant
 use Rattle.header.specs.declared.Lead.{Lead}
-use Rattle.header.specs.declared.Led.{Led}
+use Rattle.header.specs.Results.{Led}
 use Rattle.header.specs.declared.Led.TheVariants as leds
 use Rattle.header.specs.declared.Place.{Place}
 use Rattle.header.specs.declared.Step as lead_step
@@ -180,9 +180,9 @@ payload_by p h = sessions.opened (payload_meant.parameters_meant (settings_from 
 module _ (s : Setting) (p : Palette) (whole : List ℕ) (a : ℕ) where
   -- what introducer and header lead to, told: nothing, a refused byte, or what is told of the payload from there on
   pub data LeadTells : Lead → Option Telling → Bool → Type 0 where
-    waits : {l : Lead} → l.led ≡ leds.On → LeadTells l none false
-    turns : {l : Lead} (why : Refusal) → l.led ≡ leds.Refused why → LeadTells l (some (told_at l.consumed (number_of why) none)) true
-    begins : {l : Lead} → l.led ≡ leds.Begins
+    waits : {l : Lead} → l.led ≡ Ok leds.On → LeadTells l none false
+    turns : {l : Lead} (why : Refusal) → l.led ≡ Err why → LeadTells l (some (told_at l.consumed (number_of why) none)) true
+    begins : {l : Lead} → l.led ≡ Ok leds.Begins
         → LeadTells l (first_of s l.consumed (payload_by p l.header) (drop l.consumed whole))
         (is_refused (call_of s a (payload_by p l.header) (drop l.consumed whole)).how)
 
@@ -216,7 +216,7 @@ module _ (s : Setting) (p : Palette) (whole : List ℕ) (a : ℕ) where
       (begins refl)))
     where
       here : Lead
-      here = lead_at t.place t.header (n + 1) leds.Begins
+      here = lead_at t.place t.header (n + 1) (Ok leds.Begins)
 
       rest : drop (n + 1) whole ≡ bs
       rest = sym (drop-drop 1 n whole) ∙ ap (drop 1) at
@@ -235,9 +235,9 @@ module _ (s : Setting) (p : Palette) (whole : List ℕ) (a : ℕ) where
           ∙ ap (λ (v : meant.Parameters). is_refused (call_of s a (sessions.opened v p) (drop (n + 1) whole)).how) same
   byte-lead n b bs x {t} at (leading.turns_down {x = z} {n = m} why e number same) step later need q =
       as-led t n bs e
-      (subst (λ (u : Bool). LeadTells (lead_at t.place t.header n (leds.Refused why)) (some (told_at n m need)) u)
+      (subst (λ (u : Bool). LeadTells (lead_at t.place t.header n (Err why)) (some (told_at n m need)) u)
       (sym (ap refused_in (call-refuses (dcs_step s p) (dcs_rested s) a x b bs step)))
-      (subst (λ (u : Option Telling). LeadTells (lead_at t.place t.header n (leds.Refused why)) u true)
+      (subst (λ (u : Option Telling). LeadTells (lead_at t.place t.header n (Err why)) u true)
       (ap₂ (λ (k : ℕ) (o : Option Shortage). some (told_at n k o)) number (sym q)) (turns why refl)))
 
   -- before the payload nothing is needed

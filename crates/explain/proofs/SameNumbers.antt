@@ -1,5 +1,5 @@
 -- Of any session, whatever it holds: the number that is told of a call is the number that the call answers.
-use Rattle.std.specs.Prelude.{◌≡◌, ℕ, ◌+◌, true, ◌||◌, eqb, leb, List, [], ◌∷◌, length, drop}
+use Rattle.std.specs.Prelude.{◌≡◌, ℕ, ◌+◌, true, ◌||◌, eqb, leb, List, [], ◌∷◌, length, drop, Ok, Err}
 use native.Mathlib.Nat.{sub-zero}
 use mathlib.Core.Option.{Option, none}
 use mathlib.Core.Path.{refl, sym, ap, ◌∙◌}
@@ -18,20 +18,19 @@ use Rattle.frame.specs.Commands.{unread_as, settled_as, Ended, ended_in, ended}
 use Rattle.reference.specs.Step.{Reached}
 use Rattle.reference.specs.Feed.{feed_from}
 use Rattle.meaning.specs.Tellings.{number_told, answer_number, finish_number}
-use Rattle.payload.specs.declared.Answer as payload_answer
+use Rattle.payload.specs.Results as payload_answer
 use Rattle.payload.specs.declared.Answer.TheVariants as payload_answers
 use Rattle.payload.specs.declared.Life.{Life}
 use Rattle.payload.specs.declared.Life.TheVariants as lives
 use Rattle.payload.specs.declared.Session as payload_session
 use Rattle.payload.specs.declared.Settings.{Settings}
-use Rattle.payload.specs.declared.refusals.Verdict.{Verdict}
-use Rattle.payload.specs.declared.refusals.Verdict.TheVariants as verdicts
+use Rattle.payload.specs.Results.{Verdict}
 use Rattle.payload.specs.Deferred.{begun_session, begun_by}
 use Rattle.payload.specs.Meant as payload_meant
 use Rattle.payload.specs.Refusals.{feed_judged, finish_judged}
 use Rattle.payload.specs.Session as payload
 use Rattle.header.specs.declared.Lead.{Lead}
-use Rattle.header.specs.declared.Led.{Led}
+use Rattle.header.specs.Results.{Led}
 use Rattle.header.specs.declared.Led.TheVariants as leds
 use Rattle.header.specs.Lead.{lead_from}
 use Rattle.header.specs.Settings.{settings_from}
@@ -41,7 +40,7 @@ use Rattle.dcs.specs.declared.Phase.TheVariants as phases
 use Rattle.dcs.specs.declared.Session as dcs_session
 use Rattle.dcs.specs.Meant as dcs_meant
 use Rattle.dcs.specs.Session as dcs
-use Rattle.explain.specs.declared.Explained.{Explained}
+use Rattle.explain.specs.Explained.{Explained}
 use Rattle.explain.specs.declared.dry.Led as dry_led
 use Rattle.explain.specs.Dry.{data_dry, argument_dry, step_dry_in, step_dry, then_dry, byte_dry, led_as, dry_from}
 use Rattle.explain.specs.Explained.{placeless_for, told_for, explained_in, part_explained, pending_explained, unless_judged, fed_explained_in, fed_explained}
@@ -91,8 +90,8 @@ fed-number s l bs from a = go (feed_judged s (length l) a)
   where
     go : (v : Verdict)
         → explained_number (unless_judged v (fed_explained_in s.life s bs from a)) ≡ answer_number (payload_meant.answer_meant (payload.fed_as v s l bs a).0.answer)
-    go verdicts.Fine = passed-number s.life s l bs from a
-    go (verdicts.Refused r) = refl
+    go (Ok tt) = passed-number s.life s l bs from a
+    go (Err r) = refl
 
 -- A feed's telling has the feed's number.
 pub payload-feed-same : (s : payload_session.Session) (l bs : List ℕ) (a : ℕ)
@@ -160,8 +159,8 @@ payload-finish-same s owner q l = go (finish_judged s (length l))
   where
     go : (v : Verdict) → explained_number (unless_judged v (pending_explained s.frame s.ground s.palette 0))
         ≡ finish_number (payload_meant.finish_meant (payload.finished_as v s owner l).0.answer q)
-    go verdicts.Fine = pending-number s.ground 0 s owner q l refl
-    go (verdicts.Refused r) = refl
+    go (Ok tt) = pending-number s.ground 0 s owner q l refl
+    go (Err r) = refl
 
 -- ---- a DCS session
 
@@ -186,10 +185,10 @@ closed-number s (b ∷ bs) n i =
 passed-on-number : (x : payload_answer.Answer) (s : dcs_session.Session) (bs : List ℕ) (n : ℕ)
     → answer_number (payload_meant.answer_meant x) ≡ answer_number (dcs_meant.answer_meant (dcs.passed_on x s bs n).answer)
 unfolding dcs.passed_on payload_meant.answer_meant dcs_meant.answer_meant answer_number
-passed-on-number (payload_answers.More c i) s bs n = refl
-passed-on-number (payload_answers.Stopped c i) s bs n = refl
-passed-on-number (payload_answers.Ended c i b) s bs n = closed-number s (drop c bs) (n + c) i
-passed-on-number (payload_answers.Refused r) s bs n = refl
+passed-on-number (Ok (payload_answers.More c i)) s bs n = refl
+passed-on-number (Ok (payload_answers.Stopped c i)) s bs n = refl
+passed-on-number (Ok (payload_answers.Ended c i b)) s bs n = closed-number s (drop c bs) (n + c) i
+passed-on-number (Err r) s bs n = refl
 
 -- where introducer and header led to
 begun-long : (s : payload_session.Session) (o : Settings) (l : List ℕ) → length (begun_by s o l).1 ≡ length l
@@ -199,16 +198,16 @@ begun-long s o l = by-test (leb 4 (length l)) (λ t. rw t (length-painted (span 
 led-number : (w : Led) (x : Lead) (s : dcs_session.Session) (l bs : List ℕ) (a : ℕ)
     → explained_number (led_explained w x s.payload (length l) bs a) ≡ answer_number (dcs_meant.answer_meant (dcs.led_to w x s l bs a).0.answer)
 unfolding led_explained dcs.led_to dcs.fed_payload begun_by told_for number_told explained_meant telling_meant answer_number dcs_meant.answer_meant
-led-number leds.On x s l bs a = refl
-led-number leds.Begins x s l bs a =
+led-number (Ok leds.On) x s l bs a = refl
+led-number (Ok leds.Begins) x s l bs a =
     let o : Settings = settings_from x.header in
     let us : List ℕ = drop x.consumed bs in
     ap (λ (k : ℕ). explained_number (fed_explained (begun_session s.payload o) k us x.consumed a)) (sym (begun-long s.payload o l))
     ∙ fed-number (begun_session s.payload o) (begun_by s.payload o l).1 us x.consumed a
     ∙ passed-on-number (payload.fed_by (begun_session s.payload o) (begun_by s.payload o l).1 us a).0.answer _ us x.consumed
-led-number (leds.Refused r) x s l bs a = refl
+led-number (Err r) x s l bs a = refl
 
-phase-number : (t : Phase) (s : dcs_session.Session) (l bs : List ℕ) (a : ℕ) → feed_judged s.payload (length l) a ≡ verdicts.Fine
+phase-number : (t : Phase) (s : dcs_session.Session) (l bs : List ℕ) (a : ℕ) → feed_judged s.payload (length l) a ≡ Ok tt
     → explained_number (dcs_feed_in t s (length l) bs a) ≡ answer_number (dcs_meant.answer_meant (dcs.fed_in t s l bs a).0.answer)
 unfolding dcs_feed_in lead_explained dcs.fed_in dcs.fed_lead dcs.fed_payload payload.fed_by number_told explained_meant
 phase-number (phases.Before t) s l bs a fine =
@@ -229,10 +228,10 @@ dcs-feed-same s l bs a = go (feed_judged s.payload (length l) a) refl
   where
     go : (v : Verdict) → feed_judged s.payload (length l) a ≡ v
         → explained_number (unless_judged v (dcs_feed_in s.phase s (length l) bs a)) ≡ answer_number (dcs_meant.answer_meant (dcs.fed_as v s l bs a).0.answer)
-    go verdicts.Fine e = phase-number s.phase s l bs a e
-    go (verdicts.Refused r) e = refl
+    go (Ok tt) e = phase-number s.phase s l bs a e
+    go (Err r) e = refl
 
-ending-number : (t : Phase) (s : dcs_session.Session) (owner q : Palette) (l : List ℕ) → finish_judged s.payload (length l) ≡ verdicts.Fine
+ending-number : (t : Phase) (s : dcs_session.Session) (owner q : Palette) (l : List ℕ) → finish_judged s.payload (length l) ≡ Ok tt
     → explained_number (dcs_finish_in t s.payload) ≡ finish_number (payload_meant.finish_meant (dcs.finished_in t s owner l).0.answer q)
 unfolding dcs_finish_in dcs.finished_in told_for number_told explained_meant telling_meant finish_number payload_meant.finish_meant payload.turned_away payload.finished_by
     payload.finished_as
@@ -253,5 +252,5 @@ dcs-finish-same s owner q l = go (finish_judged s.payload (length l)) refl
     go : (v : Verdict) → finish_judged s.payload (length l) ≡ v
         → explained_number (unless_judged v (dcs_finish_in s.phase s.payload))
         ≡ finish_number (payload_meant.finish_meant (dcs.finished_as v s owner l).0.answer q)
-    go verdicts.Fine e = ending-number s.phase s owner q l e
-    go (verdicts.Refused r) e = refl
+    go (Ok tt) e = ending-number s.phase s owner q l e
+    go (Err r) e = refl

@@ -1,5 +1,5 @@
 -- What is told of a payload session's feed and finish is what the definition tells.
-use Rattle.std.specs.Prelude.{◌≡◌, ℕ, ◌+◌, Bool, true, false, cond, List, [], ◌∷◌}
+use Rattle.std.specs.Prelude.{◌≡◌, ℕ, ◌+◌, Bool, true, false, cond, List, [], ◌∷◌, Ok, Err}
 use native.Mathlib.Nat.{sub-zero, add-zero}
 use native.Mathlib.Omega.{arith}
 use mathlib.Core.Bool.{true≢false}
@@ -23,14 +23,13 @@ use Rattle.meaning.specs.Tellings.{payload_feed_telling, payload_finish_telling}
 use Rattle.payload.specs.declared.Life.{Life}
 use Rattle.payload.specs.declared.Life.TheVariants as lives
 use Rattle.payload.specs.declared.Session.{Session}
-use Rattle.payload.specs.declared.refusals.Verdict.{Verdict}
-use Rattle.payload.specs.declared.refusals.Verdict.TheVariants as verdicts
+use Rattle.payload.specs.Results.{Verdict}
 use Rattle.payload.specs.History.{SameLife, Stands}
 use Rattle.payload.specs.Refusals.{is_failed, feed_judged, finish_judged}
 use Rattle.payload.proofs.Judgements.{judged_meant, misfit, failed-test, feed-judged, finish-judged}
 use Rattle.payload.proofs.RefusalLaws.{passes}
 use Rattle.dcs.proofs.Runs.{call_halts}
-use Rattle.explain.specs.declared.Explained.{Explained}
+use Rattle.explain.specs.Explained.{Explained}
 use Rattle.explain.specs.declared.dry.Led.{Led}
 use Rattle.explain.specs.Dry.{byte_dry, led_as, go_on_dry, dry_from}
 use Rattle.explain.specs.Explained.{placeless_for, explained_in, part_explained, pending_explained, unless_judged, fed_explained_in, fed_explained}
@@ -42,12 +41,12 @@ use Rattle.explain.proofs.PayloadTells.{told_of, call_of, first_of, told_if, cal
 -- ---- refusals before a byte is read
 
 -- a verdict's telling, or what comes after it
-pub judged-told : (v : Verdict) (later : Explained) (o : Option ℕ) (t : Option Telling) → judged_meant v ≡ o → (v ≡ verdicts.Fine → explained_meant later ≡ t)
+pub judged-told : (v : Verdict) (later : Explained) (o : Option ℕ) (t : Option Telling) → judged_meant v ≡ o → (v ≡ Ok tt → explained_meant later ≡ t)
     → explained_meant (unless_judged v later) ≡ elim o as (λ _. Option Telling) [ none ↦ t | some n ↦ some (placeless n) ]
 unfolding judged_meant unless_judged explained_meant placeless_for telling_meant place_meant need_meant placeless
-judged-told verdicts.Fine later o t e k =
+judged-told (Ok tt) later o t e k =
     subst (λ (o : Option ℕ). explained_meant later ≡ elim o as (λ _. Option Telling) [ none ↦ t | some n ↦ some (placeless n) ]) e (k refl)
-judged-told (verdicts.Refused n) later o t e k =
+judged-told (Err n) later o t e k =
     subst (λ (o : Option ℕ). some (placeless (number_of n)) ≡ elim o as (λ _. Option Telling) [ none ↦ t | some n ↦ some (placeless n) ]) e refl
 
 -- ---- bytes
@@ -110,7 +109,7 @@ module _ {opening : List ℕ} {s : Session} {l : List ℕ} {m : calls.Session Re
       ∙ ap₂ (λ (x y : ℕ). told_if (call_of m.setting x m.state bs).how (first_of m.setting y m.state bs)) (sub-zero a) (add-zero from)
 
   -- a session that passes 9, 12 and 13, whatever its life
-  pub passed-told : (a from size : ℕ) (bs : List ℕ) → feed_judged s size a ≡ verdicts.Fine
+  pub passed-told : (a from size : ℕ) (bs : List ℕ) → feed_judged s size a ≡ Ok tt
       → explained_meant (fed_explained_in s.life s bs from a) ≡ told_if (call_of m.setting a m.state bs).how (first_of m.setting from m.state bs)
   unfolding fed_explained_in explained_meant feed_judged is_failed
   passed-told a from size bs e = go s.life refl
@@ -134,7 +133,7 @@ module _ {opening : List ℕ} {s : Session} {l : List ℕ} {m : calls.Session Re
       judged-told (feed_judged s size a) (fed_explained_in s.life s bs 0 a) _ _ (feed-judged k size a) (passed-told a 0 size bs)
 
   -- the pending command, ended by a byte that ends the payload
-  pub pending-told : (size at : ℕ) → finish_judged s size ≡ verdicts.Fine
+  pub pending-told : (size at : ℕ) → finish_judged s size ≡ Ok tt
       → explained_meant (pending_explained s.frame s.ground s.palette at) ≡ pending_telling m.setting at m.state
   unfolding finish_judged
   pending-told size at e =

@@ -1,5 +1,5 @@
 -- What is told of reading all at once is what the definition tells.
-use Rattle.std.specs.Prelude.{◌≡◌, ℕ, suc, ◌+◌, ◌-◌, ◌*◌, ◌≤◌, true, false, eqb, List, [], ◌∷◌, length, drop}
+use Rattle.std.specs.Prelude.{◌≡◌, ℕ, suc, ◌+◌, ◌-◌, ◌*◌, ◌≤◌, true, false, eqb, List, [], ◌∷◌, length, drop, Some, None}
 use native.Mathlib.Nat.{add-zero, zero-add}
 use native.Mathlib.Numerals.{add-one}
 use native.Mathlib.Omega.{arith}
@@ -59,11 +59,9 @@ use Rattle.header.specs.Lead.{lead_byte, lead_on, lead_from}
 use Rattle.header.specs.Settings.{settings_from}
 use Rattle.header.proofs.HeaderLaws as headers
 use Rattle.header.proofs.HeaderLaws.{HeaderAgrees, header-agrees}
-use Rattle.oneshot.specs.declared.search.Start.{Start}
-use Rattle.oneshot.specs.declared.search.Start.TheVariants as starts
-use Rattle.oneshot.specs.Search.{start_from}
+use Rattle.oneshot.specs.Search.{Start, start_from}
 use Rattle.oneshot.proofs.FoundLaws.{start_meant, start-meant, StartWithin, start-within}
-use Rattle.explain.specs.declared.Explained.{Explained}
+use Rattle.explain.specs.Explained.{Explained}
 use Rattle.explain.specs.declared.dry.Led.{Led}
 use Rattle.explain.specs.Dry.{data_dry, argument_dry, step_dry_in, step_dry, then_dry, byte_dry, cost_of, led_as, go_on_dry, dry_from}
 use Rattle.explain.specs.Explained.{told_for, placeless_for, explained_in, part_explained, pending_explained, whole_in, whole_explained, started_explained}
@@ -318,12 +316,12 @@ module _ (l : Limits) (stride : ℕ) (opening : List ℕ) (owner : Palette) (ope
   start-told : (bs : List ℕ) (t : Start) → start_meant bs t ≡ after_introducer bs → StartWithin (length bs) t
       → explained_meant (found_explained t waits bs) ≡ told_by bs (after_introducer bs)
   unfolding found_explained headed_from start_meant no_settings parameters_meant given_meant
-  start-told bs (starts.At n) e h =
+  start-told bs (Some n) e h =
       let place : length bs - length (drop n bs) ≡ n = omega (arith, h, length-drop n bs) in
       header-told bs (drop n bs) n [] (numbers.opened 3) (read_none 3) refl (omega (arith, h, length-drop n bs))
       ∙ ap (λ (k : ℕ). header_telling setting owner k [] (drop n bs)) (sym place)
       ∙ ap (told_by bs) e
-  start-told bs starts.Nowhere e h = started-told no_settings bs 0 (omega arith) ∙ ap (told_by bs) e
+  start-told bs None e h = started-told no_settings bs 0 (omega arith) ∙ ap (told_by bs) e
 
   -- the whole input
   input-told : (bs : List ℕ) → explained_meant (input_explained waits bs) ≡ input_telling setting owner bs

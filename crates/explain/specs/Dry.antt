@@ -1,6 +1,6 @@
 -- What the code does with bytes, on its own records and the palette, where there is no canvas. The laws of proofs/DryLaws say that this is what
 -- the reference machine does, whatever the canvas holds.
-use Rattle.std.specs.Prelude.{ℕ, ◌+◌, ◌-◌, ◌*◌, Bool, cond, ◌&&◌, List, [], ◌∷◌, ◌==◌, count_ones, nat_lt}
+use Rattle.std.specs.Prelude.{ℕ, ◌+◌, ◌-◌, ◌*◌, Bool, cond, ◌&&◌, List, [], ◌∷◌, ◌==◌, count_ones, nat_lt, Result, Ok, Err}
 use Rattle.numbers.specs.Bytes.{skipped, digit, sixel, ends, semicolon}
 use Rattle.colours.specs.declared.Palette.{Palette}
 use Rattle.frame.specs.declared.Frame.{Frame}
@@ -10,8 +10,8 @@ use Rattle.frame.specs.declared.Kind.TheVariants as kinds
 use Rattle.frame.specs.declared.Outcome.{Outcome}
 use Rattle.frame.specs.declared.Outcome.TheVariants as outcomes
 use Rattle.frame.specs.declared.Progress.{Progress}
-use Rattle.frame.specs.declared.sizes.Needed.{Needed}
-use Rattle.frame.specs.declared.sizes.Needed.TheVariants.{Area, Refused}
+use Rattle.frame.specs.declared.Refusal.{Refusal}
+use Rattle.frame.specs.declared.VisibleArea.{VisibleArea}
 use Rattle.frame.specs.Sizes.{sixel_area}
 use Rattle.frame.specs.Commands.{with_command, by_digit, by_semicolon, unread_as, refused_as, Ended, ended}
 use Rattle.reference.specs.Step.{read_as, inked, own_of, takes_semicolon}
@@ -25,10 +25,10 @@ inked_dry f bits left w h =
     cond (nat_lt left (count_ones bits * f.pen.repeat)) (unread_as f outcomes.Stopped)
     (read_as (inked f bits w h) (count_ones bits * f.pen.repeat))
 
-unfoldable pub drawn_dry_in : Needed → Frame → ℕ → ℕ → Progress
+unfoldable pub drawn_dry_in : Result VisibleArea Refusal → Frame → ℕ → ℕ → Progress
 unfolding inked_dry
-drawn_dry_in (Area w h) f bits left = inked_dry f bits left w h
-drawn_dry_in (Refused r) f bits left = refused_as f r
+drawn_dry_in (Ok a) f bits left = inked_dry f bits left a.width a.height
+drawn_dry_in (Err r) f bits left = refused_as f r
 
 unfoldable pub drawn_dry : Frame → Ground → ℕ → ℕ → Progress
 unfolding drawn_dry_in

@@ -1,5 +1,5 @@
 -- What is told of a call, on the code's own records.
-use Rattle.std.specs.Prelude.{ℕ, ◌+◌, true, false, cond, List, [], ◌∷◌, length, drop}
+use Rattle.std.specs.Prelude.{ℕ, ◌+◌, true, false, cond, List, [], ◌∷◌, length, drop, Result, Ok, Err, Some, None}
 use Rattle.numbers.specs.Step as numbers
 use Rattle.colours.specs.declared.Palette.{Palette}
 use Rattle.colours.specs.Marks.{lasting}
@@ -14,13 +14,12 @@ use Rattle.payload.specs.declared.Life.{Life}
 use Rattle.payload.specs.declared.Life.TheVariants as lives
 use Rattle.payload.specs.declared.Session as payload_session
 use Rattle.payload.specs.declared.Settings.{Settings}
-use Rattle.payload.specs.declared.refusals.Verdict.{Verdict}
-use Rattle.payload.specs.declared.refusals.Verdict.TheVariants as verdicts
+use Rattle.payload.specs.Results.{Verdict}
 use Rattle.payload.specs.Deferred.{no_settings, begun_session}
 use Rattle.payload.specs.Refusals.{openable, feed_judged, finish_judged}
 use Rattle.payload.specs.Session.{session_for}
 use Rattle.header.specs.declared.Lead.{Lead}
-use Rattle.header.specs.declared.Led as header
+use Rattle.header.specs.Results as header
 use Rattle.header.specs.declared.Led.TheVariants as leds
 use Rattle.header.specs.declared.Place.{Place}
 use Rattle.header.specs.declared.Place.TheVariants as lead_places
@@ -30,32 +29,30 @@ use Rattle.dcs.specs.declared.Phase.{Phase}
 use Rattle.dcs.specs.declared.Phase.TheVariants as phases
 use Rattle.dcs.specs.declared.Session as dcs_session
 use Rattle.dcs.specs.Session.{end_judged}
-use Rattle.oneshot.specs.declared.search.Start.{Start}
-use Rattle.oneshot.specs.declared.search.Start.TheVariants as starts
-use Rattle.oneshot.specs.Search.{start_from}
-use Rattle.words.specs.declared.Need.{Need}
-use Rattle.words.specs.declared.Need.TheVariants as needs
-use Rattle.words.specs.declared.Place.TheVariants as places
-use Rattle.explain.specs.declared.Explained.{Explained}
-use Rattle.explain.specs.declared.Explained.TheVariants.{Fine, Refused}
+use Rattle.oneshot.specs.Search.{Start, start_from}
+use Rattle.words.specs.declared.Telling.{Telling}
 use Rattle.explain.specs.declared.dry.Led.{Led}
 use Rattle.explain.specs.Dry.{dry_from}
-use Rattle.explain.specs.Need.{largest, need_of}
+use Rattle.explain.specs.Need.{Need, largest, need_of}
 
 -- ---- what is told
 
+-- what is told of a call: nothing of one that is not refused
+abbrev pub Explained : Type 0
+Explained = Result (Unit {0}) Telling
+
 unfoldable pub placeless_for : Refusal → Explained
-placeless_for r = Refused (record { refusal = r; place = places.Nowhere; need = needs.Nothing })
+placeless_for r = Err (record { refusal = r; place = None; need = None })
 
 unfoldable pub told_for : ℕ → Refusal → Need → Explained
-told_for at r need = Refused (record { refusal = r; place = places.At at; need = need })
+told_for at r need = Err (record { refusal = r; place = Some at; need = need })
 
 -- where reading came to, with the place of the byte that it left unread
 unfoldable pub explained_in : Outcome → Frame → Ground → ℕ → Explained
 unfolding told_for
-explained_in outcomes.Read f g at = Fine
-explained_in outcomes.Stopped f g at = Fine
-explained_in (outcomes.Ended b) f g at = Fine
+explained_in outcomes.Read f g at = Ok tt
+explained_in outcomes.Stopped f g at = Ok tt
+explained_in (outcomes.Ended b) f g at = Ok tt
 explained_in (outcomes.Refused r) f g at = told_for at r (need_of f g)
 
 -- a payload's bytes that stand at a place
@@ -71,15 +68,15 @@ pending_explained f g p at = let l : Led = dry_from true g (0x1B ∷ []) 0 0 f p
 -- a refusal before a byte is read has no place
 unfoldable pub unless_judged : Verdict → Explained → Explained
 unfolding placeless_for
-unless_judged verdicts.Fine later = later
-unless_judged (verdicts.Refused r) later = placeless_for r
+unless_judged (Ok tt) later = later
+unless_judged (Err r) later = placeless_for r
 
 -- ---- a payload session
 
 unfoldable pub fed_explained_in : Life → payload_session.Session → List ℕ → ℕ → ℕ → Explained
 unfolding part_explained
 fed_explained_in lives.Live s bs from a = part_explained (dry_from true s.ground bs 0 a s.frame s.palette) s.ground from
-fed_explained_in (lives.Ended b) s bs from a = Fine
+fed_explained_in (lives.Ended b) s bs from a = Ok tt
 fed_explained_in lives.Failed s bs from a = part_explained (dry_from true s.ground bs 0 a s.frame s.palette) s.ground from
 
 -- a feed on a canvas of so many bytes, of bytes that stand at a place
@@ -100,10 +97,10 @@ payload_finish_explained s size = unless_judged (finish_judged s size) (pending_
 -- where introducer and header led to
 unfoldable pub led_explained : header.Led → Lead → payload_session.Session → ℕ → List ℕ → ℕ → Explained
 unfolding told_for fed_explained
-led_explained leds.On l s size bs a = Fine
-led_explained leds.Begins l s size bs a =
+led_explained (Ok leds.On) l s size bs a = Ok tt
+led_explained (Ok leds.Begins) l s size bs a =
     fed_explained (begun_session s (settings_from l.header)) size (drop l.consumed bs) l.consumed a
-led_explained (leds.Refused r) l s size bs a = told_for l.consumed r needs.Nothing
+led_explained (Err r) l s size bs a = told_for l.consumed r None
 
 unfoldable pub lead_explained : Place → dcs_session.Session → ℕ → List ℕ → ℕ → Explained
 unfolding led_explained
@@ -113,8 +110,8 @@ unfoldable pub dcs_feed_in : Phase → dcs_session.Session → ℕ → List ℕ 
 unfolding lead_explained fed_explained_in
 dcs_feed_in (phases.Before t) s size bs a = lead_explained t s size bs a
 dcs_feed_in phases.Within s size bs a = fed_explained_in s.payload.life s.payload bs 0 a
-dcs_feed_in phases.Escaped s size bs a = Fine
-dcs_feed_in (phases.Over e) s size bs a = Fine
+dcs_feed_in phases.Escaped s size bs a = Ok tt
+dcs_feed_in (phases.Over e) s size bs a = Ok tt
 
 unfoldable pub dcs_feed_explained : dcs_session.Session → ℕ → List ℕ → ℕ → Explained
 unfolding unless_judged dcs_feed_in
@@ -123,9 +120,9 @@ dcs_feed_explained s size bs a = unless_judged (feed_judged s.payload size a) (d
 -- 8 before the end
 unfoldable pub dcs_finish_in : Phase → payload_session.Session → Explained
 unfolding told_for pending_explained
-dcs_finish_in (phases.Before t) s = told_for 0 refusals.Unfinished needs.Nothing
-dcs_finish_in phases.Within s = told_for 0 refusals.Unfinished needs.Nothing
-dcs_finish_in phases.Escaped s = told_for 0 refusals.Unfinished needs.Nothing
+dcs_finish_in (phases.Before t) s = told_for 0 refusals.Unfinished None
+dcs_finish_in phases.Within s = told_for 0 refusals.Unfinished None
+dcs_finish_in phases.Escaped s = told_for 0 refusals.Unfinished None
 dcs_finish_in (phases.Over e) s = pending_explained s.frame s.ground s.palette 0
 
 unfoldable pub dcs_finish_explained : dcs_session.Session → ℕ → Explained
@@ -156,9 +153,9 @@ started_explained s o bs from =
 
 unfoldable pub headed_in : header.Led → Lead → payload_session.Session → List ℕ → Explained
 unfolding started_explained told_for
-headed_in leds.On l s bs = told_for l.consumed refusals.Unfinished needs.Nothing
-headed_in leds.Begins l s bs = started_explained s (settings_from l.header) bs l.consumed
-headed_in (leds.Refused r) l s bs = told_for l.consumed r needs.Nothing
+headed_in (Ok leds.On) l s bs = told_for l.consumed refusals.Unfinished None
+headed_in (Ok leds.Begins) l s bs = started_explained s (settings_from l.header) bs l.consumed
+headed_in (Err r) l s bs = told_for l.consumed r None
 
 -- a header that stands at a place
 unfoldable pub headed_from : ℕ → payload_session.Session → List ℕ → Explained
@@ -167,8 +164,8 @@ headed_from at s bs = let l : Lead = lead_from (drop at bs) at lead_places.Heade
 
 unfoldable pub found_explained : Start → payload_session.Session → List ℕ → Explained
 unfolding headed_from started_explained
-found_explained (starts.At n) s bs = headed_from n s bs
-found_explained starts.Nowhere s bs = started_explained s no_settings bs 0
+found_explained (Some n) s bs = headed_from n s bs
+found_explained None s bs = started_explained s no_settings bs 0
 
 unfoldable pub input_explained : payload_session.Session → List ℕ → Explained
 unfolding found_explained

@@ -1,18 +1,15 @@
 -- What the code's tellings mean, in the definition's terms. A refusal is known by its number (`number_of`).
-use Rattle.std.specs.Prelude.{ℕ}
+use Rattle.std.specs.Prelude as rust
+use Rattle.std.specs.Prelude.{ℕ, Ok, Err, Some, None}
 use Rattle.std.proofs.Math.Option.{Option, none, some}
 use Rattle.frame.specs.Numbers.{number_of}
 use Rattle.meaning.specs.Tellings as tellings
-use Rattle.words.specs.declared.Need.{Need}
-use Rattle.words.specs.declared.Need.TheVariants as needs
-use Rattle.words.specs.declared.Place.{Place}
-use Rattle.words.specs.declared.Place.TheVariants as places
 use Rattle.words.specs.declared.Shortage.{Shortage}
 use Rattle.words.specs.declared.Telling.{Telling}
 use Rattle.words.specs.declared.Thing.{Thing}
 use Rattle.words.specs.declared.Thing.TheVariants as things
-use Rattle.explain.specs.declared.Explained.{Explained}
-use Rattle.explain.specs.declared.Explained.TheVariants.{Fine, Refused}
+use Rattle.explain.specs.Explained.{Explained}
+use Rattle.explain.specs.Need.{Need}
 
 unfoldable pub thing_meant : Thing → tellings.Thing
 thing_meant things.Repeats = tellings.repeats
@@ -26,12 +23,12 @@ shortage_meant k = record { thing = thing_meant k.thing; needed = k.needed; more
 
 unfoldable pub need_meant : Need → Option tellings.Shortage
 unfolding shortage_meant
-need_meant needs.Nothing = none
-need_meant (needs.Short k) = some (shortage_meant k)
+need_meant None = none
+need_meant (Some k) = some (shortage_meant k)
 
-unfoldable pub place_meant : Place → Option ℕ
-place_meant places.Nowhere = none
-place_meant (places.At n) = some n
+unfoldable pub place_meant : rust.Option ℕ → Option ℕ
+place_meant None = none
+place_meant (Some n) = some n
 
 unfoldable pub telling_meant : Telling → tellings.Telling
 unfolding place_meant need_meant
@@ -40,5 +37,5 @@ telling_meant t = record { number = number_of t.refusal; place = place_meant t.p
 -- nothing is told of a call that is not refused
 unfoldable pub explained_meant : Explained → Option tellings.Telling
 unfolding telling_meant
-explained_meant Fine = none
-explained_meant (Refused t) = some (telling_meant t)
+explained_meant (Ok tt) = none
+explained_meant (Err t) = some (telling_meant t)

@@ -1,5 +1,5 @@
 -- What a refused byte needed, on the code's own records.
-use Rattle.std.specs.Prelude.{ℕ, ◌+◌, ◌*◌, ◌^◌, min, max, cond, nat_lt}
+use Rattle.std.specs.Prelude.{Option, Some, None, ℕ, ◌+◌, ◌*◌, ◌^◌, min, max, cond, nat_lt}
 use Rattle.frame.specs.declared.Frame.{Frame}
 use Rattle.frame.specs.declared.Ground.{Ground}
 use Rattle.frame.specs.declared.Kind.{Kind}
@@ -8,8 +8,6 @@ use Rattle.frame.specs.declared.Raster.{Raster}
 use Rattle.frame.specs.declared.VisibleArea.{VisibleArea}
 use Rattle.frame.specs.Commands.{raster_by, finished_of}
 use Rattle.meaning.specs.Tellings.{most_of_side, most_of_all}
-use Rattle.words.specs.declared.Need.{Need}
-use Rattle.words.specs.declared.Need.TheVariants as needs
 use Rattle.words.specs.declared.Shortage.{Shortage}
 use Rattle.words.specs.declared.Thing.{Thing}
 use Rattle.words.specs.declared.Thing.TheVariants as things
@@ -51,12 +49,16 @@ unfoldable pub repeat_short : Frame → Ground → Shortage
 unfolding short_of
 repeat_short f g = short_of most_of_all things.Repeats f.command.number g.limits.repeats
 
+-- what is told of a need: nothing, or what ran short
+abbrev pub Need : Type 0
+Need = Option Shortage
+
 unfoldable pub need_in : Kind → Frame → Ground → Need
 unfolding sixel_short repeat_short raster_short
-need_in kinds.Data f g = needs.Short (sixel_short f g)
-need_in kinds.Repeat f g = needs.Short (repeat_short f g)
-need_in kinds.Color f g = needs.Nothing
-need_in kinds.Raster f g = needs.Short (raster_short f g)
+need_in kinds.Data f g = Some (sixel_short f g)
+need_in kinds.Repeat f g = Some (repeat_short f g)
+need_in kinds.Color f g = None
+need_in kinds.Raster f g = Some (raster_short f g)
 
 unfoldable pub need_of : Frame → Ground → Need
 unfolding need_in

@@ -10,7 +10,7 @@ ghost use Rattle.dcs.specs.Session.{before, session_of};
 ghost use Rattle.explain.specs.Explained.{fed_explained, lead_explained, dcs_feed_in, dcs_feed_explained, dcs_finish_in, dcs_finish_explained};
 
 use crate::payload_session::{explain_fed, explain_passed};
-use crate::{Explained, explain_pending, placeless, told_at};
+use crate::{explain_pending, placeless, told_at};
 use dcs::Phase;
 use dcs::kernel::Core;
 use frame::Refusal;
@@ -19,9 +19,9 @@ use numbers::Parameters;
 use payload::deferred::start;
 use payload::kernel::Setup;
 use payload::kernel::opening::blank_frame;
-use payload::refusals::{Verdict, feed_refusal, finish_refusal};
+use payload::refusals::{feed_refusal, finish_refusal};
 use payload::{Life, Settings};
-use words::Need;
+use words::Telling;
 
 // The payload begins at a place of the bytes.
 fn explain_begun(
@@ -33,7 +33,7 @@ fn explain_begun(
     bytes: &[u8],
     from: usize,
     allowance: usize,
-) -> Explained
+) -> Result<(), Telling>
     requires { from ≤ length bytes.now }
     ensures { (f : Frame) → result ≡ fed_explained (begun_session (payload.over setup life f (of_table registers.now)) settings) size
         (drop from bytes.now) from allowance }
@@ -54,22 +54,21 @@ fn explain_lead(
     size: usize,
     bytes: &[u8],
     allowance: usize,
-) -> Explained
+) -> Result<(), Telling>
     ensures { (f : Frame) → result ≡ lead_explained place (before (payload.over setup life f (of_table registers.now)) header place) size
         bytes.now allowance }
 {
     let lead = read_lead(place, header, bytes, 0);
     let consumed = lead.consumed;
-    let led = lead.led;
-    match led {
-        Led::On => Explained::Fine,
-        Led::Begins => {
+    match lead.led {
+        Ok(Led::On) => Ok(()),
+        Ok(Led::Begins) => {
             let settings = settings_from(lead.header);
             explain_begun(
                 setup, life, settings, registers, size, bytes, consumed, allowance,
             )
         }
-        Led::Refused(refusal) => told_at(consumed, refusal, Need::Nothing),
+        Err(refusal) => told_at(consumed, refusal, None),
     }
 }
 
@@ -80,16 +79,14 @@ pub fn explain_feed(
     size: usize,
     bytes: &[u8],
     allowance: usize,
-) -> Explained
+) -> Result<(), Telling>
     ensures { result ≡ dcs_feed_explained (over core (of_table registers.now)) size bytes.now allowance }
 {
     let life = core.life;
-    let verdict = feed_refusal(core.setup, life, core.frame, size, allowance);
-    if let Verdict::Refused(refusal) = verdict {
+    if let Err(refusal) = feed_refusal(core.setup, life, core.frame, size, allowance) {
         return placeless(refusal);
     }
-    let phase = core.phase;
-    match phase {
+    match core.phase {
         Phase::Before(place) => explain_lead(
             core.setup,
             life,
@@ -103,23 +100,20 @@ pub fn explain_feed(
         Phase::Within => explain_passed(
             core.setup, life, core.frame, registers, bytes, 0, allowance,
         ),
-        Phase::Escaped => Explained::Fine,
-        Phase::Over(_) => Explained::Fine,
+        Phase::Escaped => Ok(()),
+        Phase::Over(_) => Ok(()),
     }
 }
 
 // A finish. It is given no byte, and its place is 0: where the bytes before it end.
-pub fn explain_finish(core: Core, registers: &[u32; 256], size: usize) -> Explained
+pub fn explain_finish(core: Core, registers: &[u32; 256], size: usize) -> Result<(), Telling>
     ensures { result ≡ dcs_finish_explained (over core (of_table registers.now)) size }
 {
-    let life = core.life;
-    let verdict = finish_refusal(core.setup, life, core.frame, size);
-    if let Verdict::Refused(refusal) = verdict {
+    if let Err(refusal) = finish_refusal(core.setup, core.life, core.frame, size) {
         return placeless(refusal);
     }
-    let phase = core.phase;
-    if let Phase::Over(_) = phase {
+    if let Phase::Over(_) = core.phase {
         return explain_pending(core.frame, core.setup.ground, registers, 0);
     }
-    told_at(0, Refusal::Unfinished, Need::Nothing)
+    told_at(0, Refusal::Unfinished, None)
 }

@@ -6,7 +6,6 @@ pub mod dcs_session;
 mod dry;
 mod need;
 pub mod payload_session;
-mod pending;
 pub mod whole;
 
 ghost use Rattle.std.specs.Prelude.{◌≡◌, ◌+◌, ◌≤◌, true, length, drop};
@@ -17,42 +16,35 @@ ghost use Rattle.explain.specs.Explained.{placeless_for, told_for, explained_in,
 use dry::read_on;
 use frame::{Frame, Ground, Outcome, Refusal};
 use need::need_of;
-use words::{Need, Place, Telling};
+use words::{Shortage, Telling};
 
-// What is told of a call: nothing of one that is not refused.
-#[derive(Clone, Copy)]
-pub enum Explained {
-    Fine,
-    Refused(Telling),
-}
-
-fn placeless(refusal: Refusal) -> Explained
+fn placeless(refusal: Refusal) -> Result<(), Telling>
     ensures { result ≡ placeless_for refusal }
 {
-    Explained::Refused(Telling {
+    Err(Telling {
         refusal,
-        place: Place::Nowhere,
-        need: Need::Nothing,
+        place: None,
+        need: None,
     })
 }
 
-fn told_at(at: usize, refusal: Refusal, need: Need) -> Explained
+fn told_at(at: usize, refusal: Refusal, need: Option<Shortage>) -> Result<(), Telling>
     ensures { result ≡ told_for at refusal need }
 {
-    Explained::Refused(Telling {
+    Err(Telling {
         refusal,
-        place: Place::At(at),
+        place: Some(at),
         need,
     })
 }
 
 // Where reading came to, with the place of the byte that it left unread.
-fn explain_outcome(outcome: Outcome, frame: Frame, ground: Ground, at: usize) -> Explained
+fn explain_outcome(outcome: Outcome, frame: Frame, ground: Ground, at: usize) -> Result<(), Telling>
     ensures { result ≡ explained_in outcome frame ground at }
 {
     match outcome {
         Outcome::Refused(refusal) => told_at(at, refusal, need_of(frame, ground)),
-        _ => Explained::Fine,
+        _ => Ok(()),
     }
 }
 
@@ -64,7 +56,7 @@ fn explain_part(
     bytes: &[u8],
     from: usize,
     allowance: usize,
-) -> Explained
+) -> Result<(), Telling>
     requires { from ≤ length bytes.now }
     ensures { result ≡ part_explained (dry_from true ground (drop from bytes.now) 0 allowance frame (of_table registers.now))
         ground from }
@@ -72,19 +64,22 @@ fn explain_part(
     let part = &bytes[from..];
     let mut colors = *registers;
     let led = read_on(frame, ground, &mut colors, part, true, allowance);
-    let outcome = led.outcome;
-    explain_outcome(outcome, led.frame, ground, from + led.consumed)
+    explain_outcome(led.outcome, led.frame, ground, from + led.consumed)
 }
 
 // A byte that ends a payload.
 const ENDING: u8 = 0x1B;
 
 // The pending command at a finish, with the place of the end: a byte that ends the payload ends it.
-fn explain_pending(frame: Frame, ground: Ground, registers: &[u32; 256], at: usize) -> Explained
+fn explain_pending(
+    frame: Frame,
+    ground: Ground,
+    registers: &[u32; 256],
+    at: usize,
+) -> Result<(), Telling>
     ensures { result ≡ pending_explained frame ground (of_table registers.now) at }
 {
     let mut colors = *registers;
     let led = read_on(frame, ground, &mut colors, &[ENDING], true, 0);
-    let outcome = led.outcome;
-    explain_outcome(outcome, led.frame, ground, at)
+    explain_outcome(led.outcome, led.frame, ground, at)
 }

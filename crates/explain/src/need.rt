@@ -1,39 +1,31 @@
 // What a refused byte needed (rule 5.10), from the frame that the refusal left: the pending command is the refused one, and where none is
 // pending it is the next sixel.
-ghost use Rattle.std.specs.Prelude.{◌≡◌, ◌+◌, min};
-ghost use Rattle.explain.specs.Need.{largest, short_of, pixels_short, size_short, sixel_short, raster_short, repeat_short, need_of};
+ghost use Rattle.std.specs.Prelude.{◌≡◌};
+ghost use Rattle.explain.specs.Need.{short_of, pixels_short, size_short, sixel_short, raster_short, repeat_short, need_of};
 
 use frame::rasters::raster_after;
-use frame::sizes::{exceeds, larger, reaches};
+use frame::sizes::exceeds;
 use frame::{Frame, Ground, Kind, VisibleArea};
-use words::{Need, Shortage, Thing};
+use words::{Shortage, Thing};
 
 // The largest side and the largest number of all that a setting can allow: what is above them is told as more than them.
 const MOST_OF_SIDE: usize = 1_000_000;
 
 const MOST_OF_ALL: usize = 1_000_000_000_000;
 
-const LARGEST: usize = 18_446_744_073_709_551_615;
-
+#[tactic(auto, unfolding(crate::specs::Need::short_of))]
 fn short(most: usize, thing: Thing, n: usize, allowed: usize) -> Shortage
     ensures { result ≡ short_of most thing n allowed }
 {
-    if most < n {
-        return Shortage {
-            needed: most as u64,
-            allowed: allowed as u64,
-            thing,
-            more: true,
-        };
-    }
     Shortage {
-        needed: n as u64,
+        needed: n.min(most) as u64,
         allowed: allowed as u64,
         thing,
-        more: false,
+        more: most < n,
     }
 }
 
+#[tactic(auto, unfolding(crate::specs::Need::pixels_short, crate::specs::Need::short_of))]
 fn pixels_short(width: usize, height: usize, allowed: usize) -> Shortage
     ensures { result ≡ pixels_short width height allowed }
 {
@@ -49,6 +41,7 @@ fn pixels_short(width: usize, height: usize, allowed: usize) -> Shortage
 }
 
 // The first of the limits and the canvas's sides that a size is above, in the order of rule 4.2.
+#[tactic(auto, unfolding(crate::specs::Need::size_short))]
 fn size_short(area: VisibleArea, ground: Ground, width: usize, height: usize) -> Shortage
     ensures { result ≡ size_short area ground width height }
 {
@@ -59,8 +52,8 @@ fn size_short(area: VisibleArea, ground: Ground, width: usize, height: usize) ->
     if limits.height < height {
         return short(MOST_OF_SIDE, Thing::Rows, height, limits.height);
     }
-    let wide = larger(area.width, width);
-    let high = larger(area.height, height);
+    let wide = area.width.max(width);
+    let high = area.height.max(height);
     if exceeds(wide, high, limits.pixels) {
         return pixels_short(wide, high, limits.pixels);
     }
@@ -70,37 +63,29 @@ fn size_short(area: VisibleArea, ground: Ground, width: usize, height: usize) ->
     short(MOST_OF_SIDE, Thing::Rows, height, ground.rows)
 }
 
-// A sum, held at the largest number.
-fn held_sum(from: usize, count: usize) -> usize
-    ensures { result ≡ min (from + count) largest }
-{
-    if reaches(from, count, LARGEST) {
-        return from + count;
-    }
-    LARGEST
-}
-
+#[tactic(auto, unfolding(crate::specs::Need::sixel_short))]
 fn sixel_short(frame: Frame, ground: Ground) -> Shortage
     ensures { result ≡ sixel_short frame ground }
 {
-    let width = held_sum(frame.pen.column, frame.pen.repeat);
-    let height = held_sum(frame.pen.row, 6);
+    let width = frame.pen.column.saturating_add(frame.pen.repeat);
+    let height = frame.pen.row.saturating_add(6);
     size_short(frame.area, ground, width, height)
 }
 
+#[tactic(auto, unfolding(crate::specs::Need::raster_short, frame::specs::Commands::finished_of))]
 fn raster_short(frame: Frame, ground: Ground) -> Shortage
     ensures { result ≡ raster_short frame ground }
 {
-    let parameters = frame.command.parameters;
-    let raster = raster_after(frame.raster, parameters.finish());
+    let raster = raster_after(frame.raster, frame.command.parameters.finish());
     size_short(
         frame.area,
         ground,
-        larger(1, raster.width),
-        larger(1, raster.height),
+        raster.width.max(1),
+        raster.height.max(1),
     )
 }
 
+#[tactic(auto, unfolding(crate::specs::Need::repeat_short))]
 fn repeat_short(frame: Frame, ground: Ground) -> Shortage
     ensures { result ≡ repeat_short frame ground }
 {
@@ -109,15 +94,14 @@ fn repeat_short(frame: Frame, ground: Ground) -> Shortage
 }
 
 // What the command or the sixel needed for which a frame was refused.
-pub fn need_of(frame: Frame, ground: Ground) -> Need
+#[tactic(auto, unfolding(crate::specs::Need::need_of, crate::specs::Need::need_in))]
+pub fn need_of(frame: Frame, ground: Ground) -> Option<Shortage>
     ensures { result ≡ need_of frame ground }
 {
-    let command = frame.command;
-    let kind = command.kind;
-    match kind {
-        Kind::Data => Need::Short(sixel_short(frame, ground)),
-        Kind::Repeat => Need::Short(repeat_short(frame, ground)),
-        Kind::Color => Need::Nothing,
-        Kind::Raster => Need::Short(raster_short(frame, ground)),
+    match frame.command.kind {
+        Kind::Data => Some(sixel_short(frame, ground)),
+        Kind::Repeat => Some(repeat_short(frame, ground)),
+        Kind::Color => None,
+        Kind::Raster => Some(raster_short(frame, ground)),
     }
 }

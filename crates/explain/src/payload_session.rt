@@ -4,11 +4,12 @@ ghost use Rattle.colours.specs.Palette.{of_table};
 ghost use Rattle.payload.specs.Core.{over};
 ghost use Rattle.explain.specs.Explained.{fed_explained_in, fed_explained, payload_feed_explained, payload_finish_explained};
 
-use crate::{Explained, explain_part, explain_pending, placeless};
+use crate::{explain_part, explain_pending, placeless};
 use frame::Frame;
 use payload::Life;
 use payload::kernel::Setup;
-use payload::refusals::{Verdict, feed_refusal, finish_refusal};
+use payload::refusals::{feed_refusal, finish_refusal};
+use words::Telling;
 
 // A feed that 9, 12 and 13 do not refuse, of the bytes from a place on.
 pub(crate) fn explain_passed(
@@ -19,12 +20,12 @@ pub(crate) fn explain_passed(
     bytes: &[u8],
     from: usize,
     allowance: usize,
-) -> Explained
+) -> Result<(), Telling>
     requires { from ≤ length bytes.now }
     ensures { result ≡ fed_explained_in life (over setup life frame (of_table registers.now)) (drop from bytes.now) from allowance }
 {
     if let Life::Ended(_) = life {
-        return Explained::Fine;
+        return Ok(());
     }
     explain_part(frame, setup.ground, registers, bytes, from, allowance)
 }
@@ -39,12 +40,11 @@ pub(crate) fn explain_fed(
     bytes: &[u8],
     from: usize,
     allowance: usize,
-) -> Explained
+) -> Result<(), Telling>
     requires { from ≤ length bytes.now }
     ensures { result ≡ fed_explained (over setup life frame (of_table registers.now)) size (drop from bytes.now) from allowance }
 {
-    let verdict = feed_refusal(setup, life, frame, size, allowance);
-    if let Verdict::Refused(refusal) = verdict {
+    if let Err(refusal) = feed_refusal(setup, life, frame, size, allowance) {
         return placeless(refusal);
     }
     explain_passed(setup, life, frame, registers, bytes, from, allowance)
@@ -59,7 +59,7 @@ pub fn explain_feed(
     size: usize,
     bytes: &[u8],
     allowance: usize,
-) -> Explained
+) -> Result<(), Telling>
     ensures { result ≡ payload_feed_explained (over setup life frame (of_table registers.now)) size bytes.now allowance }
 {
     explain_fed(setup, life, frame, registers, size, bytes, 0, allowance)
@@ -72,11 +72,10 @@ pub fn explain_finish(
     frame: Frame,
     registers: &[u32; 256],
     size: usize,
-) -> Explained
+) -> Result<(), Telling>
     ensures { result ≡ payload_finish_explained (over setup life frame (of_table registers.now)) size }
 {
-    let verdict = finish_refusal(setup, life, frame, size);
-    if let Verdict::Refused(refusal) = verdict {
+    if let Err(refusal) = finish_refusal(setup, life, frame, size) {
         return placeless(refusal);
     }
     explain_pending(frame, setup.ground, registers, 0)

@@ -7,18 +7,18 @@ ghost use Rattle.payload.specs.Core.{over};
 ghost use Rattle.explain.specs.Explained.{whole_explained, started_explained, headed_from, input_explained, read_explained_on, read_explained};
 
 use crate::dry::read_on;
-use crate::{Explained, explain_outcome, explain_pending, placeless, told_at};
+use crate::{explain_outcome, explain_pending, placeless, told_at};
 use colours::marks::begin;
 use frame::{Frame, Ground, Limits, Outcome, Refusal};
 use header::{Led, Place, read_lead, settings_from};
 use numbers::Parameters;
-use oneshot::search::{Start, header_start};
+use oneshot::search::header_start;
 use payload::deferred::{reserve, start};
 use payload::kernel::Setup;
 use payload::kernel::opening::blank_frame;
 use payload::refusals::may_open;
 use payload::{Settings, no_settings};
-use words::Need;
+use words::Telling;
 
 const LARGEST: usize = 18_446_744_073_709_551_615;
 
@@ -29,7 +29,7 @@ fn explain_payload(
     registers: &[u32; 256],
     bytes: &[u8],
     from: usize,
-) -> Explained
+) -> Result<(), Telling>
     requires { from ≤ length bytes.now }
     ensures { result ≡ whole_explained frame ground (of_table registers.now) (drop from bytes.now) from (length bytes.now) }
 {
@@ -50,7 +50,7 @@ fn explain_started(
     registers: &[u32; 256],
     bytes: &[u8],
     from: usize,
-) -> Explained
+) -> Result<(), Telling>
     requires { from ≤ length bytes.now }
     ensures { (life : Life) (f : Drawn.Frame)
         → result ≡ started_explained (over setup life f (of_table registers.now)) settings bytes.now from }
@@ -62,29 +62,33 @@ fn explain_started(
 }
 
 // A header that begins at a place. One without `q` is 8.
-fn explain_header(setup: Setup, registers: &[u32; 256], bytes: &[u8], at: usize) -> Explained
+fn explain_header(
+    setup: Setup,
+    registers: &[u32; 256],
+    bytes: &[u8],
+    at: usize,
+) -> Result<(), Telling>
     ensures { (life : Life) (f : Drawn.Frame) → result ≡ headed_from at (over setup life f (of_table registers.now)) bytes.now }
 {
     let lead = read_lead(Place::Header, Parameters::new(3), bytes, at);
     let consumed = lead.consumed;
-    let led = lead.led;
-    match led {
-        Led::On => told_at(consumed, Refusal::Unfinished, Need::Nothing),
-        Led::Begins => {
+    match lead.led {
+        Ok(Led::On) => told_at(consumed, Refusal::Unfinished, None),
+        Ok(Led::Begins) => {
             let settings = settings_from(lead.header);
             explain_started(setup, settings, registers, bytes, consumed)
         }
-        Led::Refused(refusal) => told_at(consumed, refusal, Need::Nothing),
+        Err(refusal) => told_at(consumed, refusal, None),
     }
 }
 
 // Without an introducer the whole input is payload, with no parameters.
-fn explain_input(setup: Setup, registers: &[u32; 256], bytes: &[u8]) -> Explained
+fn explain_input(setup: Setup, registers: &[u32; 256], bytes: &[u8]) -> Result<(), Telling>
     ensures { (life : Life) (f : Drawn.Frame) → result ≡ input_explained (over setup life f (of_table registers.now)) bytes.now }
 {
     match header_start(bytes) {
-        Start::At(at) => explain_header(setup, registers, bytes, at),
-        Start::Nowhere => explain_started(setup, no_settings(), registers, bytes, 0),
+        Some(at) => explain_header(setup, registers, bytes, at),
+        None => explain_started(setup, no_settings(), registers, bytes, 0),
     }
 }
 
@@ -95,7 +99,7 @@ fn explain_on(
     size: usize,
     registers: &[u32; 256],
     bytes: &[u8],
-) -> Explained
+) -> Result<(), Telling>
     ensures { result ≡ read_explained_on limits stride size (of_table registers.now) bytes.now }
 {
     if may_open(limits, stride, size) {
@@ -112,7 +116,7 @@ pub fn explain_read(
     size: usize,
     palette: &[u32; 256],
     bytes: &[u8],
-) -> Explained
+) -> Result<(), Telling>
     ensures { result ≡ read_explained limits stride size (of_table palette.now) bytes.now }
 {
     let mut registers = *palette;

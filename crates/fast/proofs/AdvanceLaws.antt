@@ -28,8 +28,7 @@ use Rattle.fast.specs.declared.argument.Number.{Number}
 use Rattle.fast.specs.declared.argument.Definition.{Definition}
 use Rattle.fast.specs.declared.Advance.{Advance}
 use Rattle.fast.specs.declared.drawn.Drawn.{Drawn}
-use Rattle.frame.specs.declared.sizes.Needed.TheVariants.{Area}
-use Rattle.frame.specs.Sizes.{sixel_area}
+use Rattle.frame.specs.Sizes.{sized, sixel_area}
 use Rattle.frame.specs.Commands.{with_command, begun, no_command, settled_as, with_repeat, repeat_ended, defined_by, redefined_by, register_in, with_color, palette_after, color_ended_by, finished_of, Ended, ended_in, ended}
 use Rattle.frame.specs.Commands.{held_by, held_in, defining_by, more_held}
 use Rattle.reference.specs.Step.{Fits, Holds, read_as, area_grown, inked, canvas_after, moved_to, row_ceiling, own_of, takes_semicolon, settled_step, argument_step, step_in, step_of}
@@ -78,7 +77,7 @@ module _ {r : Advance} (f : Frame) (g : Ground) (bytes : List ℕ) (i left : ℕ
 -- a sixel, as often as it is repeated
 module _ (f : Frame) (g : Ground) (bytes : List ℕ) (i w h : ℕ) (p : Palette) (l : List ℕ) (fits : Fits f g (length l)) (holds : Holds f g w h)
     (none : f.command.kind ≡ kinds.Data) (more : i < length bytes) (six : sixel (get_or bytes i 0) ≡ true)
-    (area : sixel_area f.pen f.area g ≡ Area w h) where
+    (area : sixel_area f.pen f.area g ≡ sized w h) where
   sixel-step : {l₂ : List ℕ} (left : ℕ) → ones (get_or bytes i 0 - 63) * f.pen.repeat ≤ left → l₂ ≡ canvas_after f g (get_or bytes i 0 - 63) w h l
       → step_of f g (get_or bytes i 0) left p l
       ≡ record { progress = read_as (inked f (get_or bytes i 0 - 63) w h) (ones (get_or bytes i 0 - 63) * f.pen.repeat); palette = p; canvas = l₂ }
@@ -292,10 +291,6 @@ pub settled-fits : {now : Frame} (next : Frame) (g : Ground) (room : ℕ) → no
 unfolding with_command no_command
 settled-fits next g room here fits =
     rw here (record { rows = fits.rows; width = fits.width; height = fits.height }, refl)
-
--- none of them
-pub none-drawn {ℓ} : {P : Type ℓ} {r : Drawn} → r ≡ record { repeat = 0; at = 0; said = false } → 1 ≤ r.repeat → P
-none-drawn e some = let none = ap (λ (d : Drawn). d.repeat) e in absurd (let z : 1 ≤ 0 = rw none at some in omega (arith, z))
 
 module _ {now : Frame} {d : Drawn} (f : Frame) (g : Ground) (bytes : List ℕ) (i room : ℕ) (fits : Fits f g room) (none : f.command.kind ≡ kinds.Data)
     (more : i < length bytes) (draws : Draws f.pen bytes i g.limits.repeats d) (here : now ≡ drawing_of f d) where

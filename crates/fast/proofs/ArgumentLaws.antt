@@ -3,10 +3,10 @@ use Prim.Native.Nat.{ℕ, ◌+◌, ◌-◌, ◌*◌, ◌≤◌, ◌<◌, min}
 use mathlib.Core.Bool.{Bool, true, false, ◌&&◌}
 use mathlib.Core.List.{List, ◌∷◌}
 use mathlib.Core.Path.{◌≡◌, refl, sym, ap, ◌∙◌, subst}
-use native.Mathlib.Nat.{add-zero, not-suc-le-zero}
+use native.Mathlib.Nat.{add-zero}
 use native.Mathlib.Numerals.{add-one}
 use native.Mathlib.Omega.{arith}
-use borrow.Author.Tests.{eq-eqb, ne_eqb, eqb-true, leb-true}
+use borrow.Author.Tests.{ne_eqb, eqb-true, leb-true}
 use lib.Dec.{leb, eqb}
 use lib.ListN.{length, get_or, drop}
 use lib.Seq.{drop-cons}
@@ -127,25 +127,8 @@ written-more {n} {end} bytes i w more t few =
 
 -- ---- the paths through the functions of `argument`
 
-pub none_written {ℓ} : {X : Type ℓ} {r : Number} → r ≡ record { value = 0; end = 0 } → 1 ≤ r.end → X
-none_written e h = absurd (not-suc-le-zero (rw e at h))
-
-pub none-defined {ℓ} : {X : Type ℓ} {r : Definition} → r ≡ record { first = 0; space = 0; x = 0; y = 0; z = 0; end = 0 } → 1 ≤ r.end → X
-none-defined e h = absurd (not-suc-le-zero (rw e at h))
-
-pub closing-digit : {t : Bool} (b : ℕ) → t ≡ digit b → t ≡ true → false ≡ closing b
-unfolding closing
-closing-digit b e h = sym (cond_yes _ _ (sym e ∙ h))
-
-pub closing-skipped : {s t : Bool} (b : ℕ) → s ≡ digit b → s ≡ false → t ≡ skipped b → t ≡ true → false ≡ closing b
-unfolding closing
-closing-skipped b e h k m = sym (cond_no _ _ (sym e ∙ h) ∙ cond_yes _ _ (sym k ∙ m))
-
-pub closing-semicolon : {s t : Bool} (b : ℕ) → s ≡ digit b → s ≡ false → t ≡ skipped b → t ≡ false → b ≡ semicolon → false ≡ closing b
-unfolding closing
-closing-semicolon b e h k m q = sym (cond_no _ _ (sym e ∙ h) ∙ cond_no _ _ (sym k ∙ m) ∙ cond_yes _ _ (eq-eqb _ _ q))
-
-pub closing-other : {s t : Bool} (b : ℕ) → s ≡ digit b → s ≡ false → t ≡ skipped b → t ≡ false → (b ≡ semicolon → ⊥) → true ≡ closing b
+-- what is no digit, is not skipped and is no `;` ends an argument
+closing-other : {s t : Bool} (b : ℕ) → s ≡ digit b → s ≡ false → t ≡ skipped b → t ≡ false → (b ≡ semicolon → ⊥) → true ≡ closing b
 unfolding closing
 closing-other b e h k m q = sym (cond_no _ _ (sym e ∙ h) ∙ cond_no _ _ (sym k ∙ m) ∙ cond_no _ _ (ne_eqb _ _ q))
 
@@ -167,8 +150,6 @@ closing-sixel b t =
     (λ w. omega (arith, eqb-true b 0x7F w)))))
     in
     sym (closing-other b refl no_digit refl no-skip (λ e. omega (arith, e)))
-
-pub ruleset closings = (closing-digit, closing-skipped, closing-semicolon, closing-other)
 
 -- a number that is followed by `;`
 pub written-parted : {r : Number} (bytes : List ℕ) (i : ℕ) → Written bytes i r → r.end < length bytes → get_or bytes r.end 0 ≡ semicolon

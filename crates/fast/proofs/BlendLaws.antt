@@ -16,7 +16,6 @@ use Rattle.canvas.specs.Paint.{painted, sixel_painted}
 use Rattle.canvas.proofs.Bytes.{replaced-alike, replaced-none, painted-none, painted_same, painted-both}
 use Rattle.canvas.proofs.Covers.{and_right, or_left, or_right, or_case, same_test, by-test, no_test, span-low, span-high}
 use Rattle.canvas.proofs.Grid.{first_rows, sixel-none, sixel-on, sixel-off}
-use Rattle.fast.specs.declared.blend.Four.{Four}
 use Rattle.fast.specs.Blend.{four_at, blended, blended_across, four_painted}
 
 -- byte j of a pixel's four
@@ -76,14 +75,14 @@ unfolding blended
 blended-under at bit cover px l = by-test (eqb bit 1) (λ t. rw t (painted-turned cover (span at (at + 1)) px l)) (λ t. rw t)
 
 -- the canvas with the first rows of four sixels painted
-unfoldable pub four_rows : ℕ → ℕ → ℕ → ℕ → Four → List ℕ → List ℕ → List ℕ
+unfoldable pub four_rows : ℕ → ℕ → ℕ → ℕ → List ℕ → List ℕ → List ℕ → List ℕ
 four_rows stride column row k four px l =
-    painted (grid stride (first_rows k (column + 3) row 1 four.d)) px
-    (painted (grid stride (first_rows k (column + 2) row 1 four.c)) px
-    (painted (grid stride (first_rows k (column + 1) row 1 four.b)) px (painted (grid stride (first_rows k column row 1 four.a)) px l)))
+    painted (grid stride (first_rows k (column + 3) row 1 (get_or four 3 0))) px
+    (painted (grid stride (first_rows k (column + 2) row 1 (get_or four 2 0))) px
+    (painted (grid stride (first_rows k (column + 1) row 1 (get_or four 1 0))) px (painted (grid stride (first_rows k column row 1 (get_or four 0 0))) px l)))
 
-module _ (stride column row k : ℕ) (four rest : Four) (px : List ℕ) (ra : rest.a ≡ four.a / 2 ^ k) (rb : rest.b ≡ four.b / 2 ^ k)
-    (rc : rest.c ≡ four.c / 2 ^ k) (rd : rest.d ≡ four.d / 2 ^ k) (room : column + 4 ≤ stride) where
+module _ (stride column row k : ℕ) (four rest : List ℕ) (px : List ℕ) (ra : (get_or rest 0 0) ≡ (get_or four 0 0) / 2 ^ k) (rb : (get_or rest 1 0) ≡ (get_or four 1 0) / 2 ^ k)
+    (rc : (get_or rest 2 0) ≡ (get_or four 2 0) / 2 ^ k) (rd : (get_or rest 3 0) ≡ (get_or four 3 0) / 2 ^ k) (room : column + 4 ≤ stride) where
   abbrev first : ℕ
   first = (row + k) * stride + column
 
@@ -103,40 +102,40 @@ module _ (stride column row k : ℕ) (four rest : Four) (px : List ℕ) (ra : re
   across : (l : List ℕ) → blended_across first rest px (four_rows stride column row k four px l) ≡ four_rows stride column row (k + 1) four px l
   unfolding blended_across four_rows
   across l =
-      let d : ℕ → Bool = rows (column + 3) four.d in
-      let c : ℕ → Bool = rows (column + 2) four.c in
-      let b : ℕ → Bool = rows (column + 1) four.b in
-      let a : List ℕ = painted (rows column four.a) px l in
-      let a' : List ℕ = more column four.a l in
-      let b' : List ℕ = more (column + 1) four.b a' in
-      let c' : List ℕ = more (column + 2) four.c b' in
-      ap (λ (m : List ℕ). blended (first + 3) (rest.d % 2) px (blended (first + 2) (rest.c % 2) px (blended (first + 1) (rest.b % 2) px m)))
-      (blended-under first (rest.a % 2) d px (painted c px (painted b px a))
-      ∙ ap (painted d px) (blended-under first (rest.a % 2) c px (painted b px a)
-      ∙ ap (painted c px) (blended-under first (rest.a % 2) b px a
-      ∙ ap (painted b px) (blended-more stride column row four.a rest.a k px l ra (omega arith) refl refl))))
-      ∙ ap (λ (m : List ℕ). blended (first + 3) (rest.d % 2) px (blended (first + 2) (rest.c % 2) px m))
-      (blended-under (first + 1) (rest.b % 2) d px (painted c px (painted b px a'))
-      ∙ ap (painted d px) (blended-under (first + 1) (rest.b % 2) c px (painted b px a')
-      ∙ ap (painted c px) (one_more 1 four.b rest.b a' (omega arith) rb)))
-      ∙ ap (λ (m : List ℕ). blended (first + 3) (rest.d % 2) px m)
-      (blended-under (first + 2) (rest.c % 2) d px (painted c px b') ∙ ap (painted d px) (one_more 2 four.c rest.c b' (omega arith) rc))
-      ∙ one_more 3 four.d rest.d c' (omega arith) rd
+      let d : ℕ → Bool = rows (column + 3) (get_or four 3 0) in
+      let c : ℕ → Bool = rows (column + 2) (get_or four 2 0) in
+      let b : ℕ → Bool = rows (column + 1) (get_or four 1 0) in
+      let a : List ℕ = painted (rows column (get_or four 0 0)) px l in
+      let a' : List ℕ = more column (get_or four 0 0) l in
+      let b' : List ℕ = more (column + 1) (get_or four 1 0) a' in
+      let c' : List ℕ = more (column + 2) (get_or four 2 0) b' in
+      ap (λ (m : List ℕ). blended (first + 3) ((get_or rest 3 0) % 2) px (blended (first + 2) ((get_or rest 2 0) % 2) px (blended (first + 1) ((get_or rest 1 0) % 2) px m)))
+      (blended-under first ((get_or rest 0 0) % 2) d px (painted c px (painted b px a))
+      ∙ ap (painted d px) (blended-under first ((get_or rest 0 0) % 2) c px (painted b px a)
+      ∙ ap (painted c px) (blended-under first ((get_or rest 0 0) % 2) b px a
+      ∙ ap (painted b px) (blended-more stride column row (get_or four 0 0) (get_or rest 0 0) k px l ra (omega arith) refl refl))))
+      ∙ ap (λ (m : List ℕ). blended (first + 3) ((get_or rest 3 0) % 2) px (blended (first + 2) ((get_or rest 2 0) % 2) px m))
+      (blended-under (first + 1) ((get_or rest 1 0) % 2) d px (painted c px (painted b px a'))
+      ∙ ap (painted d px) (blended-under (first + 1) ((get_or rest 1 0) % 2) c px (painted b px a')
+      ∙ ap (painted c px) (one_more 1 (get_or four 1 0) (get_or rest 1 0) a' (omega arith) rb)))
+      ∙ ap (λ (m : List ℕ). blended (first + 3) ((get_or rest 3 0) % 2) px m)
+      (blended-under (first + 2) ((get_or rest 2 0) % 2) d px (painted c px b') ∙ ap (painted d px) (one_more 2 (get_or four 2 0) (get_or rest 2 0) b' (omega arith) rc))
+      ∙ one_more 3 (get_or four 3 0) (get_or rest 3 0) c' (omega arith) rd
 
   pub four-more : {before after : List ℕ} (l : List ℕ) → before ≡ four_rows stride column row k four px l → after ≡ blended_across first rest px before
       → after ≡ four_rows stride column row (k + 1) four px l
   four-more l e f = f ∙ ap (blended_across first rest px) e ∙ across l
 
 -- no rows, and all six of them
-pub four-none : (stride column row : ℕ) (four : Four) (px l : List ℕ) → l ≡ four_rows stride column row 0 four px l
+pub four-none : (stride column row : ℕ) (four : List ℕ) (px l : List ℕ) → l ≡ four_rows stride column row 0 four px l
 unfolding four_rows
 four-none stride column row four px l =
-    sixel-none stride column row 1 four.a px l
-    ∙ sixel-none stride (column + 1) row 1 four.b px _
-    ∙ sixel-none stride (column + 2) row 1 four.c px _
-    ∙ sixel-none stride (column + 3) row 1 four.d px _
+    sixel-none stride column row 1 (get_or four 0 0) px l
+    ∙ sixel-none stride (column + 1) row 1 (get_or four 1 0) px _
+    ∙ sixel-none stride (column + 2) row 1 (get_or four 2 0) px _
+    ∙ sixel-none stride (column + 3) row 1 (get_or four 3 0) px _
 
-pub four-last : (stride column row k : ℕ) (four : Four) (px l : List ℕ) → k ≤ 6 → 6 ≤ k
+pub four-last : (stride column row k : ℕ) (four : List ℕ) (px l : List ℕ) → k ≤ 6 → 6 ≤ k
     → four_rows stride column row k four px l ≡ four_painted stride column row four px l
 unfolding four_rows four_painted sixel_painted in_sixel first_rows
 four-last stride column row k four px l h g =

@@ -3,13 +3,14 @@
 use Prim.Native.Nat.{ℕ, zero, suc, ◌+◌, ◌-◌, ◌≤◌, ◌<◌, max}
 use mathlib.Core.Bool.{false, cond}
 use mathlib.Core.List.{List}
-use mathlib.Core.Path.{◌≡◌, refl, ap, ap₂, ◌∙◌}
+use mathlib.Core.Path.{◌≡◌, refl, sym, ap, ap₂, ◌∙◌}
 use native.Mathlib.Nat.{add-zero, add-suc, not-suc-le-zero}
 use native.Mathlib.Numerals.{add-one}
 use native.Mathlib.Omega.{arith}
 use borrow.Author.Tests.{eq-eqb, ne_eqb, eqb-true, eqb-false}
 use lib.Dec.{eqb}
-use lib.ListN.{get_or}
+use lib.ListN.{get_or, take, drop}
+use Rattle.std.proofs.lemmas.List.{get_or-take, get_or-drop}
 use Rattle.canvas.specs.Picture.{depth}
 use Rattle.canvas.proofs.Covers.{by-test}
 use Rattle.canvas.proofs.Depth.{depth-most, depth-larger}
@@ -63,26 +64,39 @@ right-found right column bytes i (suc n) s =
     let long : eqb (suc n) 0 ≡ false = ne_eqb (suc n) 0 (λ (e : suc n ≡ 0). omega arith) in
     rw (t, long) (omega (arith, inked-most bytes i n)))
 
--- ---- the last sixel with ink, from the end
+-- ---- the last sixel with ink, among the run's own bytes
 
-pub inked-here : (bytes : List ℕ) (i n : ℕ) → 0 < n → (get_or bytes (i + (n - 1)) 0 ≡ 63 → ⊥) → n ≡ inked_length bytes i n
-unfolding inked_length
-inked-here bytes i zero some ink = absurd (not-suc-le-zero some)
-inked-here bytes i (suc n) some ink =
-    let last : suc n - 1 ≡ n = omega arith in
-    rw (ne_eqb (get_or bytes (i + n) 0) 63 (λ (e : get_or bytes (i + n) 0 ≡ 63). ink (rw last e)))
+-- a byte of the run, where it stands among all
+pub part-at : (bytes : List ℕ) (i n k : ℕ) → k < n → get_or (take (i + n - i) (drop i bytes)) k 0 ≡ get_or bytes (i + k) 0
+part-at bytes i n k h = get_or-take (i + n - i) (drop i bytes) k 0 (omega arith) ∙ get_or-drop i bytes k 0
 
-pub inked-earlier : (bytes : List ℕ) (i n : ℕ) → 0 < n → get_or bytes (i + (n - 1)) 0 ≡ 63 → inked_length bytes i (n - 1) ≡ inked_length bytes i n
+-- all after it are blank
+inked-at : (bytes : List ℕ) (i n last : ℕ) → last < n → (get_or bytes (i + last) 0 ≡ 63 → ⊥)
+    → ((k : ℕ) → last + 1 ≤ k → k < n → get_or bytes (i + k) 0 ≡ 63) → last + 1 ≡ inked_length bytes i n
 unfolding inked_length
-inked-earlier bytes i zero some e = absurd (not-suc-le-zero some)
-inked-earlier bytes i (suc n) some e =
-    let last : suc n - 1 ≡ n = omega arith in
-    let blank : get_or bytes (i + n) 0 ≡ 63 = rw last at e in
-    rw (last, eq-eqb (get_or bytes (i + n) 0) 63 blank)
+inked-at bytes i zero last h ink after = absurd (not-suc-le-zero h)
+inked-at bytes i (suc n) last h ink after =
+    by-test (eqb last n)
+    (λ t. let e : last ≡ n = eqb-true last n t in
+    rw (ne_eqb (get_or bytes (i + n) 0) 63 (λ (b : get_or bytes (i + n) 0 ≡ 63). ink (rw e b))) (omega arith))
+    (λ t. let less : last < n = omega (arith, eqb-false last n t) in
+    rw (eq-eqb (get_or bytes (i + n) 0) 63 (after n (omega (arith, less)) (omega arith)))
+    (inked-at bytes i n last less ink (λ k h₁ h₂. after k h₁ (omega arith))))
 
-pub inked-none : (bytes : List ℕ) (i : ℕ) → inked_length bytes i 0 ≡ 0
+-- or all are
+inked-blank : (bytes : List ℕ) (i n : ℕ) → ((k : ℕ) → k < n → get_or bytes (i + k) 0 ≡ 63) → 0 ≡ inked_length bytes i n
 unfolding inked_length
-inked-none bytes i = refl
+inked-blank bytes i zero all = refl
+inked-blank bytes i (suc n) all =
+    rw (eq-eqb (get_or bytes (i + n) 0) 63 (all n (omega arith))) (inked-blank bytes i n (λ k h. all k (omega arith)))
+
+pub inked-last : (bytes : List ℕ) (i n last : ℕ) → last < n → (get_or (take (i + n - i) (drop i bytes)) last 0 ≡ 63 → ⊥)
+    → ((k : ℕ) → last + 1 ≤ k → k < n → get_or (take (i + n - i) (drop i bytes)) k 0 ≡ 63) → last + 1 ≡ inked_length bytes i n
+inked-last bytes i n last h ink after =
+    inked-at bytes i n last h (λ e. ink (part-at bytes i n last h ∙ e)) (λ k h₁ h₂. sym (part-at bytes i n k h₂) ∙ after k h₁ h₂)
+
+pub inked-none : (bytes : List ℕ) (i n : ℕ) → ((k : ℕ) → k < n → get_or (take (i + n - i) (drop i bytes)) k 0 ≡ 63) → 0 ≡ inked_length bytes i n
+inked-none bytes i n all = inked-blank bytes i n (λ k h. sym (part-at bytes i n k h) ∙ all k h)
 
 -- ---- the bottom
 

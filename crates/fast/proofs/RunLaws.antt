@@ -7,7 +7,7 @@ use native.Mathlib.Nat.{add-zero, add-suc, add_assoc, not-suc-le-zero}
 use native.Mathlib.Omega.{arith}
 use borrow.Author.Tests.{le-leb}
 use lib.Count.{ones}
-use lib.ListN.{length, get_or}
+use lib.ListN.{length, get_or, take, drop}
 use Rattle.numbers.specs.Bytes.{sixel}
 use Rattle.colours.specs.declared.Palette.{Palette}
 use Rattle.canvas.specs.Picture.{area_of, rows_of}
@@ -20,10 +20,10 @@ use Rattle.frame.specs.declared.Frame.{Frame}
 use Rattle.frame.specs.declared.Ground.{Ground}
 use Rattle.frame.specs.declared.Kind.TheVariants as kinds
 use Rattle.fast.specs.declared.Advance.{Advance}
-use Rattle.fast.specs.declared.blend.Four.{Four}
-use Rattle.frame.specs.declared.sizes.Needed.{Needed}
-use Rattle.frame.specs.declared.sizes.Needed.TheVariants as needs
-use Rattle.frame.specs.Sizes.{sixel_area}
+use Rattle.frame.specs.declared.VisibleArea.{VisibleArea}
+use Rattle.frame.specs.declared.Refusal.{Refusal}
+use Rattle.std.specs.Prelude.{Result}
+use Rattle.frame.specs.Sizes.{sized, sixel_area}
 use Rattle.frame.specs.Commands.{with_repeat}
 use Rattle.reference.specs.Step.{Fits, Holds, area_grown, passed_to}
 use Rattle.fast.specs.Argument.{onwards}
@@ -34,6 +34,7 @@ use Rattle.frame.proofs.SizeLaws.{sixel-visible, sixel-reach}
 use Rattle.reference.proofs.StepLaws.{sixel-bits, needed-holds}
 use Rattle.reference.proofs.FeedLaws.{Going}
 use Rattle.fast.proofs.BlendLaws.{blank-painted}
+use Rattle.fast.proofs.ReachLaws.{part-at}
 use Rattle.fast.proofs.RunSteps.{ink-few, going-as, ran_frame, ran_canvas, run-going}
 
 -- ---- a run that was painted
@@ -46,7 +47,7 @@ going-here g allowance bytes p l f i spent within few fits =
 -- while no command is pending and no repeat was given
 module _ (f : Frame) (g : Ground) (bytes : List ℕ) (i : ℕ) (l : List ℕ) (p : Palette) (fits : Fits f g (length l))
     (none : f.command.kind ≡ kinds.Data) (once : f.pen.repeat ≡ 1) where
-  run-after : (n w h : ℕ) → Sixels bytes i (i + n) → 1 ≤ n → sixel_area (with_repeat f.pen n) f.area g ≡ needs.Area w h
+  run-after : (n w h : ℕ) → Sixels bytes i (i + n) → 1 ≤ n → sixel_area (with_repeat f.pen n) f.area g ≡ sized w h
       → (allowance spent : ℕ) → spent + 6 * n ≤ allowance
       → Going g allowance bytes (onwards g allowance bytes i spent f p l) (length l) p (run_canvas (planned f n) g w h bytes i l)
       (ran (planned f n) w h bytes i)
@@ -63,7 +64,7 @@ module _ (f : Frame) (g : Ground) (bytes : List ℕ) (i : ℕ) (l : List ℕ) (p
       refl
       (run-going here (suc n) none once s enough area n (omega arith))
 
-  run-advances : (n w h left : ℕ) → Sixels bytes i (i + n) → 1 ≤ n → sixel_area (with_repeat f.pen n) f.area g ≡ needs.Area w h → 6 * n ≤ left
+  run-advances : (n w h left : ℕ) → Sixels bytes i (i + n) → 1 ≤ n → sixel_area (with_repeat f.pen n) f.area g ≡ sized w h → 6 * n ≤ left
       → Advances g bytes i left f p l (run_advance (planned f n) w h bytes i) p (run_canvas (planned f n) g w h bytes i l)
   unfolding planned with_repeat run_advance advance_to after_advance ran passed_to
   run-advances n w h left s some area enough =
@@ -76,9 +77,9 @@ module _ (f : Frame) (g : Ground) (bytes : List ℕ) (i : ℕ) (l : List ℕ) (p
       }
 
 -- the same of the frame that was planned
-module _ {x : Needed} {whole : Frame} (f : Frame) (g : Ground) (bytes : List ℕ) (i n w h room : ℕ) (plan : whole ≡ planned f n)
-    (fits : Fits f g room) (s : Sixels bytes i (i + n)) (needed : x ≡ sixel_area whole.pen whole.area g) (area : x ≡ needs.Area w h) where
-  planned-area : sixel_area (planned f n).pen (planned f n).area g ≡ needs.Area w h
+module _ {x : Result VisibleArea Refusal} {whole : Frame} (f : Frame) (g : Ground) (bytes : List ℕ) (i n w h room : ℕ) (plan : whole ≡ planned f n)
+    (fits : Fits f g room) (s : Sixels bytes i (i + n)) (needed : x ≡ sixel_area whole.pen whole.area g) (area : x ≡ sized w h) where
+  planned-area : sixel_area (planned f n).pen (planned f n).area g ≡ sized w h
   planned-area = ap (λ (y : Frame). sixel_area y.pen y.area g) (sym plan) ∙ sym needed ∙ area
 
   pub planned-holds : Fits whole g room × Holds whole g w h × Sixels bytes i (i + whole.pen.repeat)
@@ -88,9 +89,9 @@ module _ {x : Needed} {whole : Frame} (f : Frame) (g : Ground) (bytes : List ℕ
       let both = needed-holds (planned f n) g room w h same refl planned-area in
       subst (λ (y : Frame). Fits y g room × Holds y g w h × Sixels bytes i (i + y.pen.repeat)) (sym plan) (both.0, both.1, s)
 
-pub painted-advances : {x : Needed} {whole : Frame} {l l' : List ℕ} {r : Advance} (f : Frame) (g : Ground) (bytes : List ℕ) (i n w h : ℕ)
+pub painted-advances : {x : Result VisibleArea Refusal} {whole : Frame} {l l' : List ℕ} {r : Advance} (f : Frame) (g : Ground) (bytes : List ℕ) (i n w h : ℕ)
     → whole ≡ planned f n → Fits f g (length l) → f.command.kind ≡ kinds.Data → f.pen.repeat ≡ 1 → Sixels bytes i (i + n) → 1 ≤ n
-    → x ≡ sixel_area whole.pen whole.area g → x ≡ needs.Area w h
+    → x ≡ sixel_area whole.pen whole.area g → x ≡ sized w h
     → (r ≡ run_advance whole w h bytes i) × (l' ≡ run_canvas whole g w h bytes i l)
     → (p : Palette) (left : ℕ) → 6 * n ≤ left → Advances g bytes i left f p l r p l'
 unfolding planned
@@ -116,6 +117,17 @@ nothing-advances f g bytes i left p l fits within e =
 
 pub sixels-none : (bytes : List ℕ) (i : ℕ) → i ≤ length bytes → Sixels bytes i (i + 0)
 sixels-none bytes i h = record { within = omega arith; each = λ k h₁ h₂. absurd (let z : k < k = omega arith in omega (arith, z)) }
+
+-- as many as were counted among the bytes from there on
+pub sixels-counted : (bytes : List ℕ) (i n count : ℕ) → i + n ≤ length bytes → count ≤ n
+    → ((k : ℕ) → k < count → sixel (get_or (take (i + n - i) (drop i bytes)) k 0) ≡ true) → (count ≤ n) × Sixels bytes i (i + count)
+sixels-counted bytes i n count within few all =
+    let at : (k : ℕ) → i ≤ k → k < i + count → sixel (get_or bytes k 0) ≡ true = λ k h₁ h₂.
+    let there : i + (k - i) ≡ k = omega arith in
+    ap (λ (j : ℕ). sixel (get_or bytes j 0)) (sym there)
+    ∙ ap sixel (sym (part-at bytes i n (k - i) (omega arith)))
+    ∙ all (k - i) (omega arith)
+    in (few, record { within = omega arith; each = at })
 
 pub sixels-more : {t : Bool} (bytes : List ℕ) (i n : ℕ) → Sixels bytes i (i + n) → i + n < length bytes → t ≡ sixel (get_or bytes (i + n) 0) → t ≡ true
     → Sixels bytes i (i + (n + 1))
@@ -183,7 +195,7 @@ module _ (stride column row : ℕ) (px bytes : List ℕ) (i : ℕ) where
       (p ∙ sym (ap (λ (b : ℕ). sixel_painted stride column row 1 (b - 63) px l) e))
 
   -- four
-  pub laid-four : {four : Four} {ink : ℕ} {after : List ℕ} (l : List ℕ) → Sixels bytes i (i + 4) → four ≡ sixels_at bytes i → ink ≡ four_ink four
+  pub laid-four : {four : List ℕ} {ink : ℕ} {after : List ℕ} (l : List ℕ) → Sixels bytes i (i + 4) → four ≡ sixels_at bytes i → ink ≡ four_ink four
       → after ≡ four_painted stride column row four px l
       → Laid stride column row px bytes i 4 ink l after
   unfolding run_ink run_painted four_ink four_painted sixels_at
@@ -191,7 +203,7 @@ module _ (stride column row : ℕ) (px bytes : List ℕ) (i : ℕ) where
       record {
         sixels = s;
         inked = x ∙ ap four_ink e ∙ rw (add-zero i) (omega arith);
-        canvas = p ∙ ap (λ (y : Four). four_painted stride column row y px l) e ∙ rw (add-zero i, add-zero column);
+        canvas = p ∙ ap (λ (y : List ℕ). four_painted stride column row y px l) e ∙ rw (add-zero i, add-zero column);
       }
 
   -- two of them side by side
@@ -238,8 +250,8 @@ all-taken bytes i n most s few rest =
     (λ above. omega arith)
 
 -- the bits of each are six
-pub four-few : {four : Four} (bytes : List ℕ) (i : ℕ) → Sixels bytes i (i + 4) → four ≡ sixels_at bytes i
-    → (four.a < 64) × (four.b < 64) × (four.c < 64) × (four.d < 64)
+pub four-few : {four : List ℕ} (bytes : List ℕ) (i : ℕ) → Sixels bytes i (i + 4) → four ≡ sixels_at bytes i
+    → (get_or four 0 0 < 64) × (get_or four 1 0 < 64) × (get_or four 2 0 < 64) × (get_or four 3 0 < 64)
 unfolding sixels_at
 four-few bytes i s e =
     let few : (k : ℕ) → i ≤ k → k < i + 4 → get_or bytes k 0 - 63 < 64 = λ k h₁ h₂. sixel-bits (get_or bytes k 0) (s.each k h₁ h₂) in
@@ -284,7 +296,7 @@ unfolding planned with_repeat
 visible-advances {l = l} {e = e} f g bytes i n fits none once some columns rows laid x plan e₃ e₄ =
     let w : ℕ = f.area.width in
     let h : ℕ = f.area.height in
-    let area : needs.Area w h ≡ sixel_area (planned f n).pen (planned f n).area g =
+    let area : sized w h ≡ sixel_area (planned f n).pen (planned f n).area g =
     sixel-visible (planned f n).pen f.area g (sym (and_both (le-leb _ _ columns) (le-leb _ _ rows))) refl
     in
     painted-advances f g bytes i n w h refl fits none once laid.sixels some area refl

@@ -18,8 +18,7 @@ use Rattle.canvas.proofs.Strokes.{Within, inside-in}
 use Rattle.frame.specs.declared.Frame.{Frame}
 use Rattle.frame.specs.declared.Ground.{Ground}
 use Rattle.frame.specs.declared.Kind.TheVariants as kinds
-use Rattle.frame.specs.declared.sizes.Needed.TheVariants as needs
-use Rattle.frame.specs.Sizes.{sixel_area}
+use Rattle.frame.specs.Sizes.{sized, sixel_area}
 use Rattle.frame.specs.Commands.{with_repeat}
 use Rattle.reference.specs.Step.{Reached, read_as, area_grown, pen_after, extent_after, passed_to, inked, canvas_after}
 use Rattle.fast.specs.Run.{Sixels, planned, run_ink, run_painted, run_right, run_bottom, run_extent, ran}
@@ -48,7 +47,7 @@ kept-canvas f g bits w h l = length-painted _ _ _ ∙ length-painted _ _ l
 module _ {g : Ground} {allowance : ℕ} {bytes : List ℕ} {whole : Reached} {room : ℕ} {p : Palette} where
   going-sixel : {l : List ℕ} {f : Frame} {i spent : ℕ} (w h : ℕ) → Going g allowance bytes whole room p l f i spent → f.command.kind ≡ kinds.Data
       → f.pen.repeat ≡ 1
-      → i < length bytes → sixel (get_or bytes i 0) ≡ true → sixel_area f.pen f.area g ≡ needs.Area w h → spent + 6 ≤ allowance
+      → i < length bytes → sixel (get_or bytes i 0) ≡ true → sixel_area f.pen f.area g ≡ sized w h → spent + 6 ≤ allowance
       → Going g allowance bytes whole room p (canvas_after f g (get_or bytes i 0 - 63) w h l) (inked f (get_or bytes i 0 - 63) w h) (i + 1)
       (spent + ones (get_or bytes i 0 - 63) * f.pen.repeat)
   unfolding read_as
@@ -163,7 +162,7 @@ next-canvas f g bytes i n l =
 module _ {g : Ground} {allowance : ℕ} {bytes : List ℕ} {whole : Reached} {room : ℕ} {p : Palette} {l : List ℕ} {f : Frame} {i spent : ℕ}
     (going : Going g allowance bytes whole room p l f i spent) (all : ℕ) (none : f.command.kind ≡ kinds.Data) (once : f.pen.repeat ≡ 1)
     (sixels : Sixels bytes i (i + all)) (enough : spent + 6 * all ≤ allowance) {w h : ℕ}
-    (area : sixel_area (with_repeat f.pen all) f.area g ≡ needs.Area w h) where
+    (area : sixel_area (with_repeat f.pen all) f.area g ≡ sized w h) where
   pub run-going : (n : ℕ) → n < all
       → Going g allowance bytes whole room p (ran_canvas f g bytes i (suc n) l) (ran_frame f bytes i (suc n)) (i + suc n) (spent + run_ink bytes i (suc n))
   unfolding ran_frame ran passed_to planned with_repeat pen_after run_ink

@@ -3,7 +3,6 @@ use Rattle.std.specs.Prelude.{ℕ, ◌+◌, ◌-◌, ◌*◌, ◌%◌, cond, Lis
 use Rattle.std.specs.Int.Count.{ones}
 use Rattle.canvas.specs.Picture.{span}
 use Rattle.canvas.specs.Paint.{painted, sixel_painted}
-use Rattle.fast.specs.declared.blend.Four.{Four}
 
 -- a pixel's four bytes
 unfoldable pub four_at : List ℕ → ℕ → List ℕ
@@ -14,28 +13,23 @@ unfoldable pub blended : ℕ → ℕ → List ℕ → List ℕ → List ℕ
 blended at bit px l = cond (eqb bit 1) (painted (span at (at + 1)) px l) l
 
 -- the canvas with four pixels side by side painted, each where its number is odd
-unfoldable pub blended_across : ℕ → Four → List ℕ → List ℕ → List ℕ
+unfoldable pub blended_across : ℕ → List ℕ → List ℕ → List ℕ → List ℕ
 unfolding blended
 blended_across at four px l =
-    blended (at + 3) (four.d % 2) px (blended (at + 2) (four.c % 2) px (blended (at + 1) (four.b % 2) px (blended at (four.a % 2) px l)))
+    blended (at + 3) (get_or four 3 0 % 2) px (blended (at + 2) (get_or four 2 0 % 2) px (blended (at + 1) (get_or four 1 0 % 2) px (blended at (get_or four 0 0 % 2) px l)))
 
 -- the canvas with four sixels side by side painted
-unfoldable pub four_painted : ℕ → ℕ → ℕ → Four → List ℕ → List ℕ → List ℕ
+unfoldable pub four_painted : ℕ → ℕ → ℕ → List ℕ → List ℕ → List ℕ → List ℕ
 four_painted stride column row four px l =
-    sixel_painted stride (column + 3) row 1 four.d px
-    (sixel_painted stride (column + 2) row 1 four.c px
-    (sixel_painted stride (column + 1) row 1 four.b px (sixel_painted stride column row 1 four.a px l)))
+    sixel_painted stride (column + 3) row 1 (get_or four 3 0) px
+    (sixel_painted stride (column + 2) row 1 (get_or four 2 0) px
+    (sixel_painted stride (column + 1) row 1 (get_or four 1 0) px (sixel_painted stride column row 1 (get_or four 0 0) px l)))
 
 -- their ink
-unfoldable pub four_ink : Four → ℕ
-four_ink four = ones four.a + ones four.b + ones four.c + ones four.d
+unfoldable pub four_ink : List ℕ → ℕ
+four_ink four = ones (get_or four 0 0) + ones (get_or four 1 0) + ones (get_or four 2 0) + ones (get_or four 3 0)
 
 -- the bits of the four sixels from a place on
-unfoldable pub sixels_at : List ℕ → ℕ → Four
+unfoldable pub sixels_at : List ℕ → ℕ → List ℕ
 sixels_at bytes at =
-    record {
-      a = get_or bytes at 0 - 63;
-      b = get_or bytes (at + 1) 0 - 63;
-      c = get_or bytes (at + 2) 0 - 63;
-      d = get_or bytes (at + 3) 0 - 63;
-    }
+    (get_or bytes at 0 - 63) ∷ (get_or bytes (at + 1) 0 - 63) ∷ (get_or bytes (at + 2) 0 - 63) ∷ (get_or bytes (at + 3) 0 - 63) ∷ []

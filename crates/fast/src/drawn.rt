@@ -1,23 +1,22 @@
 // A sixel that is painted by itself, as often as it is repeated: one that stands alone, or that of a repeat command.
-ghost use Rattle.std.specs.Prelude.{◌≡◌, ◌+◌, ◌≤◌, ◌<◌, length, get_or, true, false};
+ghost use Rattle.std.specs.Prelude.{◌≡◌, ◌+◌, ◌<◌, length, get_or, true, IfSome, Ok};
 ghost use Rattle.numbers.specs.Bytes.{sixel, bang};
 ghost use Rattle.colours.specs.declared.Palette.{Palette};
 ghost use Rattle.frame.specs.declared.Kind.TheVariants as kinds;
-ghost use Rattle.frame.specs.declared.sizes.Needed.TheVariants.{Area};
 ghost use Rattle.frame.specs.Sizes.{sixel_area};
 ghost use Rattle.reference.specs.Step.{Fits, Holds};
 ghost use Rattle.fast.specs.Advance.{settled_to, settled_if, Said, Draws, drawing_of, Advances};
 
 use crate::argument::number_before;
-use crate::rows::paint_rows;
+use crate::rows::{Brush, paint_rows};
 use crate::{Advance, advance_to, nothing};
 use frame::commands::without_command;
-use frame::sizes::{Needed, larger, sixel_area};
-use frame::{Frame, Ground, Pen};
+use frame::sizes::sixel_area;
+use frame::{Frame, Ground, Pen, VisibleArea};
 use reference::{after_sixel, grow};
 
-// Paints a repeated sixel on an area that holds it, unless its ink exceeds what is left. The reference machine has the same, called from
-// there alone, so that the compiler can inline each into its own loop.
+// Paints a repeated sixel on an area that holds it, unless its ink exceeds what is left.
+// Kept: (b) `paint` of the reference machine is its like; with one painter for both, repeats took twice as long (docs/SPEED.md, before today's compiler).
 fn paint_repeated(
     frame: Frame,
     ground: Ground,
@@ -25,38 +24,30 @@ fn paint_repeated(
     bytes: &[u8],
     from: usize,
     left: usize,
-    width: usize,
-    height: usize,
+    area: VisibleArea,
 ) -> Advance
-    requires { Fits frame ground (length canvas.old) × Holds frame ground width height
+    requires { Fits frame ground (length canvas.old) × Holds frame ground area.width area.height
         × (frame.command.kind ≡ kinds.Data) × (from < length bytes.now) × (sixel (get_or bytes.now from 0) ≡ true)
-        × (sixel_area frame.pen frame.area ground ≡ Area width height) }
+        × (sixel_area frame.pen frame.area ground ≡ Ok area) }
     ensures { (p : Palette)
         → Advances ground bytes.now from left frame p canvas.old result p canvas.new }
 {
     let bits = bytes[from] - 63;
-    let ones = u32::count_ones(bits as u32) as usize;
+    let ones = bits.count_ones() as usize;
     let ink = ones * frame.pen.repeat;
     if left < ink {
         return nothing(frame, from);
     }
-    grow(frame, ground, canvas, width, height);
-    let color = frame.pen.color;
-    paint_rows(
-        canvas,
-        ground.stride,
-        frame.pen.column,
-        frame.pen.row,
-        frame.pen.repeat,
-        bits,
-        color,
-    );
-    advance_to(
-        after_sixel(frame, bits, width, height),
-        false,
-        from + 1,
-        ink,
-    )
+    grow(frame, ground, canvas, area);
+    let px = frame.pen.color;
+    let brush = Brush {
+        stride: ground.stride,
+        column: frame.pen.column,
+        row: frame.pen.row,
+        px,
+    };
+    paint_rows(canvas, brush, frame.pen.repeat, bits);
+    advance_to(after_sixel(frame, bits, area), false, from + 1, ink)
 }
 
 // The sixel of a repeat.
@@ -74,14 +65,12 @@ fn read_repeated(
         → Advances ground bytes.now from left frame p canvas.old result p canvas.new }
 {
     match sixel_area(frame, ground) {
-        Needed::Area { width, height } => {
-            paint_repeated(frame, ground, canvas, bytes, from, left, width, height)
-        }
-        Needed::Refused(_) => nothing(frame, from),
+        Ok(area) => paint_repeated(frame, ground, canvas, bytes, from, left, area),
+        Err(_) => nothing(frame, from),
     }
 }
 
-// A sixel that is painted by itself: its repeat and its place, and whether a repeat command said it. The repeat is 0 where none stands there.
+// A sixel that is painted by itself: its repeat and its place, and whether a repeat command said it.
 #[derive(Clone, Copy)]
 pub struct Drawn {
     pub repeat: usize,
@@ -89,54 +78,40 @@ pub struct Drawn {
     pub said: bool,
 }
 
-fn undrawn() -> Drawn
-    ensures { result ≡ record { repeat = 0; at = 0; said = false } }
-{
-    Drawn {
-        repeat: 0,
-        at: 0,
-        said: false,
-    }
-}
-
 // The sixel of a repeat command, where a number within the limit and a sixel stand after the `!`.
-fn said_at(bytes: &[u8], from: usize, most: usize) -> Drawn
+fn said_at(bytes: &[u8], from: usize, most: usize) -> Option<Drawn>
     requires { (from < length bytes.now) × (get_or bytes.now from 0 ≡ bang) }
-    ensures { 1 ≤ result.repeat → (result.said ≡ true) × Said bytes.now from most result }
+    ensures { IfSome result (λ d. (d.said ≡ true) × Said bytes.now from most d) }
 {
-    let number = number_before(bytes, from + 1);
-    let end = number.end;
-    if end == 0 {
-        return undrawn();
-    }
+    let number = number_before(bytes, from + 1)?;
     let count = number.value as usize;
     if most < count {
-        return undrawn();
+        return None;
     }
-    Drawn {
-        repeat: larger(1, count),
-        at: end,
+    Some(Drawn {
+        repeat: count.max(1),
+        at: number.end,
         said: true,
-    }
+    })
 }
 
 // The sixel that stands at a place, or that of a repeat command.
-fn drawn_at(pen: Pen, bytes: &[u8], from: usize, most: usize) -> Drawn
+fn drawn_at(pen: Pen, bytes: &[u8], from: usize, most: usize) -> Option<Drawn>
     requires { from < length bytes.now }
-    ensures { 1 ≤ result.repeat → Draws pen bytes.now from most result }
+    ensures { IfSome result (Draws pen bytes.now from most) }
 {
     let byte = bytes[from];
     if numbers::is_sixel(byte) {
-        return Drawn {
+        return Some(Drawn {
             repeat: pen.repeat,
             at: from,
             said: false,
-        };
+        });
     }
     if byte == b'!' {
         return said_at(bytes, from, most);
     }
-    undrawn()
+    None
 }
 
 // The frame that it is drawn with: no command is pending after a repeat command.
@@ -155,17 +130,9 @@ fn drawing(frame: Frame, drawn: Drawn) -> Frame
 fn settled(advance: Advance) -> Advance
     ensures { result ≡ settled_to advance }
 {
-    let pen = advance.pen;
-    let area = advance.area;
-    let extent = advance.extent;
     Advance {
-        pen,
-        area,
-        extent,
-        held: advance.held,
         settled: true,
-        end: advance.end,
-        ink: advance.ink,
+        ..advance
     }
 }
 
@@ -193,10 +160,9 @@ pub fn read_drawn(
     ensures { (p : Palette)
         → Advances ground bytes.now from left frame p canvas.old result p canvas.new }
 {
-    let drawn = drawn_at(frame.pen, bytes, from, ground.limits.repeats);
-    if drawn.repeat == 0 {
+    let Some(drawn) = drawn_at(frame.pen, bytes, from, ground.limits.repeats) else {
         return nothing(frame, from);
-    }
+    };
     let advance = read_repeated(drawing(frame, drawn), ground, canvas, bytes, drawn.at, left);
     settled_if(advance, drawn.said)
 }

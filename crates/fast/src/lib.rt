@@ -19,12 +19,13 @@ ghost use Rattle.frame.specs.declared.Kind.TheVariants as kinds;
 ghost use Rattle.reference.specs.Step.{Fits, Holds, moved_to};
 ghost use Rattle.fast.specs.Advance.{advance_to, selected_to, Advances};
 
-use argument::{after_semicolon, is_last, number_at, read_definition};
+use argument::{is_last, number_at, read_definition};
 use drawn::read_drawn;
 use frame::commands::{define, more_held, register_at};
 use frame::{Extent, Frame, Ground, Pen, VisibleArea};
 use reference::row_below;
 use run::read_run;
+use stretch::{BLANK, FULL};
 
 // What some bytes change of a frame, whether a command was read, the place after them, and their ink. An advance that ends where it
 // began took nothing. All of it is numbers, so that the loop has no frame to copy.
@@ -43,13 +44,10 @@ pub struct Advance {
 fn advance_to(frame: Frame, settled: bool, end: usize, ink: usize) -> Advance
     ensures { result ≡ advance_to frame settled end ink }
 {
-    let pen = frame.pen;
-    let area = frame.area;
-    let extent = frame.extent;
     Advance {
-        pen,
-        area,
-        extent,
+        pen: frame.pen,
+        area: frame.area,
+        extent: frame.extent,
         held: frame.held,
         settled,
         end,
@@ -83,12 +81,13 @@ fn read_color(frame: Frame, colors: &mut [u32; 256], bytes: &[u8], from: usize) 
     ensures { (g : Ground) (l : List ℕ) (left : ℕ) → Fits frame g (length l)
         → Advances g bytes.now from left frame (of_table colors.old) l result (of_table colors.new) l }
 {
-    let only = number_at(bytes, from + 1);
+    let Some(only) = number_at(bytes, from + 1) else {
+        return nothing(frame, from);
+    };
     if is_last(bytes, only) {
         return selected(frame, colors, only.value, only.end);
     }
-    let whole = read_definition(bytes, after_semicolon(bytes, only));
-    if 0 < whole.end {
+    if let Some(whole) = read_definition(bytes, only) {
         let held = define(
             colors,
             register_at(whole.first),
@@ -119,16 +118,8 @@ fn move_to(frame: Frame, row: usize, from: usize) -> Advance
 fn is_alone(bytes: &[u8], from: usize, byte: u8) -> bool
     requires { from < length bytes.now }
 {
-    if byte == 63 {
-        return false;
-    }
-    if byte == 126 {
-        return false;
-    }
-    if bytes.len() <= from + 1 {
-        return true;
-    }
-    !numbers::is_sixel(bytes[from + 1])
+    !matches!(byte, BLANK | FULL)
+        && (bytes.len() <= from + 1 || !numbers::is_sixel(bytes[from + 1]))
 }
 
 // Whether a sixel is read as the first of a run, or by itself.
@@ -136,14 +127,12 @@ fn begins_run(repeat: usize, bytes: &[u8], from: usize, byte: u8) -> bool
     requires { from < length bytes.now }
     ensures { result ≡ true → repeat ≡ 1 }
 {
-    if repeat != 1 {
-        return false;
-    }
-    !is_alone(bytes, from, byte)
+    repeat == 1 && !is_alone(bytes, from, byte)
 }
 
 // What stands at a place.
 // Inner: asks that the visible area has room on the canvas, that no command is pending, and that the place is among the bytes.
+// Kept: docs/EXCEPTIONS.md names the function with what it asks; a type that holds `Fits` would ask it of callers in another place.
 pub fn read_ahead(
     frame: Frame,
     ground: Ground,
@@ -158,10 +147,8 @@ pub fn read_ahead(
         result (of_table colors.new) canvas.new }
 {
     let byte = bytes[from];
-    if numbers::is_sixel(byte) {
-        if begins_run(frame.pen.repeat, bytes, from, byte) {
-            return read_run(frame, ground, canvas, bytes, from, left);
-        }
+    if numbers::is_sixel(byte) && begins_run(frame.pen.repeat, bytes, from, byte) {
+        return read_run(frame, ground, canvas, bytes, from, left);
     }
     if byte == b'#' {
         return read_color(frame, colors, bytes, from);

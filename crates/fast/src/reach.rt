@@ -2,7 +2,7 @@
 ghost use Rattle.std.specs.Prelude.{cond, ◌≡◌, ◌+◌, ◌≤◌, ◌<◌, max, eqb, length};
 ghost use Rattle.fast.specs.Run.{Sixels, run_extent, inked_length, largest_bits};
 
-use frame::sizes::larger;
+use crate::stretch::BLANK;
 use frame::{Extent, Frame};
 use reference::extent::bottom_after;
 
@@ -14,24 +14,13 @@ fn inked_length(bytes: &[u8], from: usize, count: usize) -> usize
     requires { from + count ≤ length bytes.now }
     ensures { result ≡ inked_length bytes.now from count }
 {
-    let mut rest = count;
-    while 0 < rest {
-        let last = rest - 1;
-        if bytes[from + last] != 63 {
-            return rest;
-        }
-        rest = last;
+    match bytes[from..from + count]
+        .iter()
+        .rposition(|&byte| byte != BLANK)
+    {
+        Some(last) => last + 1,
+        None => 0,
     }
-    0
-}
-
-fn larger_byte(a: u8, b: u8) -> u8
-    ensures { result ≡ max a b }
-{
-    if a < b {
-        return b;
-    }
-    a
 }
 
 // The largest bits of a run. A loop of its own, of which the compiler makes a maximum of many bytes at once.
@@ -39,11 +28,11 @@ fn largest_bits(bytes: &[u8], from: usize, count: usize) -> u8
     requires { Sixels bytes.now from (from + count) }
     ensures { result ≡ largest_bits bytes.now from count }
 {
-    let mut most = 63;
-    for k in 0..count {
-        most = larger_byte(most, bytes[from + k]);
+    let mut most = BLANK;
+    for &byte in &bytes[from..from + count] {
+        most = most.max(byte);
     }
-    most - 63
+    most - BLANK
 }
 
 // The extent's right after sixels of which so many stand up to the last one with ink.
@@ -54,7 +43,7 @@ fn right_past(right: usize, column: usize, inked: usize) -> usize
     if inked == 0 {
         return right;
     }
-    larger(right, column + inked)
+    right.max(column + inked)
 }
 
 // The extent after a run that may pass it. The depth of six bits grows with their number, so that the largest tell it. A long run is taken
@@ -92,10 +81,8 @@ pub fn extent_after(frame: Frame, bytes: &[u8], from: usize) -> Extent
     let column = frame.pen.column;
     let row = frame.pen.row;
     let count = frame.pen.repeat;
-    if row + 6 <= extent.bottom {
-        if column + count <= extent.right {
-            return extent;
-        }
+    if row + 6 <= extent.bottom && column + count <= extent.right {
+        return extent;
     }
     extent_past(extent, column, row, bytes, from, count)
 }

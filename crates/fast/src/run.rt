@@ -1,7 +1,7 @@
 // A run of sixels that are painted once each. Where its area grows, or it is blank or full at first, it is planned whole: counted, tested and
 // given its area at once, then painted without a test for each. Any other is painted while it is counted. To the limits a run is one sixel
 // that is repeated so often.
-ghost use Rattle.std.specs.Prelude.{◌≡◌, ℕ, ◌+◌, ◌*◌, ◌≤◌, ◌<◌, min, true, length, get_or};
+ghost use Rattle.std.specs.Prelude.{◌≡◌, ℕ, ◌+◌, ◌*◌, ◌≤◌, ◌<◌, true, length, get_or};
 ghost use Rattle.numbers.specs.Bytes.{sixel};
 ghost use Rattle.colours.specs.declared.Palette.{Palette};
 ghost use Rattle.frame.specs.declared.Kind.TheVariants as kinds;
@@ -10,23 +10,15 @@ ghost use Rattle.fast.specs.Advance.{Advances};
 ghost use Rattle.fast.specs.Run.{Sixels, planned, run_advance, run_canvas};
 
 use crate::reach::extent_after;
-use crate::stretch::{blend_sixels, paint_sixels, run_length};
+use crate::rows::Brush;
+use crate::stretch::{BLANK, FULL, blend_sixels, paint_sixels, run_length};
 use crate::{Advance, advance_to, nothing};
-use frame::sizes::{Needed, reaches, sixel_area};
-use frame::{Frame, Ground};
+use frame::sizes::{reaches, sixel_area};
+use frame::{Frame, Ground, VisibleArea};
 use reference::{grow, passed};
 
 // The most sixels of a run. One that is refused whole is counted again at each byte, so that it must not be long.
 const LONGEST: usize = 256;
-
-fn smaller(a: usize, b: usize) -> usize
-    ensures { result ≡ min a b }
-{
-    if a < b {
-        return a;
-    }
-    b
-}
 
 // Paints the area that a run grows, and the run.
 fn paint_run(
@@ -35,34 +27,25 @@ fn paint_run(
     canvas: &mut [u8],
     bytes: &[u8],
     from: usize,
-    width: usize,
-    height: usize,
+    area: VisibleArea,
 ) -> Advance
-    requires { Fits frame ground (length canvas.old) × Holds frame ground width height
+    requires { Fits frame ground (length canvas.old) × Holds frame ground area.width area.height
         × Sixels bytes.now from (from + frame.pen.repeat) }
-    ensures { (result ≡ run_advance frame width height bytes.now from)
-        × (canvas.new ≡ run_canvas frame ground width height bytes.now from canvas.old) }
+    ensures { (result ≡ run_advance frame area.width area.height bytes.now from)
+        × (canvas.new ≡ run_canvas frame ground area.width area.height bytes.now from canvas.old) }
 {
-    grow(frame, ground, canvas, width, height);
+    grow(frame, ground, canvas, area);
     let count = frame.pen.repeat;
-    let color = frame.pen.color;
-    let ink = paint_sixels(
-        canvas,
-        ground.stride,
-        frame.pen.column,
-        frame.pen.row,
-        color,
-        bytes,
-        from,
-        count,
-    );
+    let px = frame.pen.color;
+    let brush = Brush {
+        stride: ground.stride,
+        column: frame.pen.column,
+        row: frame.pen.row,
+        px,
+    };
+    let ink = paint_sixels(canvas, brush, bytes, from, count);
     let reached = extent_after(frame, bytes, from);
-    advance_to(
-        passed(frame, reached.right, reached.bottom, width, height),
-        false,
-        from + count,
-        ink,
-    )
+    advance_to(passed(frame, reached, area), false, from + count, ink)
 }
 
 // As one sixel that is repeated so often.
@@ -90,10 +73,8 @@ fn read_sixels(
 {
     let whole = as_repeated(frame, count);
     match sixel_area(whole, ground) {
-        Needed::Area { width, height } => {
-            paint_run(whole, ground, canvas, bytes, from, width, height)
-        }
-        Needed::Refused(_) => nothing(frame, from),
+        Ok(area) => paint_run(whole, ground, canvas, bytes, from, area),
+        Err(_) => nothing(frame, from),
     }
 }
 
@@ -102,16 +83,9 @@ fn read_sixels(
 fn is_blended(frame: Frame, byte: u8) -> bool
     ensures { result ≡ true → (frame.pen.column < frame.area.width) × (frame.pen.row + 6 ≤ frame.area.height) }
 {
-    if byte == 63 {
-        return false;
-    }
-    if byte == 126 {
-        return false;
-    }
-    if frame.area.width <= frame.pen.column {
-        return false;
-    }
-    reaches(frame.pen.row, 6, frame.area.height)
+    !matches!(byte, BLANK | FULL)
+        && frame.pen.column < frame.area.width
+        && reaches(frame.pen.row, 6, frame.area.height)
 }
 
 // A run of up to so many sixels, one at least, on the visible area as it is.
@@ -129,27 +103,18 @@ fn read_visible(
     ensures { (p : Palette) (left : ℕ) → 6 * most ≤ left
         → Advances ground bytes.now from left frame p canvas.old result p canvas.new }
 {
-    let color = frame.pen.color;
-    let painted = blend_sixels(
-        canvas,
-        ground.stride,
-        frame.pen.column,
-        frame.pen.row,
-        color,
-        bytes,
-        from,
-        most,
-    );
+    let px = frame.pen.color;
+    let brush = Brush {
+        stride: ground.stride,
+        column: frame.pen.column,
+        row: frame.pen.row,
+        px,
+    };
+    let painted = blend_sixels(canvas, brush, bytes, from, most);
     let whole = as_repeated(frame, painted.count);
     let reached = extent_after(whole, bytes, from);
     advance_to(
-        passed(
-            whole,
-            reached.right,
-            reached.bottom,
-            frame.area.width,
-            frame.area.height,
-        ),
+        passed(whole, reached, frame.area),
         false,
         from + painted.count,
         painted.ink,
@@ -171,12 +136,12 @@ pub fn read_run(
     ensures { (p : Palette)
         → Advances ground bytes.now from left frame p canvas.old result p canvas.new }
 {
-    let most = smaller(smaller(LONGEST, left / 6), bytes.len() - from);
+    let most = LONGEST.min(left / 6).min(bytes.len() - from);
     if most == 0 {
         return nothing(frame, from);
     }
     if is_blended(frame, bytes[from]) {
-        let visible = smaller(most, frame.area.width - frame.pen.column);
+        let visible = most.min(frame.area.width - frame.pen.column);
         return read_visible(frame, ground, canvas, bytes, from, visible);
     }
     let count = run_length(bytes, from + 1, most - 1) + 1;

@@ -1,5 +1,5 @@
 -- What the code does with a command's argument, on its own records.
-use Rattle.std.specs.Prelude.{ℕ, ◌+◌, ◌*◌, min, max, Bool, false, cond, ◌&&◌, List, leb, ltb, eqb, pos}
+use Rattle.std.specs.Prelude.{ℕ, ◌+◌, ◌*◌, min, max, Bool, false, cond, ◌&&◌, List, leb, ltb, eqb, pos, Result, Ok, Err}
 use Rattle.numbers.specs.declared.Parameters.{Parameters}
 use Rattle.numbers.specs.Step as numbers
 use Rattle.colours.specs.declared.Palette.{Palette}
@@ -22,8 +22,6 @@ use Rattle.frame.specs.declared.VisibleArea.{VisibleArea}
 use Rattle.frame.specs.declared.rasters.Measured.{Measured}
 use Rattle.frame.specs.declared.rasters.Measured.TheVariants as measures
 use Rattle.frame.specs.declared.commands.Selected.{Selected}
-use Rattle.frame.specs.declared.sizes.Needed.{Needed}
-use Rattle.frame.specs.declared.sizes.Needed.TheVariants.{Area, Refused}
 use Rattle.frame.specs.Sizes.{raster_area}
 
 -- ---- a command begins and goes on
@@ -164,28 +162,28 @@ raster_by r v =
     record { ratio = ratio_by r.ratio v; width = kept_size r.width (numbers.value_at v 2); height = kept_size r.height (numbers.value_at v 3) }
 
 -- the visible area grows to the size that a raster needs
-unfoldable pub raster_grown : Frame → Raster → Needed → Progress
+unfoldable pub raster_grown : Frame → Raster → Result VisibleArea Refusal → Progress
 unfolding settled_as refused_as
-raster_grown f r (Area w h) = settled_as f.pen (record { width = w; height = h }) f.extent r f.held
-raster_grown f r (Refused n) = refused_as f n
+raster_grown f r (Ok a) = settled_as f.pen a f.extent r f.held
+raster_grown f r (Err n) = refused_as f n
 
 -- what a raster comes to: it has no size, or needs an area, or is refused
-unfoldable pub measured_in : Raster → Needed → Measured
-measured_in r (Area w h) = measures.Area r w h
-measured_in r (Refused n) = measures.Refused n
+unfoldable pub measured_in : Raster → Result VisibleArea Refusal → Result Measured Refusal
+measured_in r (Ok a) = Ok (measures.Sized r a)
+measured_in r (Err n) = Err n
 
-unfoldable pub measured_by : Raster → VisibleArea → Ground → Measured
+unfoldable pub measured_by : Raster → VisibleArea → Ground → Result Measured Refusal
 unfolding measured_in
 measured_by r a g =
-    cond (eqb r.width 0 && eqb r.height 0) (measures.Sizeless r)
+    cond (eqb r.width 0 && eqb r.height 0) (Ok (measures.Sizeless r))
     (measured_in r (raster_area a g (max 1 r.width) (max 1 r.height)))
 
 -- the step that ends it
-unfoldable pub raster_ended_in : Measured → Frame → Progress
+unfoldable pub raster_ended_in : Result Measured Refusal → Frame → Progress
 unfolding settled_as refused_as
-raster_ended_in (measures.Sizeless r) f = settled_as f.pen f.area f.extent r f.held
-raster_ended_in (measures.Area r w h) f = settled_as f.pen (record { width = w; height = h }) f.extent r f.held
-raster_ended_in (measures.Refused n) f = refused_as f n
+raster_ended_in (Ok (measures.Sizeless r)) f = settled_as f.pen f.area f.extent r f.held
+raster_ended_in (Ok (measures.Sized r a)) f = settled_as f.pen a f.extent r f.held
+raster_ended_in (Err n) f = refused_as f n
 
 unfoldable pub raster_ended_by : Frame → Ground → Raster → Progress
 unfolding settled_as raster_grown

@@ -5,11 +5,11 @@ ghost use Rattle.colours.specs.Palette.{of_table};
 ghost use Rattle.frame.specs.Commands.{with_command, begun, by_digit, by_semicolon, no_command, settled_as, refused_as, repeat_ended, defining_by, redefining_by, more_held, palette_after, with_color, selected_in, raster_ended_in, Ended, ended};
 
 use crate::rasters::{Measured, measure};
-use crate::sizes::larger;
 use crate::{Command, Frame, Ground, Kind, Outcome, Progress, Refusal};
 use numbers::Parameters;
 
 // A command begins; `places` is how many values it has.
+#[tactic(auto, unfolding(crate::specs::Commands::begun, crate::specs::Commands::with_command))]
 pub fn begin_command(frame: Frame, kind: Kind, places: usize) -> Frame
     ensures { result ≡ begun frame kind places }
 {
@@ -18,9 +18,7 @@ pub fn begin_command(frame: Frame, kind: Kind, places: usize) -> Frame
         number: 0,
         parameters: Parameters::new(places),
     };
-    let mut next = frame;
-    next.command = command;
-    next
+    Frame { command, ..frame }
 }
 
 // A digit of the argument.
@@ -28,32 +26,26 @@ pub fn extend_by_digit(frame: Frame, byte: u8) -> Frame
     ensures { result ≡ with_command frame (by_digit frame.command byte) }
 {
     let mut command = frame.command;
-    let kind = command.kind;
-    let mut next = frame;
-    if let Kind::Repeat = kind {
+    if command.kind == Kind::Repeat {
         command.number = numbers::more_repeat(command.number, byte);
-        next.command = command;
-        return next;
+    } else {
+        command.parameters = command.parameters.digit(byte);
     }
-    let parameters = command.parameters;
-    command.parameters = parameters.digit(byte);
-    next.command = command;
-    next
+    Frame { command, ..frame }
 }
 
 // A `;` of the argument.
+#[tactic(auto, unfolding(crate::specs::Commands::with_command, crate::specs::Commands::by_semicolon))]
 pub fn extend_by_semicolon(frame: Frame) -> Frame
     ensures { result ≡ with_command frame (by_semicolon frame.command) }
 {
     let mut command = frame.command;
-    let parameters = command.parameters;
-    command.parameters = parameters.semicolon();
-    let mut next = frame;
-    next.command = command;
-    next
+    command.parameters = command.parameters.semicolon();
+    Frame { command, ..frame }
 }
 
 // The frame with no command pending.
+#[tactic(auto, unfolding(crate::specs::Commands::with_command, crate::specs::Commands::no_command))]
 pub fn without_command(frame: Frame) -> Frame
     ensures { result ≡ with_command frame no_command }
 {
@@ -62,12 +54,11 @@ pub fn without_command(frame: Frame) -> Frame
         number: 0,
         parameters: Parameters::new(0),
     };
-    let mut next = frame;
-    next.command = command;
-    next
+    Frame { command, ..frame }
 }
 
 // No command is pending any more.
+#[tactic(auto, unfolding(crate::specs::Commands::with_command, crate::specs::Commands::settled_as))]
 pub fn settled(frame: Frame) -> Progress
     ensures { result ≡ settled_as frame.pen frame.area frame.extent frame.raster frame.held }
 {
@@ -79,6 +70,7 @@ pub fn settled(frame: Frame) -> Progress
     }
 }
 
+#[tactic(auto, unfolding(crate::specs::Commands::refused_as, crate::specs::Commands::unread_as))]
 fn refused(frame: Frame, refusal: Refusal) -> Progress
     ensures { result ≡ refused_as frame refusal }
 {
@@ -91,6 +83,7 @@ fn refused(frame: Frame, refusal: Refusal) -> Progress
 }
 
 // A repeat of 0 means 1.
+#[tactic(auto, unfolding(crate::specs::Commands::repeat_ended, crate::specs::Commands::with_repeat))]
 pub fn end_repeat(frame: Frame, ground: Ground) -> Progress
     ensures { result ≡ repeat_ended frame ground }
 {
@@ -98,14 +91,14 @@ pub fn end_repeat(frame: Frame, ground: Ground) -> Progress
     if ground.limits.repeats < number {
         return refused(frame, Refusal::Repeat);
     }
-    let repeat = larger(1, number);
     let mut next = frame;
-    next.pen.repeat = repeat;
+    next.pen.repeat = number.max(1);
     settled(next)
 }
 
 // Space 1 or 2 redefines the register. Answers whether one of the values was held.
 // Inner: asks for values that a signed number can hold.
+#[tactic(auto, unfolding(crate::specs::Commands::defining_by, crate::specs::Commands::held_by, crate::specs::Commands::defined_by))]
 pub fn define(colors: &mut [u32; 256], register: usize, space: u32, x: u32, y: u32, z: u32) -> bool
     requires { (x ≤ 2147483647) × (y ≤ 2147483647) × (z ≤ 2147483647) }
     ensures { (result, of_table colors.new) ≡ defining_by (of_table colors.old) register space x y z }
@@ -137,10 +130,7 @@ fn redefine(colors: &mut [u32; 256], register: usize, parameters: Parameters) ->
 pub fn register_at(value: u32) -> usize
     ensures { result ≡ min value 255 }
 {
-    if value < 255 {
-        return value as usize;
-    }
-    255
+    value.min(255) as usize
 }
 
 // The register that a colour command selects, its colour then, and whether the command defined it with a held value.
@@ -169,63 +159,48 @@ pub fn select(begun: Parameters, colors: &mut [u32; 256]) -> Selected
 }
 
 // One definition more where it was held, up to what a number can hold.
+#[tactic(auto, unfolding(crate::specs::Commands::more_held))]
 pub fn more_held(count: u64, held: bool) -> u64
     ensures { result ≡ more_held count held }
 {
-    if count == u64::MAX {
-        return count;
-    }
-    if held {
-        return count + 1;
-    }
-    count
+    count.saturating_add(u64::from(held))
 }
 
+#[tactic(auto, unfolding(crate::specs::Commands::with_color, crate::specs::Commands::settled_as))]
 pub fn colored(frame: Frame, selected: Selected) -> Progress
     ensures { result ≡ settled_as (with_color frame.pen selected.register selected.color) frame.area frame.extent frame.raster
         (more_held frame.held selected.held) }
 {
-    let color = selected.color;
-    let mut pen = frame.pen;
-    pen.register = selected.register;
-    pen.color = color;
     let mut next = frame;
-    next.pen = pen;
+    next.pen.register = selected.register;
+    let color = selected.color;
+    next.pen.color = color;
     next.held = more_held(frame.held, selected.held);
     settled(next)
 }
 
-pub fn rastered(frame: Frame, measured: Measured) -> Progress
+#[tactic(auto, unfolding(crate::specs::Commands::raster_ended_in))]
+pub fn rastered(frame: Frame, measured: Result<Measured, Refusal>) -> Progress
     ensures { result ≡ raster_ended_in measured frame }
 {
     match measured {
-        Measured::Sizeless(raster) => {
-            let mut next = frame;
-            next.raster = raster;
-            settled(next)
-        }
-        Measured::Area {
+        Ok(Measured::Sizeless(raster)) => settled(Frame { raster, ..frame }),
+        Ok(Measured::Sized { raster, area }) => settled(Frame {
             raster,
-            width,
-            height,
-        } => {
-            let mut next = frame;
-            next.raster = raster;
-            next.area.width = width;
-            next.area.height = height;
-            settled(next)
-        }
-        Measured::Refused(refusal) => refused(frame, refusal),
+            area,
+            ..frame
+        }),
+        Err(refusal) => refused(frame, refusal),
     }
 }
 
-// Carries the pending command out. What a raster grows is painted by whoever calls.
+// Carries the pending command out. What a raster grows is painted by whoever calls. The hint makes it part of the loop, though explaining a
+// refusal calls it too.
+#[inline(always)]
 pub fn end_command(frame: Frame, ground: Ground, colors: &mut [u32; 256]) -> Progress
     ensures { record { progress = result; palette = of_table colors.new } ≡ ended frame ground (of_table colors.old) }
 {
-    let command = frame.command;
-    let kind = command.kind;
-    match kind {
+    match frame.command.kind {
         Kind::Data => settled(frame),
         Kind::Repeat => end_repeat(frame, ground),
         Kind::Color => colored(frame, select(frame.command.parameters, colors)),

@@ -30,7 +30,7 @@ pub struct Ground {
 }
 
 // The refusals of rule 5.1, in the order of their numbers.
-#[derive(Clone, Copy)]
+#[derive(Clone, Copy, PartialEq, Eq, Debug)]
 pub enum Refusal {
     Introducer,
     HeaderEnded,
@@ -50,6 +50,8 @@ pub enum Refusal {
 }
 
 // A refusal's number (rule 5.1).
+// Kept: the numbers are rule 5.1's and the C interface's, and 10 is retired, so that they are named one by one.
+#[tactic(auto, unfolding(crate::specs::Numbers::number_of))]
 pub fn number(refusal: Refusal) -> u8
     ensures { result ≡ number_of refusal }
 {
@@ -103,7 +105,7 @@ pub struct Raster {
     pub height: usize,
 }
 
-#[derive(Clone, Copy)]
+#[derive(Clone, Copy, PartialEq, Eq)]
 pub enum Kind {
     Data,
     Repeat,
@@ -131,6 +133,7 @@ pub struct Frame {
 }
 
 // What reading came to: what there was is read, or a byte stays unread.
+// Kept: it stands beside the frame and the counts in `Progress`, on a refusal too, so that no `?` can hand a refusal on.
 #[derive(Clone, Copy)]
 pub enum Outcome {
     Read,

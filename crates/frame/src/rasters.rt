@@ -1,13 +1,14 @@
 // A raster's values: the ratio, the sizes, and the area that they need.
-ghost use Rattle.std.specs.Prelude.{◌≡◌, max, ◌&&◌, eqb};
+ghost use Rattle.std.specs.Prelude.{◌≡◌, ◌&&◌, eqb};
 ghost use Rattle.numbers.specs.Step.{finished};
 ghost use Rattle.frame.specs.Commands.{quotient_of, ratio_by, kept_size, raster_by, measured_by};
 
-use crate::sizes::{Needed, larger, raster_area};
+use crate::sizes::raster_area;
 use crate::{Ground, Raster, Refusal, VisibleArea};
 use numbers::Parameters;
 
 // A quotient of exactly 1, 2, 3 or 5, else 0.
+#[tactic(auto, unfolding(crate::specs::Commands::quotient_of))]
 fn quotient(vertical: u32, horizontal: u32) -> u8
     ensures { result ≡ quotient_of vertical horizontal }
 {
@@ -28,28 +29,18 @@ fn quotient(vertical: u32, horizontal: u32) -> u8
     0
 }
 
-fn at_least_one(value: u32) -> u32
-    ensures { result ≡ max 1 value }
-{
-    if value == 0 {
-        return 1;
-    }
-    value
-}
-
+#[tactic(auto, unfolding(crate::specs::Commands::ratio_by))]
 fn ratio_after(old: u8, parameters: Parameters) -> u8
     ensures { result ≡ ratio_by old parameters }
 {
     if parameters.count() < 2 {
         return old;
     }
-    quotient(
-        at_least_one(parameters.value(0)),
-        at_least_one(parameters.value(1)),
-    )
+    quotient(parameters.value(0).max(1), parameters.value(1).max(1))
 }
 
 // A size above 0 is kept.
+#[tactic(auto, unfolding(crate::specs::Commands::kept_size))]
 fn kept(old: usize, value: u32) -> usize
     ensures { result ≡ kept_size old value }
 {
@@ -60,6 +51,7 @@ fn kept(old: usize, value: u32) -> usize
 }
 
 // What a raster command leaves of an earlier one: its ratio, and the sizes that it gives.
+#[tactic(auto, unfolding(crate::specs::Commands::raster_by))]
 pub fn raster_after(old: Raster, parameters: Parameters) -> Raster
     ensures { result ≡ raster_by old parameters }
 {
@@ -74,42 +66,31 @@ pub fn raster_after(old: Raster, parameters: Parameters) -> Raster
 pub fn sizeless(raster: Raster) -> bool
     ensures { result ≡ (eqb raster.width 0 && eqb raster.height 0) }
 {
-    if raster.width == 0 {
-        return raster.height == 0;
-    }
-    false
+    raster.width == 0 && raster.height == 0
 }
 
-// What a raster comes to: it has no size, or needs an area, or is refused.
+// What a raster that is not refused comes to: it has no size, or needs an area.
 #[derive(Clone, Copy)]
 pub enum Measured {
     Sizeless(Raster),
-    Area {
-        raster: Raster,
-        width: usize,
-        height: usize,
-    },
-    Refused(Refusal),
+    Sized { raster: Raster, area: VisibleArea },
 }
 
-pub fn measure(begun: Parameters, old: Raster, area: VisibleArea, ground: Ground) -> Measured
+// The hint is as at `end_command`.
+#[inline(always)]
+#[tactic(auto, unfolding(crate::specs::Commands::measured_by, crate::specs::Commands::measured_in))]
+pub fn measure(
+    begun: Parameters,
+    old: Raster,
+    area: VisibleArea,
+    ground: Ground,
+) -> Result<Measured, Refusal>
     ensures { result ≡ measured_by (raster_by old (finished begun)) area ground }
 {
     let raster = raster_after(old, begun.finish());
     if sizeless(raster) {
-        return Measured::Sizeless(raster);
+        return Ok(Measured::Sizeless(raster));
     }
-    match raster_area(
-        area,
-        ground,
-        larger(1, raster.width),
-        larger(1, raster.height),
-    ) {
-        Needed::Area { width, height } => Measured::Area {
-            raster,
-            width,
-            height,
-        },
-        Needed::Refused(refusal) => Measured::Refused(refusal),
-    }
+    let area = raster_area(area, ground, raster.width.max(1), raster.height.max(1))?;
+    Ok(Measured::Sized { raster, area })
 }

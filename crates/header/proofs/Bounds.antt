@@ -5,7 +5,8 @@ use native.Mathlib.Omega.{arith}
 use lib.ListN.{length}
 use Rattle.numbers.specs.declared.Parameters.{Parameters}
 use Rattle.header.specs.declared.Place.{Place}
-use Rattle.header.specs.declared.Led.{Led}
+use Rattle.std.specs.Prelude.{Ok, Err}
+use Rattle.header.specs.Results.{Led}
 use Rattle.header.specs.declared.Led.TheVariants as leds
 use Rattle.header.specs.declared.Step.{Step}
 use Rattle.header.specs.declared.Lead.{Lead}
@@ -15,9 +16,9 @@ use Rattle.header.specs.Lead.{lead_byte, lead_on, lead_from}
 led-bound : (led : Led) (s : Step) (n m : ℕ) (later : ℕ → Place → Parameters → Lead)
     → ((t : Place) (h : Parameters) → (later (n + 1) t h).consumed ≤ n + 1 + m) → (lead_on led s n later).consumed ≤ n + suc m
 unfolding lead_on
-led-bound leds.On s n m later k = omega (arith, k s.place s.header)
-led-bound leds.Begins s n m later k = omega arith
-led-bound (leds.Refused r) s n m later k = omega arith
+led-bound (Ok leds.On) s n m later k = omega (arith, k s.place s.header)
+led-bound (Ok leds.Begins) s n m later k = omega arith
+led-bound (Err r) s n m later k = omega arith
 
 -- after `n` bytes, `n` and the others at most
 pub lead-bound : (bs : List ℕ) (n : ℕ) (t : Place) (h : Parameters) → (lead_from bs n t h).consumed ≤ n + length bs

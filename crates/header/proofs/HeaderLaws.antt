@@ -21,6 +21,7 @@ use Rattle.meaning.specs.Payload as meant
 use Rattle.meaning.specs.Sessions as sessions
 use Rattle.payload.specs.Meant.{parameters_meant}
 use Rattle.header.specs.declared.Place.TheVariants as places
+use Rattle.std.specs.Prelude.{Ok, Err}
 use Rattle.header.specs.declared.Led.TheVariants as leds
 use Rattle.header.specs.declared.Step.{Step}
 use Rattle.header.specs.declared.Lead.{Lead}
@@ -35,11 +36,11 @@ use Rattle.header.proofs.SettingsLaws.{settings-meant}
 -- the code's step and what the definition says of a header's byte: on with the values of the same digits and `;`, to the payload with
 -- the same parameters, or refused with 2 or 3, the values being as they were
 pub data HeaderAgrees (got : List ℕ) : Step → sessions.HeaderByte → Type 0 where
-  goes_on : {h : Parameters} {more : List ℕ} → Read 3 more h → HeaderAgrees got (in_header h leds.On) (sessions.goes_on more)
+  goes_on : {h : Parameters} {more : List ℕ} → Read 3 more h → HeaderAgrees got (in_header h (Ok leds.On)) (sessions.goes_on more)
   settles : {h : Parameters} {o : meant.Parameters} → o ≡ parameters_meant (settings_from h)
-      → HeaderAgrees got (in_header h leds.Begins) (sessions.settles o)
+      → HeaderAgrees got (in_header h (Ok leds.Begins)) (sessions.settles o)
   turns_down : {h : Parameters} {n : ℕ} (why : Refusal) → number_of why ≡ n → n ≤ 3 → Read 3 got h
-      → HeaderAgrees got (in_header h (leds.Refused why)) (sessions.wrong n)
+      → HeaderAgrees got (in_header h (Err why)) (sessions.wrong n)
 
 -- a header's byte does what the definition says of it
 pub header-agrees : {h : Parameters} {got : List ℕ} (b : ℕ) → Read 3 got h → HeaderAgrees got (header_byte h b) (sessions.header_byte got b)
@@ -59,11 +60,11 @@ header-agrees {h} {got} b r =
 -- where a header led to among some bytes, and what the definition finds there: that `q` is missing, the parameters and the part after
 -- it, or 2 or 3
 pub data HeaderFinds (whole : List ℕ) : Lead → meaning.Found → Type 0 where
-  lacks : {h : Parameters} {n : ℕ} → HeaderFinds whole (lead_at places.Header h n leds.On) meaning.lacking
+  lacks : {h : Parameters} {n : ℕ} → HeaderFinds whole (lead_at places.Header h n (Ok leds.On)) meaning.lacking
   begins : {h : Parameters} {n : ℕ}
-      → HeaderFinds whole (lead_at places.Header h n leds.Begins) (meaning.found (parameters_meant (settings_from h)) (drop n whole))
+      → HeaderFinds whole (lead_at places.Header h n (Ok leds.Begins)) (meaning.found (parameters_meant (settings_from h)) (drop n whole))
   refuses : {h : Parameters} {n m : ℕ} (why : Refusal) → number_of why ≡ m → m ≤ 3
-      → HeaderFinds whole (lead_at places.Header h n (leds.Refused why)) (meaning.refused_with m)
+      → HeaderFinds whole (lead_at places.Header h n (Err why)) (meaning.refused_with m)
 
 module _ (whole : List ℕ) where
   -- one byte, where the later ones are known
@@ -80,7 +81,7 @@ module _ (whole : List ℕ) where
   unfolding lead_on
   byte-finds n bs e (goes_on {h = h} {more = more} r) later = later more h r
   byte-finds n bs e (settles {h = h} k) later =
-      subst (HeaderFinds whole (lead_at places.Header h (n + 1) leds.Begins)) (ap₂ meaning.found (sym k) e) begins
+      subst (HeaderFinds whole (lead_at places.Header h (n + 1) (Ok leds.Begins))) (ap₂ meaning.found (sym k) e) begins
   byte-finds n bs e (turns_down why k low r) later = refuses why k low
 
   -- a header leads to what the definition finds: the part after `q` with the header's parameters, or the same refusal

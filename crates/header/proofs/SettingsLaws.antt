@@ -1,4 +1,5 @@
 -- P1 and P2: one law for each path through a function, and that they are the definition's parameters.
+use Rattle.std.specs.Prelude.{Some, None}
 use Prim.Native.Nat.{ℕ, zero, suc, ◌≤◌, ◌<◌}
 use native.Mathlib.Omega.{arith}
 use mathlib.Core.Option.{Option, none, some, map}
@@ -15,8 +16,7 @@ use Rattle.numbers.proofs.Laws.{cond_yes, cond_no}
 use Rattle.numbers.proofs.Reading.{read_count, read-value}
 use Rattle.canvas.proofs.Covers.{by-test}
 use Rattle.meaning.specs.Sessions.{parameters_of}
-use Rattle.payload.specs.declared.Given.{Given}
-use Rattle.payload.specs.declared.Given.TheVariants.{Nothing, Number}
+use Rattle.payload.specs.Results.{Given}
 use Rattle.payload.specs.declared.Settings.{Settings}
 use Rattle.payload.specs.Meant.{given_meant, parameters_meant}
 use Rattle.header.specs.Settings.{given_at, settings_from}
@@ -24,14 +24,14 @@ use Rattle.header.specs.Settings.{given_at, settings_from}
 -- ---- the code
 
 -- there are not so many values
-pub given-none : {n : ℕ} (v : Parameters) (i : ℕ) → n ≡ v.count → n ≤ i → Nothing ≡ given_at v i
+pub given-none : {n : ℕ} (v : Parameters) (i : ℕ) → n ≡ v.count → n ≤ i → None ≡ given_at v i
 unfolding given_at
 given-none v i e h = sym (cond_yes _ _ (le-leb v.count i (omega arith)))
 
 -- there are
-pub given-some : {n k m : ℕ} (v : Parameters) (i : ℕ) → n ≡ v.count → i < n → k ≡ value_at v i → m ≡ held16 k → Number m ≡ given_at v i
+pub given-some : {n k m : ℕ} (v : Parameters) (i : ℕ) → n ≡ v.count → i < n → k ≡ value_at v i → m ≡ held16 k → Some m ≡ given_at v i
 unfolding given_at
-given-some v i e h k m = ap Number (m ∙ ap held16 k) ∙ sym (cond_no _ _ (lt-leb v.count i (omega arith)))
+given-some v i e h k m = ap Some (m ∙ ap held16 k) ∙ sym (cond_no _ _ (lt-leb v.count i (omega arith)))
 
 -- the first two values of a header that `q` closed
 pub settings-as : {v : Parameters} {a b : Given} (h : Parameters) → v ≡ finished h → a ≡ given_at v 0 → b ≡ given_at v 1
@@ -65,11 +65,11 @@ given-meant {bs} {h} r i =
     by-test (leb (finished h).count i)
     (λ t.
     let few : (finished h).count ≤ i = leb-true _ _ t in
-    ap given_meant (cond_yes Nothing (Number (held16 (value_at (finished h) i))) t)
+    ap given_meant (cond_yes None (Some (held16 (value_at (finished h) i))) t)
     ∙ ap (map held16) (sym (elem-none (values 3 bs) i (omega arith))))
     (λ t.
     let many : i < (finished h).count = leb-false _ _ t in
-    ap given_meant (cond_no Nothing (Number (held16 (value_at (finished h) i))) t)
+    ap given_meant (cond_no None (Some (held16 (value_at (finished h) i))) t)
     ∙ ap (λ (n : ℕ). some (held16 n)) value
     ∙ ap (map held16) (sym (elem-some (values 3 bs) i (omega arith))))
 

@@ -7,7 +7,7 @@ ghost use Rattle.header.specs.Settings.{given_at, settings_from};
 
 use frame::Refusal;
 use numbers::{Parameters, ends_payload, hold16, is_digit, is_skipped};
-use payload::{Given, Settings};
+use payload::Settings;
 
 // Before the introducer, after the 1B of one, in the header.
 #[derive(Clone, Copy)]
@@ -17,11 +17,11 @@ pub enum Place {
     Header,
 }
 
+// On to the next byte, or to the payload.
 #[derive(Clone, Copy)]
 pub enum Led {
     On,
     Begins,
-    Refused(Refusal),
 }
 
 // What one byte came to. The small fields stand last, here and below: padding bytes between fields are copied with them from byte to byte.
@@ -29,7 +29,7 @@ pub enum Led {
 pub struct Step {
     pub header: Parameters,
     pub place: Place,
-    pub led: Led,
+    pub led: Result<Led, Refusal>,
 }
 
 // What some bytes came to. A byte that is refused is not counted, and those before the first of them are.
@@ -38,7 +38,7 @@ pub struct Lead {
     pub header: Parameters,
     pub consumed: usize,
     pub place: Place,
-    pub led: Led,
+    pub led: Result<Led, Refusal>,
 }
 
 fn start_byte(header: Parameters, byte: u8) -> Step
@@ -48,20 +48,20 @@ fn start_byte(header: Parameters, byte: u8) -> Step
         return Step {
             place: Place::Introduced,
             header,
-            led: Led::On,
+            led: Ok(Led::On),
         };
     }
     if byte == 0x90 {
         return Step {
             place: Place::Header,
             header,
-            led: Led::On,
+            led: Ok(Led::On),
         };
     }
     Step {
         place: Place::Start,
         header,
-        led: Led::Refused(Refusal::Introducer),
+        led: Err(Refusal::Introducer),
     }
 }
 
@@ -72,17 +72,17 @@ fn introduced_byte(header: Parameters, byte: u8) -> Step
         return Step {
             place: Place::Header,
             header,
-            led: Led::On,
+            led: Ok(Led::On),
         };
     }
     Step {
         place: Place::Introduced,
         header,
-        led: Led::Refused(Refusal::Introducer),
+        led: Err(Refusal::Introducer),
     }
 }
 
-fn in_header(header: Parameters, led: Led) -> Step
+fn in_header(header: Parameters, led: Result<Led, Refusal>) -> Step
     ensures { result ≡ record { place = Place.Header; header = header; led = led } }
 {
     Step {
@@ -96,21 +96,21 @@ fn header_byte(header: Parameters, byte: u8) -> Step
     ensures { result ≡ header_byte header byte }
 {
     if is_skipped(byte) {
-        return in_header(header, Led::On);
+        return in_header(header, Ok(Led::On));
     }
     if is_digit(byte) {
-        return in_header(header.digit(byte), Led::On);
+        return in_header(header.digit(byte), Ok(Led::On));
     }
     if byte == b';' {
-        return in_header(header.semicolon(), Led::On);
+        return in_header(header.semicolon(), Ok(Led::On));
     }
     if byte == b'q' {
-        return in_header(header, Led::Begins);
+        return in_header(header, Ok(Led::Begins));
     }
     if ends_payload(byte) {
-        return in_header(header, Led::Refused(Refusal::HeaderEnded));
+        return in_header(header, Err(Refusal::HeaderEnded));
     }
-    in_header(header, Led::Refused(Refusal::HeaderByte))
+    in_header(header, Err(Refusal::HeaderByte))
 }
 
 fn lead_byte(place: Place, header: Parameters, byte: u8) -> Step
@@ -123,7 +123,7 @@ fn lead_byte(place: Place, header: Parameters, byte: u8) -> Step
     }
 }
 
-fn lead_at(place: Place, header: Parameters, consumed: usize, led: Led) -> Lead
+fn lead_at(place: Place, header: Parameters, consumed: usize, led: Result<Led, Refusal>) -> Lead
     ensures { result ≡ lead_at place header consumed led }
 {
     Lead {
@@ -140,35 +140,27 @@ pub fn read_lead(place: Place, header: Parameters, bytes: &[u8], from: usize) ->
 {
     let mut here = place;
     let mut values = header;
-    let mut consumed = from;
-    while consumed < bytes.len() {
+    for consumed in from..bytes.len() {
         let step = lead_byte(here, values, bytes[consumed]);
-        let led = step.led;
         here = step.place;
         values = step.header;
-        match led {
-            Led::On => {
-                consumed = consumed + 1;
-            }
-            Led::Begins => {
-                return lead_at(here, values, consumed + 1, led);
-            }
-            Led::Refused(_) => {
-                return lead_at(here, values, consumed, led);
-            }
+        match step.led {
+            Ok(Led::On) => {}
+            Ok(Led::Begins) => return lead_at(here, values, consumed + 1, step.led),
+            Err(_) => return lead_at(here, values, consumed, step.led),
         }
     }
-    lead_at(here, values, consumed, Led::On)
+    lead_at(here, values, from.max(bytes.len()), Ok(Led::On))
 }
 
 // A header's value, where it has so many.
-fn given(values: Parameters, at: usize) -> Given
+fn given(values: Parameters, at: usize) -> Option<u16>
     ensures { result ≡ given_at values at }
 {
     if values.count() <= at {
-        return Given::Nothing;
+        return None;
     }
-    Given::Number(hold16(values.value(at)))
+    Some(hold16(values.value(at)))
 }
 
 // P1 and P2 of a header that `q` closes.

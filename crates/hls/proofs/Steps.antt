@@ -1,12 +1,10 @@
--- Laws of the functions on f64: what a test picks, and the cast to a byte. Assumes nothing.
-use Rattle.std.proofs.Common.{◌≡◌, ℕ, zero, suc, ◌+◌, ◌-◌, ◌*◌, ◌/◌, ◌%◌, ◌^◌, ◌<◌, ◌≤◌, min, Bool, true, false, T, [], ◌∷◌, get_or, ℤ, pos, sym, refl, ap, ◌∙◌, subst, true≢false, div-lt_iff_lt-mul, le-div_iff_mul-le, arith, lit<, lt→ltb, ltb-false, ltb-true}
-use native.Mathlib.Nat.{zero-div}
+-- Laws of the functions on f64: what a test picks, and the whole. Assumes nothing.
+use Rattle.std.proofs.Common.{◌≡◌, ℕ, zero, suc, ◌+◌, ◌%◌, ◌<◌, Bool, true, false, [], ◌∷◌, get_or, ℤ, pos, sym, refl, ap, ◌∙◌, subst, lit<}
 use lib.Signed.{le_z}
-use lib.Ieee.{Float, nan, inf, fin, up, down, lt, to_unsigned}
+use lib.Ieee.{Float}
 use lib.Ieee.Casts.{to_unsigned-lt}
-use lib.Ieee.Fits.{down_pos}
 use Rattle.hls.proofs.Whole.{percent-byte-lt}
-use Rattle.hls.specs.Hls.{pick, add, sub, mul, div, f0, f1, f2, f3, f100, f255, f360, over, raised, lowered, placed, hue_to_rgb, upper, channel_byte, between, coloured, grey, hls_bytes}
+use Rattle.hls.specs.Hls.{pick, add, sub, mul, div, f1, f2, f3, f100, f360, over, raised, lowered, placed, hue_to_rgb, upper, channel_byte, between, coloured, grey, hls_bytes}
 use Rattle.hls.specs.Percent.{held, percent_byte}
 use Rattle.hls.specs.Turn.{modulo360, turned}
 
@@ -21,63 +19,6 @@ pick_no a b {c} e h = subst (λ (x : Bool). c ≡ pick x a b) (sym e) h
 pub at_turn : (p q v : Float) {r t u : Float} → u ≡ raised v → t ≡ lowered u → r ≡ placed p q t → r ≡ hue_to_rgb p q v
 unfolding hue_to_rgb
 at_turn p q v e f h = h ∙ ap (λ (x : Float). placed p q x) (f ∙ ap lowered e)
-
--- ---- the cast to a byte, of a w that is not above 0, of one from 255 on, and of one between
-
-capped : (a d : ℕ) → 255 * 1 * d ≤ a * 1 → 0 < d → 255 ≡ min (a / d) 255
-capped a d h p = let k : 255 ≤ a / d = (le-div_iff_mul-le p).1 (omega arith) in omega arith
-
-under : (a d : ℕ) → a * 1 < 255 * 1 * d → 0 < d → a / d < 255
-under a d h p = (div-lt_iff_lt-mul p).1 (omega arith)
-
-pub byte-none : (w : Float) → lt f0 w ≡ false → 0 ≡ to_unsigned 8 w
-unfolding lt to_unsigned
-byte-none nan t = refl
-byte-none (inf true) t = refl
-byte-none (inf false) t = cc t
-byte-none (fin true m e) t = refl
-byte-none (fin false m e) t = none (m * up e) (ltb-false (0 * 1 * down e) (m * up e * 1) t)
-  where
-    none : (a : ℕ) → a * 1 ≤ 0 * 1 * down e → 0 ≡ min (a / down e) 255
-    none a h = let z : a ≡ 0 = omega arith in rw z (rw (zero-div (down e)))
-
-pub byte_full : (w : Float) → lt f0 w ≡ true → lt w f255 ≡ false → 255 ≡ to_unsigned 8 w
-unfolding lt to_unsigned
-byte_full nan t u = cc t
-byte_full (inf true) t u = cc t
-byte_full (inf false) t u = refl
-byte_full (fin true m e) t u = cc t
-byte_full (fin false m e) t u = capped (m * up e) (down e) (ltb-false (m * up e * 1) (255 * 1 * down e) u) (down_pos e)
-
--- what the cast to a u64 asks, and that it is the cast to a byte
-pub record Between (w : Float) : Type 0 where
-  pub asked : T (lt (fin true 1 (pos 0)) w) × T (lt w (fin false 1 (pos 64)))
-  pub same : to_unsigned 64 w ≡ to_unsigned 8 w
-  pub small : to_unsigned 64 w < 256
-
-pub byte-between : (w : Float) → lt f0 w ≡ true → lt w f255 ≡ true → Between w
-unfolding lt
-byte-between nan t u = absurd (true≢false (sym t))
-byte-between (inf true) t u = absurd (true≢false (sym t))
-byte-between (inf false) t u = absurd (true≢false (sym u))
-byte-between (fin true m e) t u = absurd (true≢false (sym t))
-byte-between (fin false m e) t u =
-    let a = m * up e in
-    let d = down e in
-    let p = down_pos e in
-    let h : a * 1 < 255 * 1 * d = ltb-true (a * 1) (255 * 1 * d) u in
-    let k : a / d < 255 = under a d h p in
-    record {
-      asked = (lt→ltb 0 (1 * 1 * d + a * 1) (omega arith), lt→ltb (a * 1) (1 * 2 ^ 64 * d) (omega arith));
-      same = unfold to_unsigned in least (a / d) k;
-      small = unfold to_unsigned in below (a / d) k;
-    }
-  where
-    least : (n : ℕ) → n < 255 → min n (2 ^ 64 - 1) ≡ min n (2 ^ 8 - 1)
-    least n h = omega arith
-
-    below : (n : ℕ) → n < 255 → min n (2 ^ 64 - 1) < 256
-    below n h = omega arith
 
 -- ---- the whole
 

@@ -2,23 +2,17 @@
 #![tactic(auto)]
 
 ghost use Rattle.std.specs.Prelude.{◌≡◌};
-ghost use Rattle.std.specs.Float.Ieee.{to_unsigned};
 ghost use Rattle.hls.specs.Percent.{held, outside, percent_byte, percent_of};
 ghost use Rattle.hls.specs.Turn.{modulo360};
-ghost use Rattle.hls.specs.Hls.{raised, lowered, hue_to_rgb, upper, hls_bytes};
+ghost use Rattle.hls.specs.Hls.{raised, lowered, hue_to_rgb, upper, channel_byte, hls_bytes};
 ghost use Rattle.hls.specs.Exact.{exact_hls, AllBeside};
 
 // Clamps a percent to 0 to 100.
+#[tactic(auto, using(crate::proofs::Whole::held_clamped))]
 fn clamp_percent(v: i32) -> u32
     ensures { result ≡ held v }
 {
-    if v < 0 {
-        return 0;
-    }
-    if 100 < v {
-        return 100;
-    }
-    v as u32
+    v.clamp(0, 100) as u32
 }
 
 fn percent_byte(value: i32) -> u8
@@ -31,10 +25,7 @@ fn percent_byte(value: i32) -> u8
 pub fn is_outside(value: i32) -> bool
     ensures { result ≡ outside value }
 {
-    if value < 0 {
-        return true;
-    }
-    100 < value
+    !(0..=100).contains(&value)
 }
 
 // A percent's byte, and whether the number had to be held.
@@ -54,15 +45,12 @@ pub fn percent_to_byte(value: i32) -> Percent
     }
 }
 
-// The Rust's `h.rem_euclid(360)`.
+// A turn in whole degrees, from 0 to 359.
+#[tactic(auto, using(crate::proofs::Whole::modulo_is, crate::proofs::Whole::modulo_lt))]
 fn rem_euclid_360(h: i32) -> u32
     ensures { result ≡ modulo360 h }
 {
-    let rest = h % 360;
-    if rest < 0 {
-        return (rest + 360) as u32;
-    }
-    rest as u32
+    h.rem_euclid(360) as u32
 }
 
 // The first of the two steps that bring a turn to 0.0 to 1.0.
@@ -111,17 +99,11 @@ fn upper_end(lum: f64, sat: f64) -> f64
     lum + sat - lum * sat
 }
 
-// The Rust's `.floor().clamp(0.0, 255.0) as u8`.
-fn floor_to_byte(w: f64) -> u8
-    ensures { result ≡ to_unsigned 8 w }
+// A channel's byte: the Rust's `(c * 255.0 + 0.5).floor().clamp(0.0, 255.0) as u8`.
+fn channel_byte(c: f64) -> u8
+    ensures { result ≡ channel_byte c }
 {
-    if w > 0.0 {
-        if w < 255.0 {
-            return std::num::truncating_f64_to_u64(w) as u8;
-        }
-        return 255;
-    }
-    0
+    std::num::saturating_f64_to_u8(c * 255.0 + 0.5)
 }
 
 // Two promises: the bytes are those of the f64 steps in the Rust's order, and each stands beside the
@@ -144,9 +126,5 @@ pub fn hls_to_rgb(h: i32, l: i32, s: i32) -> [u8; 3]
     let r = hue_to_rgb(p, q, hue + 1.0 / 3.0);
     let g = hue_to_rgb(p, q, hue);
     let b = hue_to_rgb(p, q, hue - 1.0 / 3.0);
-    [
-        floor_to_byte(r * 255.0 + 0.5),
-        floor_to_byte(g * 255.0 + 0.5),
-        floor_to_byte(b * 255.0 + 0.5),
-    ]
+    [channel_byte(r), channel_byte(g), channel_byte(b)]
 }

@@ -6,13 +6,17 @@ ghost use Rattle.std.specs.Prelude.{◌≡◌};
 ghost use Rattle.dcs.specs.Session as dcs;
 ghost use Rattle.payload.specs.Session as payload;
 
+use dcs::Ending;
+use frame::Refusal;
+use payload::{Answer, Fed};
+
 // Reads bytes with the payload session that stands there, and leaves the session after them there.
 pub fn feed_payload(
     session: &mut payload::Session,
     canvas: &mut [u8],
     bytes: &[u8],
     allowance: usize,
-) -> payload::Answer
+) -> Result<Answer<u8>, Refusal>
     ensures { (record { answer = result; session = session.new }, canvas.new) ≡ payload.fed_by
         session.old canvas.old bytes.now allowance }
 {
@@ -21,13 +25,14 @@ pub fn feed_payload(
     fed.answer
 }
 
+// Kept: a trait of both sessions, with what each feed comes to as its law, would be longer than these two pairs.
 // Reads bytes with the DCS session that stands there, and leaves the session after them there.
 pub fn feed_dcs(
     session: &mut dcs::Session,
     canvas: &mut [u8],
     bytes: &[u8],
     allowance: usize,
-) -> dcs::Answer
+) -> Result<Answer<Ending>, Refusal>
     ensures { (record { answer = result; session = session.new }, canvas.new) ≡ dcs.fed_by
         session.old canvas.old bytes.now allowance }
 {
@@ -43,12 +48,12 @@ pub fn place_and_feed_payload(
     canvas: &mut [u8],
     bytes: &[u8],
     allowance: usize,
-) -> payload::Fed
+) -> Fed<payload::Session, u8>
     ensures { (result, canvas.new) ≡ payload.fed_by session canvas.old bytes.now allowance }
 {
     let mut place = session;
     let answer = feed_payload(&mut place, canvas, bytes, allowance);
-    payload::Fed {
+    Fed {
         answer,
         session: place,
     }
@@ -60,12 +65,12 @@ pub fn place_and_feed_dcs(
     canvas: &mut [u8],
     bytes: &[u8],
     allowance: usize,
-) -> dcs::Fed
+) -> Fed<dcs::Session, Ending>
     ensures { (result, canvas.new) ≡ dcs.fed_by session canvas.old bytes.now allowance }
 {
     let mut place = session;
     let answer = feed_dcs(&mut place, canvas, bytes, allowance);
-    dcs::Fed {
+    Fed {
         answer,
         session: place,
     }

@@ -1,7 +1,7 @@
 -- A feed that was refused by 7 may be presented again on a larger canvas, with the picture carried over as the refused feed left it: what that had
 -- painted is painted again, and the outcome is that of a move before the refused feed.
 -- Assumes nothing.
-use Rattle.std.specs.Prelude.{◌≡◌, ℕ, ◌+◌, ◌*◌, ◌/◌, ◌%◌, ◌<◌, ◌≤◌, Bool, true, false, cond, eqb, ltb, leb, List, [], ◌++◌, length, get_or}
+use Rattle.std.specs.Prelude.{◌≡◌, ℕ, ◌+◌, ◌*◌, ◌/◌, ◌%◌, ◌<◌, ◌≤◌, Bool, true, false, cond, eqb, ltb, leb, List, [], ◌++◌, length, get_or, Ok, Err}
 use mathlib.Core.Bool.{true≢false}
 use mathlib.Core.Path.{refl, sym, ap, ◌∙◌}
 use native.Mathlib.Nat.{zero-add}
@@ -16,12 +16,10 @@ use Rattle.frame.specs.declared.Refusal.TheVariants as refusals
 use Rattle.reference.specs.Step.{Reached}
 use Rattle.reference.specs.Feed.{feed_from}
 use Rattle.payload.specs.declared.Answer.TheVariants as answers
-use Rattle.payload.specs.declared.Fed.{Fed}
+use Rattle.payload.specs.Results.{Fed, Verdict}
 use Rattle.payload.specs.declared.Life.{Life}
 use Rattle.payload.specs.declared.Life.TheVariants as lives
 use Rattle.payload.specs.declared.Session.{Session}
-use Rattle.payload.specs.declared.refusals.Verdict.{Verdict}
-use Rattle.payload.specs.declared.refusals.Verdict.TheVariants as verdicts
 use Rattle.payload.specs.Refusals.{is_failed, fitting, misfitting, feed_judged}
 use Rattle.payload.specs.Session.{answered_by, fed_live, fed_in, fed_as, fed_by}
 use Rattle.moving.specs.Carry.{pixel_byte, carried}
@@ -57,12 +55,12 @@ alike-reached {s} {bs} {a} {l} {l'} e =
 -- ---- what a feed that passes reads
 
 -- by the verdict, a feed of a live session reads
-fed-live : (s : Session) (l bs : List ℕ) (a : ℕ) → feed_judged s (length l) a ≡ verdicts.Fine → s.life ≡ lives.Live → fed_by s l bs a ≡ fed_live s l bs a
+fed-live : (s : Session) (l bs : List ℕ) (a : ℕ) → feed_judged s (length l) a ≡ Ok tt → s.life ≡ lives.Live → fed_by s l bs a ≡ fed_live s l bs a
 unfolding fed_by fed_as fed_in
 fed-live s l bs a fine live = ap (λ (v : Verdict). fed_as v s l bs a) fine ∙ ap (λ (k : Life). fed_in k s l bs a) live
 
 -- a feed makes one outcome of them, where it passes and reads
-pub alike-fed : {s : Session} {bs : List ℕ} {a : ℕ} {l l' : List ℕ} → FedAlike s bs a l l' → feed_judged s (length l) a ≡ verdicts.Fine
+pub alike-fed : {s : Session} {bs : List ℕ} {a : ℕ} {l l' : List ℕ} → FedAlike s bs a l l' → feed_judged s (length l) a ≡ Ok tt
     → s.life ≡ lives.Live → fed_by s l' bs a ≡ fed_by s l bs a
 unfolding fed_live
 alike-fed {s} {bs} {a} {l} {l'} e fine live =
@@ -75,32 +73,32 @@ alike-fed {s} {bs} {a} {l} {l'} e fine live =
 -- the verdict, by its three tests
 abbrev judged : Bool → Bool → Bool → Verdict
 judged failed misfits few =
-    cond failed (verdicts.Refused refusals.Failed)
-    (cond misfits (verdicts.Refused refusals.Canvas) (cond few (verdicts.Refused refusals.Allowance) verdicts.Fine))
+    cond failed (Err refusals.Failed)
+    (cond misfits (Err refusals.Canvas) (cond few (Err refusals.Allowance) (Ok tt)))
 
 -- it is never 7
-judged-other : (t u v : Bool) → judged t u v ≡ verdicts.Refused refusals.Room → ⊥
+judged-other : (t u v : Bool) → judged t u v ≡ Err refusals.Room → ⊥
 judged-other true u v e = let z : ◌≡◌ {A = ℕ} 0 1 = cc in omega arith
 judged-other false true v e = let z : ◌≡◌ {A = ℕ} 0 1 = cc in omega arith
 judged-other false false true e = let z : ◌≡◌ {A = ℕ} 0 1 = cc in omega arith
 judged-other false false false e = let z : ◌≡◌ {A = ℕ} 0 1 = cc in omega arith
 
 -- where it is fine each test fails
-judged-fine : (t u v : Bool) → judged t u v ≡ verdicts.Fine → (t ≡ false) × (u ≡ false) × (v ≡ false)
+judged-fine : (t u v : Bool) → judged t u v ≡ Ok tt → (t ≡ false) × (u ≡ false) × (v ≡ false)
 judged-fine true u v e = absurd (let z : ◌≡◌ {A = ℕ} 0 1 = cc in omega arith)
 judged-fine false true v e = absurd (let z : ◌≡◌ {A = ℕ} 0 1 = cc in omega arith)
 judged-fine false false true e = absurd (let z : ◌≡◌ {A = ℕ} 0 1 = cc in omega arith)
 judged-fine false false false e = (refl, refl, refl)
 
 -- a refusal that is not the verdict's comes from reading
-verdict-fine : (v : Verdict) (s : Session) (l bs : List ℕ) (a : ℕ) → (v ≡ verdicts.Refused refusals.Room → ⊥)
-    → (fed_as v s l bs a).0.answer ≡ answers.Refused refusals.Room → v ≡ verdicts.Fine
+verdict-fine : (v : Verdict) (s : Session) (l bs : List ℕ) (a : ℕ) → (v ≡ Err refusals.Room → ⊥)
+    → (fed_as v s l bs a).0.answer ≡ Err refusals.Room → v ≡ Ok tt
 unfolding fed_as
-verdict-fine verdicts.Fine s l bs a other e = refl
-verdict-fine (verdicts.Refused n) s l bs a other e = absurd (other cc)
+verdict-fine (Ok tt) s l bs a other e = refl
+verdict-fine (Err n) s l bs a other e = absurd (other cc)
 
 -- and an ended session does not read
-life-live : (k : Life) (s : Session) (l bs : List ℕ) (a : ℕ) → (fed_in k s l bs a).0.answer ≡ answers.Refused refusals.Room → is_failed k ≡ false
+life-live : (k : Life) (s : Session) (l bs : List ℕ) (a : ℕ) → (fed_in k s l bs a).0.answer ≡ Err refusals.Room → is_failed k ≡ false
     → k ≡ lives.Live
 unfolding fed_in is_failed
 life-live lives.Live s l bs a e f = refl
@@ -109,7 +107,7 @@ life-live lives.Failed s l bs a e f = absurd (true≢false f)
 
 -- what a feed that passes has found
 pub record Passed (s : Session) (n a : ℕ) : Type 0 where
-  pub fine : feed_judged s n a ≡ verdicts.Fine
+  pub fine : feed_judged s n a ≡ Ok tt
   pub live : s.life ≡ lives.Live
   pub rows : s.ground.rows ≡ rows_of n s.ground.stride
   pub width : s.frame.area.width ≤ s.ground.stride
@@ -117,12 +115,12 @@ pub record Passed (s : Session) (n a : ℕ) : Type 0 where
   pub enough : 6 * s.ground.limits.width ≤ a
 
 -- refused by 7, it had passed
-pub room-passed : (s : Session) (l bs : List ℕ) (a : ℕ) → (fed_by s l bs a).0.answer ≡ answers.Refused refusals.Room → Passed s (length l) a
+pub room-passed : (s : Session) (l bs : List ℕ) (a : ℕ) → (fed_by s l bs a).0.answer ≡ Err refusals.Room → Passed s (length l) a
 unfolding fed_by fed_as feed_judged misfitting fitting
 room-passed s l bs a e =
     let few : Bool = ltb a (6 * s.ground.limits.width) in
-    let other : feed_judged s (length l) a ≡ verdicts.Refused refusals.Room → ⊥ = judged-other (is_failed s.life) (misfitting s (length l)) few in
-    let fine : feed_judged s (length l) a ≡ verdicts.Fine = verdict-fine (feed_judged s (length l) a) s l bs a other e in
+    let other : feed_judged s (length l) a ≡ Err refusals.Room → ⊥ = judged-other (is_failed s.life) (misfitting s (length l)) few in
+    let fine : feed_judged s (length l) a ≡ (Ok tt) = verdict-fine (feed_judged s (length l) a) s l bs a other e in
     let tests = judged-fine (is_failed s.life) (misfitting s (length l)) few fine in
     let fits : fitting s (length l) ≡ true = not-false (fitting s (length l)) tests.1 in
     let two = and_right (eqb (length l) s.length) _ fits in
@@ -138,7 +136,7 @@ room-passed s l bs a e =
 
 -- the moved session's feed passes on the other canvas, with at least the allowance
 pub moved_passes : {s : Session} {n a : ℕ} (a' stride' n' : ℕ) → Passed s n a → a ≤ a' → s.ground.stride ≤ stride'
-    → s.ground.rows ≤ rows_of n' stride' → feed_judged (moved_to s stride' n') n' a' ≡ verdicts.Fine
+    → s.ground.rows ≤ rows_of n' stride' → feed_judged (moved_to s stride' n') n' a' ≡ Ok tt
 unfolding feed_judged misfitting fitting is_failed moved_to
 moved_passes {s} a' stride' n' passed more wider taller =
     let long : eqb n' n' ≡ true = eq-eqb n' n' refl in
@@ -199,7 +197,7 @@ module _ (stride stride' : ℕ) (area : Area) (plan more : List Paint) (l other 
 
 -- refused by 7: on a canvas with at least the sides, and with at least the allowance, the carried pictures are alike again
 pub alike_moved : {s : Session} {bs : List ℕ} {a a' : ℕ} {l l' : List ℕ} → FedAlike s bs a l l'
-    → (fed_by s l bs a).0.answer ≡ answers.Refused refusals.Room
+    → (fed_by s l bs a).0.answer ≡ Err refusals.Room
     → a ≤ a' → (stride' : ℕ) (other : List ℕ) → s.ground.stride ≤ stride' → s.ground.rows ≤ rows_of (length other) stride'
     → FedAlike (moved_to s stride' (length other)) bs a'
     (carried s.ground.stride stride' (area_of s.frame.area.width s.frame.area.height) l other)
@@ -224,7 +222,7 @@ alike_moved {s} {bs} {a} {a'} {l} {l'} alike refused more stride' other wider ta
     }
 
 -- so the feed of the moved session is the same, whether the picture was carried over before the refused feed or after it
-pub fed-again : (s : Session) (bs : List ℕ) {a a' : ℕ} (l : List ℕ) → (fed_by s l bs a).0.answer ≡ answers.Refused refusals.Room
+pub fed-again : (s : Session) (bs : List ℕ) {a a' : ℕ} (l : List ℕ) → (fed_by s l bs a).0.answer ≡ Err refusals.Room
     → a ≤ a' → (stride' : ℕ) (other : List ℕ) → s.ground.stride ≤ stride' → s.ground.rows ≤ rows_of (length other) stride'
     → fed_by (moved_to s stride' (length other))
     (carried s.ground.stride stride' (area_of s.frame.area.width s.frame.area.height) (fed_by s l bs a).1 other) bs a'

@@ -1,6 +1,7 @@
 -- Laws of carrying: a picture's rows one after the other, byte by byte, and what a carried picture shows.
-use Rattle.std.specs.Prelude.{◌≡◌, ℕ, ◌+◌, ◌-◌, ◌*◌, ◌/◌, ◌%◌, ◌<◌, ◌≤◌, Bool, true, false, cond, not, ◌&&◌, List, ◌++◌, length, get_or, take, drop}
+use Rattle.std.specs.Prelude.{◌≡◌, ℕ, zero, suc, ◌+◌, ◌-◌, ◌*◌, ◌/◌, ◌%◌, ◌<◌, ◌≤◌, Bool, true, false, cond, not, ◌&&◌, List, ◌++◌, length, get_or, take, drop}
 use native.Mathlib.Nat.{zero-add, div-add-mod'}
+use native.Mathlib.Numerals.{add-one}
 use native.Mathlib.Omega.{arith}
 use mathlib.Core.Bool.{true≢false}
 use mathlib.Core.Path.{sym, ap, ap₂, ◌∙◌}
@@ -8,13 +9,13 @@ use borrow.Author.Tests.{eqb-true, eq-eqb, not-true, not-false}
 use lib.ListN.{length-drop, get_or-append}
 use lib.Seq.{ext_get_or, paste, length-paste, length_paste_head, length-take-le, get_or-take, get_or-drop, get_or-append-add}
 use Rattle.numbers.proofs.Laws.{cond_yes, cond_no}
-use Rattle.canvas.specs.Copy.{has_picture}
-use Rattle.canvas.specs.Picture.{Area, area_of, grid, span, visible, rows_of}
+use Rattle.canvas.specs.Copy.{has_picture, rows_copied}
+use Rattle.canvas.specs.Picture.{Area, area_of, grid, span, visible}
 use Rattle.canvas.proofs.Bytes.{length-replaced, get_or-replaced}
 use Rattle.canvas.proofs.Covers.{and_left, and_right, and_both, same_test, by-test, no_test, split, span-high, span-in}
 use Rattle.canvas.proofs.Copies.{has-columns, has-rows}
-use Rattle.canvas.proofs.Grid.{in_row, row-span}
-use Rattle.canvas.proofs.Growth.{rectangle-room, visible-column, visible-row, visible-in}
+use Rattle.canvas.proofs.Grid.{in_row, row-span, rows-room}
+use Rattle.canvas.proofs.Growth.{visible-column, visible-row, visible-in}
 use Rattle.moving.specs.Carry.{pixel_byte, carried, carried_to}
 
 -- ---- byte by byte
@@ -163,10 +164,10 @@ module _ (stride stride' width y : ℕ) (canvas other : List ℕ) (columns : wid
       by-test (in_row 0 width y (k / 4 % stride') (k / 4 / stride')) (row_in k h') (row_out k h')
       ∙ sym (carried-byte stride stride' (area_of width (y + 1)) canvas other k h'))
 
--- ---- the turns of the loop
+-- ---- all rows
 
 -- no rows yet
-pub rows_none : (stride stride' width : ℕ) (canvas other : List ℕ) → other ≡ carried stride stride' (area_of width 0) canvas other
+rows_none : (stride stride' width : ℕ) (canvas other : List ℕ) → other ≡ carried stride stride' (area_of width 0) canvas other
 unfolding grid
 rows_none stride stride' width canvas other =
     ext_get_or 0 other (carried stride stride' (area_of width 0) canvas other) (sym (length-carried stride stride' (area_of width 0) canvas other))
@@ -178,26 +179,17 @@ rows_none stride stride' width canvas other =
     unseen : (p : ℕ) → grid stride' (visible (area_of width 0)) p ≡ false
     unseen p = no_test _ (λ t. omega (arith, visible-row (area_of width 0) (p % stride') (p / stride') t))
 
-module _ (stride stride' width : ℕ) (canvas other : List ℕ) where
-  pub rows_next : {before after : List ℕ} (y height : ℕ) → width ≤ stride → height ≤ rows_of (length canvas) stride → width ≤ stride'
-      → height ≤ rows_of (length other) stride' → y < height
-      → before ≡ carried stride stride' (area_of width y) canvas other
-      → after ≡ paste before (4 * (y * stride')) (drop (4 * (y * stride)) canvas) (4 * width)
-      → after ≡ carried stride stride' (area_of width (y + 1)) canvas other
-  rows_next y height a b c d less e f =
-      f
-      ∙ ap (λ (l : List ℕ). paste l (4 * (y * stride')) (drop (4 * (y * stride)) canvas) (4 * width)) e
-      ∙ carried_row stride stride' width y canvas other a c
-      (rectangle-room (length canvas) stride width height y a b less)
-      (rectangle-room (length other) stride' width height y c d less)
-
-  pub rows_last : {after : List ℕ} (y height : ℕ) → y ≤ height → height ≤ y → after ≡ carried stride stride' (area_of width y) canvas other
-      → after ≡ carried stride stride' (area_of width height) canvas other
-  rows_last y height h k e =
-      let same : y ≡ height = omega arith in
-      e ∙ ap (λ (n : ℕ). carried stride stride' (area_of width n) canvas other) same
-
-pub ruleset row-turns = (rows_none, rows_next, rows_last)
+-- Rows that are copied from one stride to another are the picture carried.
+pub carried_rows : (stride stride' width height : ℕ) (canvas other : List ℕ) → width ≤ stride → width ≤ stride'
+    → 4 * (height * stride) ≤ length canvas → 4 * (height * stride') ≤ length other
+    → rows_copied stride stride' width height canvas other ≡ carried stride stride' (area_of width height) canvas other
+unfolding rows_copied
+carried_rows stride stride' width zero canvas other a b c d = rows_none stride stride' width canvas other
+carried_rows stride stride' width (suc y) canvas other a b c d =
+    ap (λ (l : List ℕ). paste l (4 * (y * stride')) (drop (4 * (y * stride)) canvas) (4 * width))
+    (carried_rows stride stride' width y canvas other a b (omega arith) (omega arith))
+    ∙ carried_row stride stride' width y canvas other a b (omega arith) (omega arith)
+    ∙ ap (λ (n : ℕ). carried stride stride' (area_of width n) canvas other) (add-one y)
 
 -- ---- the paths of the code: `t` and `u` are what the tests of the two pictures told
 
@@ -215,11 +207,20 @@ module _ (stride stride' width height : ℕ) (canvas other : List ℕ) {t : Bool
     unfolding carried_to
     path-second f = sym (cond_no _ _ (ap₂ ◌&&◌ (sym told ∙ not-false t first) (sym told' ∙ not-true u f)))
 
-    pub path-done : {other' : List ℕ} → not u ≡ false → other' ≡ carried stride stride' (area_of width height) canvas other
+    pub path-done : {other' : List ℕ} → not u ≡ false → other' ≡ rows_copied stride stride' width height canvas other
         → (0, other') ≡ carried_to stride stride' (area_of width height) canvas other
     unfolding carried_to
     path-done f e =
-        ap {A = List ℕ} {B = ℕ × List ℕ} (λ l. (0, l)) e ∙ sym (cond_yes _ _ (and_both (sym told ∙ not-false t first) (sym told' ∙ not-false u f)))
+        let here : has_picture stride (length canvas) (area_of width height) ≡ true = sym told ∙ not-false t first in
+        let there : has_picture stride' (length other) (area_of width height) ≡ true = sym told' ∙ not-false u f in
+        ap {A = List ℕ} {B = ℕ × List ℕ} (λ l. (0, l))
+        (e
+        ∙ carried_rows stride stride' width height canvas other
+        (has-columns stride (length canvas) width height here)
+        (has-columns stride' (length other) width height there)
+        (rows-room (length canvas) stride height (has-rows stride (length canvas) width height here))
+        (rows-room (length other) stride' height (has-rows stride' (length other) width height there)))
+        ∙ sym (cond_yes _ _ (and_both here there))
 
 pub ruleset carry-paths = (path-first, path-second, path-done)
 
@@ -228,7 +229,7 @@ pub path-columns : (stride n width height : ℕ) {t : Bool} → t ≡ has_pictur
 path-columns stride n width height {t} told f = has-columns stride n width height (sym told ∙ not-false t f)
 
 pub path-rows : (stride n width height : ℕ) {t : Bool} → t ≡ has_picture stride n (area_of width height) → not t ≡ false
-    → height ≤ rows_of n stride
-path-rows stride n width height {t} told f = has-rows stride n width height (sym told ∙ not-false t f)
+    → 4 * (height * stride) ≤ n
+path-rows stride n width height {t} told f = rows-room n stride height (has-rows stride n width height (sym told ∙ not-false t f))
 
 pub ruleset carry-room = (path-columns, path-rows)

@@ -21,8 +21,8 @@ use Rattle.frame.specs.declared.Pen.{Pen}
 use Rattle.frame.specs.declared.Raster.{Raster}
 use Rattle.frame.specs.declared.Refusal.TheVariants as refusals
 use Rattle.frame.specs.declared.VisibleArea.{VisibleArea}
-use Rattle.frame.specs.declared.sizes.Needed.{Needed}
-use Rattle.frame.specs.declared.sizes.Needed.TheVariants as needed
+use Rattle.frame.specs.declared.Refusal.{Refusal}
+use Rattle.std.specs.Prelude.{Result, Ok, Err}
 use Rattle.frame.specs.Sizes.{room_for, grown_area, raster_area, sixel_area}
 use Rattle.frame.specs.Commands.{with_command, by_digit, by_semicolon, unread_as, refused_as, repeat_ended, raster_by, raster_grown, raster_ended_by, finished_of, Ended, ended_in, ended}
 use Rattle.reference.specs.Step.{Reached, read_as, area_grown, canvas_after, painted_on, drawn_in, drawn_by, own_of, data_step, takes_semicolon, settled_step, argument_step, step_in}
@@ -42,9 +42,9 @@ abbrev ink : Frame → ℕ → Paint
 ink f bits = record { cover = in_sixel f.pen.column f.pen.row f.pen.repeat bits; colour = f.pen.color }
 
 -- what a size needs on two grounds: the same, or the first has no room
-data Needs : Needed → Needed → Type 0 where
-  same : {x : Needed} → Needs x x
-  short : {x : Needed} → Needs (needed.Refused refusals.Room) x
+data Needs : Result VisibleArea Refusal → Result VisibleArea Refusal → Type 0 where
+  same : {x : Result VisibleArea Refusal} → Needs x x
+  short : {x : Result VisibleArea Refusal} → Needs (Err refusals.Room) x
 
 -- where ending a command leads on two grounds: to the same, or the first has no room
 data Settles (f : Frame) (p : Palette) : Ended → Ended → Type 0 where
@@ -123,14 +123,14 @@ module _ (g : Ground) (stride' rows' : ℕ) (wider : g.stride ≤ stride') (tall
       grows_same g.stride stride' (growth f g w h ∷ ink f bits ∷ []) (λ l. cond_no _ _ t) (λ l. cond_no _ _ t'))
 
   -- a sixel, by the area that it needs
-  drawn-alike : (x : Needed) (f : Frame) (bits left left' : ℕ) (p : Palette) → left ≤ left'
+  drawn-alike : (x : Result VisibleArea Refusal) (f : Frame) (bits left left' : ℕ) (p : Palette) → left ≤ left'
       → Grows g.stride stride' (drawn_in x f g bits left p) (drawn_in x f (sided g stride' rows') bits left' p)
   unfolding drawn_in
-  drawn-alike (needed.Area w h) f bits left left' p more = painted-grows f bits left left' w h p more
-  drawn-alike (needed.Refused r) f bits left left' p more = grows-still g.stride stride' (refused_as f r) p
+  drawn-alike (Ok a) f bits left left' p more = painted-grows f bits left left' a.width a.height p more
+  drawn-alike (Err r) f bits left left' p more = grows-still g.stride stride' (refused_as f r) p
 
   -- and where the first ground may have no room for it
-  drawn-grows : {x x' : Needed} (f : Frame) (bits left left' : ℕ) (p : Palette) → left ≤ left' → Needs x x'
+  drawn-grows : {x x' : Result VisibleArea Refusal} (f : Frame) (bits left left' : ℕ) (p : Palette) → left ≤ left' → Needs x x'
       → Grows g.stride stride' (drawn_in x f g bits left p) (drawn_in x' f (sided g stride' rows') bits left' p)
   unfolding drawn_in refused_as unread_as
   drawn-grows {x} f bits left left' p more same = drawn-alike x f bits left left' p more
@@ -159,7 +159,7 @@ module _ (g : Ground) (stride' rows' : ℕ) (wider : g.stride ≤ stride') (tall
   -- ---- a byte while a command is pending
 
   -- a raster's end, by the area that it needs on each
-  raster-settles : {x x' : Needed} (f : Frame) (p : Palette) (r : Raster) → Needs x x'
+  raster-settles : {x x' : Result VisibleArea Refusal} (f : Frame) (p : Palette) (r : Raster) → Needs x x'
       → Settles f p (record { progress = raster_grown f r x; palette = p }) (record { progress = raster_grown f r x'; palette = p })
   unfolding raster_grown
   raster-settles f p r same = alike

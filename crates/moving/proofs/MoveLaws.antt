@@ -1,5 +1,5 @@
 -- Laws of moves: one for each path through a function that moves a session of the code.
-use Rattle.std.specs.Prelude.{◌≡◌, ℕ, ◌<◌, ◌≤◌, Bool, true, false, not, ◌&&◌, leb}
+use Rattle.std.specs.Prelude.{◌≡◌, ℕ, ◌<◌, ◌≤◌, Bool, true, false, not, ◌&&◌, leb, Ok, Err}
 use mathlib.Core.Path.{refl, sym, ap, ◌∙◌}
 use borrow.Author.Tests.{lt-leb, le-leb}
 use Rattle.numbers.proofs.Laws.{cond_yes, cond_no}
@@ -12,8 +12,7 @@ use Rattle.frame.specs.declared.VisibleArea.{VisibleArea}
 use Rattle.payload.specs.declared.Life.{Life}
 use Rattle.payload.specs.declared.Session.{Session}
 use Rattle.payload.specs.declared.kernel.Setup.{Setup}
-use Rattle.payload.specs.declared.refusals.Verdict.{Verdict}
-use Rattle.payload.specs.declared.refusals.Verdict.TheVariants.{Fine, Refused}
+use Rattle.payload.specs.Results.{Verdict}
 use Rattle.payload.specs.Core.{setup_of, over}
 use Rattle.payload.specs.Refusals.{openable, is_failed}
 use Rattle.header.specs.declared.Place.{Place}
@@ -23,9 +22,7 @@ use Rattle.dcs.specs.declared.Phase.TheVariants as phases
 use Rattle.dcs.specs.declared.Session as dcs_session
 use Rattle.dcs.specs.declared.kernel.Core.{Core}
 use Rattle.dcs.specs.Core as dcs_core
-use Rattle.moving.specs.declared.Moving.{Moving}
-use Rattle.moving.specs.declared.Moving.TheVariants as moves
-use Rattle.moving.specs.Session.{area_room, move_judged, moved_to, setup_moved, answer_as, move_answer, moved_as, moved_by}
+use Rattle.moving.specs.Session.{Moving, area_room, move_judged, moved_to, setup_moved, answer_as, move_answer, moved_as, moved_by}
 use Rattle.moving.specs.DcsSession as dcs
 use Rattle.moving.specs.DcsSession.{shown_size}
 
@@ -46,22 +43,22 @@ pub ruleset rooms = (room-narrow, room-rows)
 -- ---- 9, 11, 12
 
 module _ (s : Session) (stride length : ℕ) {f : Bool} (failed : f ≡ is_failed s.life) where
-  pub judged-failed : f ≡ true → Refused refusals.Failed ≡ move_judged s stride length
+  pub judged-failed : f ≡ true → Err refusals.Failed ≡ move_judged s stride length
   unfolding move_judged
   judged-failed h = sym (cond_yes _ _ (sym failed ∙ h))
 
   module _ {o : Bool} (live : f ≡ false) (opens : o ≡ openable s.ground.limits stride length) where
-    pub judged-opening : not o ≡ true → Refused refusals.Opening ≡ move_judged s stride length
+    pub judged-opening : not o ≡ true → Err refusals.Opening ≡ move_judged s stride length
     unfolding move_judged
     judged-opening h = sym (cond_no _ _ (sym failed ∙ live) ∙ cond_yes _ _ (ap not (sym opens) ∙ h))
 
     module _ {r : Bool} (allowed : not o ≡ false) (room : r ≡ area_room s.frame.area stride length) where
-      pub judged-canvas : not r ≡ true → Refused refusals.Canvas ≡ move_judged s stride length
+      pub judged-canvas : not r ≡ true → Err refusals.Canvas ≡ move_judged s stride length
       unfolding move_judged
       judged-canvas h =
           sym (cond_no _ _ (sym failed ∙ live) ∙ cond_no _ _ (ap not (sym opens) ∙ allowed) ∙ cond_yes _ _ (ap not (sym room) ∙ h))
 
-      pub judged-fine : not r ≡ false → Fine ≡ move_judged s stride length
+      pub judged-fine : not r ≡ false → Ok tt ≡ move_judged s stride length
       unfolding move_judged
       judged-fine h =
           sym (cond_no _ _ (sym failed ∙ live) ∙ cond_no _ _ (ap not (sym opens) ∙ allowed) ∙ cond_no _ _ (ap not (sym room) ∙ h))
@@ -108,11 +105,11 @@ setup-made u stride length e =
     e
 
 -- the answer, by the verdict
-pub answer-refused : {j v : Verdict} {n : Refusal} (size : VisibleArea) → j ≡ v → j ≡ Refused n → moves.Refused n ≡ answer_as v size
+pub answer-refused : {j v : Verdict} {n : Refusal} (size : VisibleArea) → j ≡ v → j ≡ Err n → Err n ≡ answer_as v size
 unfolding answer_as
 answer-refused size e h = ap (λ (x : Verdict). answer_as x size) (sym h ∙ e)
 
-pub answer-fine : {j v : Verdict} (size : VisibleArea) → j ≡ v → j ≡ Fine → moves.Done size.width size.height ≡ answer_as v size
+pub answer-fine : {j v : Verdict} (size : VisibleArea) → j ≡ v → j ≡ Ok tt → Ok size ≡ answer_as v size
 unfolding answer_as
 answer-fine size e h = ap (λ (x : Verdict). answer_as x size) (sym h ∙ e)
 
@@ -135,17 +132,17 @@ module _ (s : Session) {u : Setup} {life : Life} {f : Frame} {r : Moving} (strid
   answered = e s.palette ∙ rw (a, b, c) refl
 
   -- a refused move
-  pub moved-refused : {n : Refusal} → r ≡ moves.Refused n → record { answer = r; session = s } ≡ moved_by s stride length
+  pub moved-refused : {n : Refusal} → r ≡ Err n → record { answer = r; session = s } ≡ moved_by s stride length
   unfolding moved_by moved_as
   moved-refused h =
       ap (λ (x : Moving). record { answer = x; session = s }) h ∙ ap (λ (x : Moving). moved_as x s stride length) (sym h ∙ answered)
 
   -- and one that is made: the moved parts are those of the moved session
-  pub moved_made : {w k : ℕ} {u' : Setup} {p : Palette} {s' : Session} → r ≡ moves.Done w k → u' ≡ setup_moved u stride length → p ≡ s.palette
+  pub moved_made : {k : VisibleArea} {u' : Setup} {p : Palette} {s' : Session} → r ≡ Ok k → u' ≡ setup_moved u stride length → p ≡ s.palette
       → s' ≡ over u' life f p
       → record { answer = r; session = s' } ≡ moved_by s stride length
   unfolding moved_by moved_as setup_moved moved_to
-  moved_made {w} {k} h d g q = rw (q, d, g, a, b, c, h) (ap (λ (x : Moving). moved_as x s stride length) (sym h ∙ answered))
+  moved_made {k} h d g q = rw (q, d, g, a, b, c, h) (ap (λ (x : Moving). moved_as x s stride length) (sym h ∙ answered))
 
 -- the same of a DCS session
 module _ (s : dcs_session.Session) {c : Core} {r : Moving} (stride length : ℕ) (a : c ≡ dcs_core.core_of s)
@@ -153,12 +150,12 @@ module _ (s : dcs_session.Session) {c : Core} {r : Moving} (stride length : ℕ)
   dcs-answered : r ≡ dcs.move_answer s stride length
   dcs-answered = e s.payload.palette ∙ ap (λ (x : Core). dcs.move_answer (dcs_core.over x s.payload.palette) stride length) a
 
-  pub dcs-refused : {n : Refusal} → r ≡ moves.Refused n → record { answer = r; session = s } ≡ dcs.moved_by s stride length
+  pub dcs-refused : {n : Refusal} → r ≡ Err n → record { answer = r; session = s } ≡ dcs.moved_by s stride length
   unfolding dcs.moved_by dcs.moved_as
   dcs-refused h =
       ap (λ (x : Moving). record { answer = x; session = s }) h ∙ ap (λ (x : Moving). dcs.moved_as x s stride length) (sym h ∙ dcs-answered)
 
-  pub dcs-made : {w k : ℕ} {u : Setup} {p : Palette} {s' : dcs_session.Session} → r ≡ moves.Done w k → u ≡ setup_moved c.setup stride length
+  pub dcs-made : {k : VisibleArea} {u : Setup} {p : Palette} {s' : dcs_session.Session} → r ≡ Ok k → u ≡ setup_moved c.setup stride length
       → p ≡ s.payload.palette
       → s' ≡ dcs_core.over (record { setup = u; life = c.life; frame = c.frame; header = c.header; phase = c.phase }) p
       → record { answer = r; session = s' } ≡ dcs.moved_by s stride length

@@ -1,17 +1,15 @@
 -- What a move makes of a session of the code, on its own records: the session for a canvas of another stride and length, or a refusal.
-use Rattle.std.specs.Prelude.{ℕ, Bool, cond, not, ◌&&◌, nat_le}
+use Rattle.std.specs.Prelude.{ℕ, Bool, cond, not, ◌&&◌, nat_le, Result, Ok, Err}
 use Rattle.canvas.specs.Picture.{rows_of}
 use Rattle.frame.specs.declared.Ground.{Ground}
 use Rattle.frame.specs.declared.Refusal.TheVariants as refusals
 use Rattle.frame.specs.declared.VisibleArea.{VisibleArea}
 use Rattle.payload.specs.declared.Session.{Session}
 use Rattle.payload.specs.declared.kernel.Setup.{Setup}
-use Rattle.payload.specs.declared.refusals.Verdict.{Verdict}
-use Rattle.payload.specs.declared.refusals.Verdict.TheVariants.{Fine, Refused}
+use Rattle.payload.specs.Results.{Verdict}
 use Rattle.payload.specs.Refusals.{openable, is_failed}
-use Rattle.moving.specs.declared.Moving.{Moving}
-use Rattle.moving.specs.declared.Moving.TheVariants as moves
-use Rattle.moving.specs.declared.payload_session.Moved.{Moved}
+use Rattle.frame.specs.declared.Refusal.{Refusal}
+use Rattle.moving.specs.declared.Moved as moved
 
 -- an area has room on a canvas of this stride and so many bytes
 unfoldable pub area_room : VisibleArea → ℕ → ℕ → Bool
@@ -21,9 +19,9 @@ area_room a stride length = nat_le a.width stride && nat_le a.height (rows_of le
 unfoldable pub move_judged : Session → ℕ → ℕ → Verdict
 unfolding area_room
 move_judged s stride length =
-    cond (is_failed s.life) (Refused refusals.Failed)
-    (cond (not (openable s.ground.limits stride length)) (Refused refusals.Opening)
-    (cond (not (area_room s.frame.area stride length)) (Refused refusals.Canvas) Fine))
+    cond (is_failed s.life) (Err refusals.Failed)
+    (cond (not (openable s.ground.limits stride length)) (Err refusals.Opening)
+    (cond (not (area_room s.frame.area stride length)) (Err refusals.Canvas) (Ok tt)))
 
 -- the session for that canvas: stride, rows and length alone are others
 unfoldable pub moved_to : Session → ℕ → ℕ → Session
@@ -48,20 +46,23 @@ setup_moved u stride length =
     }
 
 -- what a move answers: the size of the picture that has to be carried over, or the refusal
+abbrev pub Moving : Type 0
+Moving = Result VisibleArea Refusal
+
 unfoldable pub answer_as : Verdict → VisibleArea → Moving
-answer_as Fine size = moves.Done size.width size.height
-answer_as (Refused n) size = moves.Refused n
+answer_as (Ok tt) size = Ok size
+answer_as (Err n) size = Err n
 
 unfoldable pub move_answer : Session → ℕ → ℕ → Moving
 unfolding answer_as move_judged
 move_answer s stride length = answer_as (move_judged s stride length) s.frame.area
 
 -- refused, the session is as it was
-unfoldable pub moved_as : Moving → Session → ℕ → ℕ → Moved
+unfoldable pub moved_as : Moving → Session → ℕ → ℕ → moved.Moved Session
 unfolding moved_to
-moved_as (moves.Done w h) s stride length = record { answer = moves.Done w h; session = moved_to s stride length }
-moved_as (moves.Refused n) s stride length = record { answer = moves.Refused n; session = s }
+moved_as (Ok a) s stride length = record { answer = Ok a; session = moved_to s stride length }
+moved_as (Err n) s stride length = record { answer = Err n; session = s }
 
-unfoldable pub moved_by : Session → ℕ → ℕ → Moved
+unfoldable pub moved_by : Session → ℕ → ℕ → moved.Moved Session
 unfolding moved_as move_answer
 moved_by s stride length = moved_as (move_answer s stride length) s stride length

@@ -4,17 +4,10 @@ ghost use Rattle.colours.specs.declared.Palette.{Palette};
 ghost use Rattle.dcs.specs.Core.{over};
 ghost use Rattle.moving.specs.DcsSession.{shown_size, move_answer, moved_by};
 
-use crate::{Moving, answer_for, moved_setup};
+use crate::{Moved, answer_for, moved_setup};
 use dcs::kernel::{Core, core_of, palette_of, with_palette};
 use dcs::{Phase, Session};
-use frame::VisibleArea;
-
-// A move's answer, and the session: the one for the other canvas, or the one that there was where the move is refused.
-#[derive(Clone, Copy)]
-pub struct Moved {
-    pub answer: Moving,
-    pub session: Session,
-}
+use frame::{Refusal, VisibleArea};
 
 // The size of the picture so far.
 fn picture_size(phase: Phase, area: VisibleArea) -> VisibleArea
@@ -32,37 +25,26 @@ fn picture_size(phase: Phase, area: VisibleArea) -> VisibleArea
 }
 
 // What a move of the session with these parts answers.
-pub fn move_answer(core: Core, stride: usize, length: usize) -> Moving
+pub fn move_answer(core: Core, stride: usize, length: usize) -> Result<VisibleArea, Refusal>
     ensures { (p : Palette) → result ≡ move_answer (over core p) stride length }
 {
-    let setup = core.setup;
-    let life = core.life;
     let frame = core.frame;
-    let phase = core.phase;
-    let size = picture_size(phase, frame.area);
-    answer_for(setup, life, frame, size, stride, length)
+    let size = picture_size(core.phase, frame.area);
+    answer_for(core.setup, core.life, frame, size, stride, length)
 }
 
 // Moves a session to a canvas of `stride` pixels a row and `length` bytes.
-pub fn move_to(session: Session, stride: usize, length: usize) -> Moved
+pub fn move_to(session: Session, stride: usize, length: usize) -> Moved<Session>
     ensures { result ≡ moved_by session stride length }
 {
     let core = core_of(session);
     let answer = move_answer(core, stride, length);
-    if let Moving::Refused(_) = answer {
+    if let Err(_) = answer {
         return Moved { answer, session };
     }
-    let setup = core.setup;
-    let life = core.life;
-    let frame = core.frame;
-    let header = core.header;
-    let phase = core.phase;
     let moved = Core {
-        setup: moved_setup(setup, stride, length),
-        life,
-        frame,
-        header,
-        phase,
+        setup: moved_setup(core.setup, stride, length),
+        ..core
     };
     Moved {
         answer,

@@ -4,35 +4,33 @@ ghost use Rattle.colours.specs.declared.Palette.{Palette};
 ghost use Rattle.payload.specs.Core.{over};
 ghost use Rattle.moving.specs.Session.{move_answer, moved_by};
 
-use crate::{Moving, answer_for, moved_setup};
-use frame::Frame;
+use crate::{Moved, answer_for, moved_setup};
+use frame::{Frame, Refusal, VisibleArea};
 use payload::kernel::{Setup, frame_of, life_of, palette_of, session_of, setup_of};
 use payload::{Life, Session};
 
-// A move's answer, and the session: the one for the other canvas, or the one that there was where the move is refused.
-#[derive(Clone, Copy)]
-pub struct Moved {
-    pub answer: Moving,
-    pub session: Session,
-}
-
 // What a move of the session with these parts answers.
-pub fn move_answer(setup: Setup, life: Life, frame: Frame, stride: usize, length: usize) -> Moving
+pub fn move_answer(
+    setup: Setup,
+    life: Life,
+    frame: Frame,
+    stride: usize,
+    length: usize,
+) -> Result<VisibleArea, Refusal>
     ensures { (p : Palette) → result ≡ move_answer (over setup life frame p) stride length }
 {
-    let size = frame.area;
-    answer_for(setup, life, frame, size, stride, length)
+    answer_for(setup, life, frame, frame.area, stride, length)
 }
 
 // Moves a session to a canvas of `stride` pixels a row and `length` bytes.
-pub fn move_to(session: Session, stride: usize, length: usize) -> Moved
+pub fn move_to(session: Session, stride: usize, length: usize) -> Moved<Session>
     ensures { result ≡ moved_by session stride length }
 {
     let setup = setup_of(session);
     let life = life_of(session);
     let frame = frame_of(session);
     let answer = move_answer(setup, life, frame, stride, length);
-    if let Moving::Refused(_) = answer {
+    if let Err(_) = answer {
         return Moved { answer, session };
     }
     Moved {

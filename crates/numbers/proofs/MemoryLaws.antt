@@ -8,7 +8,6 @@ use mathlib.Core.List.{List, [], ◌∷◌}
 use mathlib.Core.Path.{◌≡◌, refl, ◌∙◌}
 use lib.Dec.{eqb}
 use lib.ListN.{get_or, set, length, length-set}
-use mir.Val.{bool_byte}
 use Rattle.numbers.specs.Bytes.{digit}
 use Rattle.numbers.specs.Values.{held}
 use Rattle.numbers.specs.Step.{opened, room, stored, marked, with_digit, with_semicolon}
@@ -20,18 +19,6 @@ cond-case P true f g = f refl
 cond-case P false f g = g refl
 
 -- ---- the round trip
-
-flag-number : (t : Bool) → bool_byte t ≡ cond t 1 0
-flag-number true = refl
-flag-number false = refl
-
--- the nine numbers as the code lists them
-pub numbers-told : (p : Parameters)
-    → get_or p.values 0 0 ∷ get_or p.values 1 0 ∷ get_or p.values 2 0 ∷ get_or p.values 3 0 ∷ get_or p.values 4 0
-    ∷ p.count ∷ p.current ∷ bool_byte p.pending ∷ p.places ∷ []
-    ≡ numbers_of p
-unfolding numbers_of
-numbers-told p = rw (flag-number p.pending) refl
 
 flag-back : (t : Bool) → eqb (cond t 1 0) 1 ≡ t
 flag-back true = refl

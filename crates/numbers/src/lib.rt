@@ -22,78 +22,47 @@ const REPEAT_LAST: u64 = 100_000_000_000;
 // The most values that a command has.
 const PLACES: usize = 5;
 
+#[tactic(auto, unfolding(crate::specs::Bytes::skipped))]
 pub fn is_skipped(byte: u8) -> bool
     ensures { result ≡ skipped byte }
 {
-    if byte <= 0x17 {
-        return true;
-    }
-    if byte == 0x19 {
-        return true;
-    }
-    if byte < 0x1C {
-        return false;
-    }
-    if byte <= 0x1F {
-        return true;
-    }
-    byte == 0x7F
+    matches!(byte, 0..=0x17 | 0x19 | 0x1C..=0x1F | 0x7F)
 }
 
+#[tactic(auto, unfolding(crate::specs::Bytes::digit))]
 pub fn is_digit(byte: u8) -> bool
     ensures { result ≡ digit byte }
 {
-    if byte < 0x30 {
-        return false;
-    }
-    byte <= 0x39
+    byte.is_ascii_digit()
 }
 
+#[tactic(auto, unfolding(crate::specs::Bytes::sixel))]
 pub fn is_sixel(byte: u8) -> bool
     ensures { result ≡ sixel byte }
 {
-    if byte < 0x3F {
-        return false;
-    }
-    byte <= 0x7E
+    matches!(byte, b'?'..=b'~')
 }
 
+#[tactic(auto, unfolding(crate::specs::Bytes::ends))]
 pub fn ends_payload(byte: u8) -> bool
     ensures { result ≡ ends byte }
 {
-    if byte == 0x18 {
-        return true;
-    }
-    if byte < 0x1A {
-        return false;
-    }
-    if byte <= 0x1B {
-        return true;
-    }
-    if byte < 0x80 {
-        return false;
-    }
-    byte <= 0x9F
+    matches!(byte, 0x18 | 0x1A..=0x1B | 0x80..=0x9F)
 }
 
 // What a digit counts.
 fn digit_value(byte: u8) -> u64
     ensures { result ≡ byte - 0x30 }
 {
-    if byte < 0x30 {
-        return 0;
-    }
-    (byte - 0x30) as u64
+    byte.saturating_sub(b'0').into()
 }
 
 // A number saturated at its limit.
+#[tactic(auto, unfolding(crate::specs::Values::held))]
 fn hold(value: u64) -> u32
     ensures { result ≡ held value }
 {
-    if value < NUMBER_LIMIT {
-        return value as u32;
-    }
-    NUMBER_LIMIT as u32
+    value.min(NUMBER_LIMIT) as u32
 }
 
 // The values of one command, as they are read: `current` is the number after the last `;`, and `pending` says that it is
@@ -108,6 +77,7 @@ pub struct Parameters {
 }
 
 impl Parameters {
+    #[tactic(auto, unfolding(crate::specs::Step::opened))]
     pub fn new(places: usize) -> Parameters
         ensures { result ≡ opened places }
     {
@@ -122,6 +92,7 @@ impl Parameters {
 
     // One byte more of the argument: a digit, a `;`, or one that changes nothing. A hot loop picks `digit` or `semicolon`
     // itself: LLVM then leaves the values alone at a digit.
+    #[tactic(auto, unfolding(crate::specs::Step::pushed))]
     pub fn push(self, byte: u8) -> Parameters
         ensures { result ≡ pushed self byte }
     {
@@ -132,19 +103,22 @@ impl Parameters {
     }
 
     // A digit extends the number; another byte changes nothing.
+    #[tactic(auto, unfolding(crate::specs::Step::with_digit))]
     pub fn digit(self, byte: u8) -> Parameters
         ensures { result ≡ with_digit self byte }
     {
         if is_digit(byte) {
-            let mut next = self;
-            next.current = hold((self.current as u64) * 10 + digit_value(byte));
-            next.pending = true;
-            return next;
+            return Parameters {
+                current: hold(self.current as u64 * 10 + digit_value(byte)),
+                pending: true,
+                ..self
+            };
         }
         self
     }
 
     // `;`: the number is stored, and another follows.
+    #[tactic(auto, unfolding(crate::specs::Step::with_semicolon))]
     pub fn semicolon(self) -> Parameters
         ensures { result ≡ with_semicolon self }
     {
@@ -154,33 +128,21 @@ impl Parameters {
     }
 
     // The number goes to the next place; where none is left, it is dropped.
+    #[tactic(auto, unfolding(crate::specs::Step::stored))]
     pub fn store(self) -> Parameters
         ensures { result ≡ stored self }
     {
         let at = self.count;
-        let mut values = self.values;
-        if at < self.places {
-            if at < PLACES {
-                values[at] = self.current;
-                return Parameters {
-                    values,
-                    count: at + 1,
-                    current: 0,
-                    pending: self.pending,
-                    places: self.places,
-                };
-            }
+        let mut next = Parameters { current: 0, ..self };
+        if at < self.places && at < PLACES {
+            next.values[at] = self.current;
+            next.count = at + 1;
         }
-        Parameters {
-            values,
-            count: at,
-            current: 0,
-            pending: self.pending,
-            places: self.places,
-        }
+        next
     }
 
     // The end of the command: what was begun is stored.
+    #[tactic(auto, unfolding(crate::specs::Step::finished))]
     pub fn finish(self) -> Parameters
         ensures { result ≡ finished self }
     {
@@ -191,6 +153,7 @@ impl Parameters {
     }
 
     // The same record made anew from its numbers, so that a loop need not carry its padding bytes along.
+    // Kept: (b) a part of `renewed` of `reading`: where a frame is copied whole, a byte a call takes up to 1.4 times as long (docs/SPEED.md).
     pub fn renewed(self) -> Parameters
         ensures { result ≡ self }
     {
@@ -212,13 +175,11 @@ impl Parameters {
     }
 
     // The value at a place, 0 where there is none. It is clamped once more, so that it fits a signed number whatever the record.
+    #[tactic(auto, unfolding(crate::specs::Step::value_at))]
     pub fn value(self, at: usize) -> u32
         ensures { result ≡ value_at self at }
     {
-        if self.count <= at {
-            return 0;
-        }
-        if PLACES <= at {
+        if at >= self.count || at >= PLACES {
             return 0;
         }
         hold(self.values[at] as u64)
@@ -226,24 +187,23 @@ impl Parameters {
 }
 
 // One more digit of a repeat's number; another byte leaves it.
+#[tactic(auto, unfolding(crate::specs::Step::repeated, crate::specs::Bytes::digit))]
 pub fn more_repeat(value: u64, byte: u8) -> u64
     ensures { result ≡ repeated value byte }
 {
-    if is_digit(byte) {
-        if REPEAT_LAST < value {
-            return REPEAT_CEILING;
-        }
-        return value * 10 + digit_value(byte);
+    if !is_digit(byte) {
+        return value;
     }
-    value
+    if value > REPEAT_LAST {
+        return REPEAT_CEILING;
+    }
+    value * 10 + digit_value(byte)
 }
 
 // P1 to P3 have 16 bits.
+#[tactic(auto, unfolding(crate::specs::Values::held16))]
 pub fn hold16(value: u32) -> u16
     ensures { result ≡ held16 value }
 {
-    if value < HEADER_LIMIT {
-        return value as u16;
-    }
-    HEADER_LIMIT as u16
+    value.min(HEADER_LIMIT) as u16
 }

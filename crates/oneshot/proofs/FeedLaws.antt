@@ -1,11 +1,11 @@
 -- Feeds of a part, piece by piece: what is left to read, and what one feed comes to.
-use Rattle.std.specs.Prelude.{◌≡◌, ℕ, ◌+◌, ◌-◌, ◌*◌, ◌<◌, ◌≤◌, Bool, true, false, cond, eqb, leb, List, [], ◌++◌, length, take, drop}
+use Rattle.std.specs.Prelude.{◌≡◌, ℕ, ◌+◌, ◌-◌, ◌*◌, ◌<◌, ◌≤◌, Bool, true, false, cond, eqb, leb, List, [], ◌++◌, length, take, drop, Ok}
 use mathlib.Core.Path.{refl, sym, ap, subst, ◌∙◌}
 use native.Mathlib.Omega.{arith}
-use borrow.Author.Tests.{leb-false, eqb-false, le-leb, lt-leb, eq-eqb, ne_eqb}
+use borrow.Author.Tests.{leb-false, eqb-false}
 use lib.ListN.{length-drop, take-append-drop}
 use lib.Seq.{drop-drop, take_all, length-take-le, drop-append-le, drop-length}
-use Rattle.numbers.proofs.Laws.{cond_yes, cond_no}
+use Rattle.numbers.proofs.Laws.{cond_no}
 use Rattle.meaning.specs.Callers.{how_told, consumed_told}
 use Rattle.meaning.specs.Drawing.{Setting}
 use Rattle.meaning.specs.Reader.{read_all, stopped, halted, is_refused, Run, still, after, read_from, call}
@@ -13,9 +13,9 @@ use Rattle.meaning.specs.Sessions.{Reading, rested, payload_step}
 use Rattle.meaning.proofs.CallLaws.{onward, call-consumed, call-reads, call-plain, call-onward}
 use Rattle.meaning.proofs.Demand3.{payload-rests, payload-halts}
 use Rattle.meaning.proofs.RunLaws.{after-zero, after-after, ended-prefix}
-use Rattle.payload.specs.declared.Answer.{Answer}
+use Rattle.payload.specs.Results.{Answer, Fed}
+use Rattle.payload.specs.declared.Answer as counts
 use Rattle.payload.specs.declared.Answer.TheVariants as answers
-use Rattle.payload.specs.declared.Fed.{Fed}
 use Rattle.payload.specs.declared.Session.{Session}
 use Rattle.payload.specs.History.{Stands}
 use Rattle.payload.specs.Meant.{answer_meant}
@@ -23,22 +23,12 @@ use Rattle.payload.specs.Session.{fed_by}
 use Rattle.oneshot.specs.OneShot.{piece_end}
 use Rattle.oneshot.proofs.StandLaws.{session_in, Lives, Ran, read-on, stopped-on, ran, stop-consumes}
 
+-- ---- an answer
+
+pub answered : {a : Answer} {x y : counts.Answer ℕ} → a ≡ Ok x → x ≡ y → a ≡ Ok y
+answered e k = e ∙ ap Ok k
+
 -- ---- where a piece ends
-
-module _ {chunk : ℕ} (at size : ℕ) where
-  pub piece-all : chunk ≡ 0 → size ≡ piece_end at size chunk
-  unfolding piece_end
-  piece-all e = sym (cond_yes _ _ (eq-eqb chunk 0 e))
-
-  pub piece-last : (chunk ≡ 0 → ⊥) → size - at ≤ chunk → size ≡ piece_end at size chunk
-  unfolding piece_end
-  piece-last e h = sym (cond_no _ _ (ne_eqb chunk 0 e) ∙ cond_yes _ _ (le-leb _ _ h))
-
-  pub piece-next : (chunk ≡ 0 → ⊥) → chunk < size - at → at + chunk ≡ piece_end at size chunk
-  unfolding piece_end
-  piece-next e h = sym (cond_no _ _ (ne_eqb chunk 0 e) ∙ cond_no _ _ (lt-leb _ _ h))
-
-pub ruleset pieces = (piece-all, piece-last, piece-next)
 
 -- from its place on and within all, and not empty where something is left
 pub record Piece (at end size : ℕ) : Type 0 where
@@ -176,7 +166,7 @@ module _ {opening part : List ℕ} {t : Setting} {first : Reading} {l : List ℕ
     on-within = omega (arith, count, consumes, long)
 
   -- a stop
-  module _ {n i : ℕ} (told : x.answer ≡ answers.Stopped n i) where
+  module _ {n i : ℕ} (told : x.answer ≡ Ok (answers.Stopped n i)) where
     is_stop : run.how ≡ stopped
     unfolding how_told answer_meant
     is_stop = sym feeds.how ∙ ap (λ (b : Answer). how_told (answer_meant b)) told
@@ -201,7 +191,7 @@ module _ {opening part : List ℕ} {t : Setting} {first : Reading} {l : List ℕ
     stop-left = left-on stop-fine (stopped-on is_stop) stop-told
 
   -- a piece that was all read
-  module _ {n i : ℕ} (told : x.answer ≡ answers.More n i) where
+  module _ {n i : ℕ} (told : x.answer ≡ Ok (answers.More n i)) where
     is_read : run.how ≡ read_all
     unfolding how_told answer_meant
     is_read = sym feeds.how ∙ ap (λ (b : Answer). how_told (answer_meant b)) told

@@ -1,5 +1,5 @@
 -- What the search finds is what the definition says (rule 8.1): introducer, header and part.
-use Rattle.std.specs.Prelude.{◌≡◌, ℕ, ◌+◌, ◌≤◌, true, ◌&&◌, eqb, List, [], ◌∷◌, length, get_or, drop}
+use Rattle.std.specs.Prelude.{◌≡◌, ℕ, ◌+◌, ◌≤◌, true, ◌&&◌, eqb, List, [], ◌∷◌, length, get_or, drop, Some, None, Ok, Err}
 use mathlib.Core.Option.{Option, none, some}
 use mathlib.Core.Path.{refl, sym, ap, subst, ◌∙◌}
 use native.Mathlib.Nat.{zero-add}
@@ -17,29 +17,25 @@ use Rattle.meaning.specs.OneShot as meaning
 use Rattle.meaning.specs.OneShot.{after_introducer, find_payload}
 use Rattle.meaning.specs.Payload.{no_parameters}
 use Rattle.meaning.proofs.AreaLaws.{cond-case}
-use Rattle.payload.specs.declared.Settings.{Settings}
 use Rattle.payload.specs.Deferred.{no_settings}
 use Rattle.payload.specs.Meant.{given_meant, parameters_meant}
 use Rattle.header.specs.declared.Lead.{Lead}
-use Rattle.header.specs.declared.Led.{Led}
+use Rattle.header.specs.Results.{Led}
 use Rattle.header.specs.declared.Led.TheVariants as leds
 use Rattle.header.specs.declared.Place.TheVariants as places
 use Rattle.header.specs.Lead.{lead_from}
 use Rattle.header.proofs.Bounds.{lead-bound}
 use Rattle.header.proofs.HeaderLaws.{HeaderFinds, lacks, begins, refuses, header-finds}
-use Rattle.oneshot.specs.declared.search.Found.{Found}
-use Rattle.oneshot.specs.declared.search.Found.TheVariants.{Payload, Refused}
-use Rattle.oneshot.specs.declared.search.Start.{Start}
-use Rattle.oneshot.specs.declared.search.Start.TheVariants.{At, Nowhere}
 use Rattle.oneshot.specs.OneShot.{unfound_meant, found_meant}
-use Rattle.oneshot.specs.Search.{introducer_at, start_from, led_to, header_from, found_at, found_in}
+use Rattle.oneshot.specs.declared.search.Found as search
+use Rattle.oneshot.specs.Search.{Start, Found, introducer_at, start_from, led_to, header_from, found_at, found_in}
 
 -- ---- the introducer
 
 -- what stands after a start
 unfoldable pub start_meant : List ℕ → Start → Option (List ℕ)
-start_meant l (At n) = some (drop n l)
-start_meant l Nowhere = none
+start_meant l (Some n) = some (drop n l)
+start_meant l None = none
 
 -- one byte further
 further : {b : ℕ} {bs : List ℕ} (l : List ℕ) (at : ℕ) → drop at l ≡ b ∷ bs → drop (at + 1) l ≡ bs
@@ -75,11 +71,11 @@ header-meant l at = found_as l (header-finds l (drop at l) at refl (read_none 3)
 start-found : (l : List ℕ) (s : Start) (o : Option (List ℕ)) → start_meant l s ≡ o
     → found_meant l (found_at s l) ≡ elim o [ none ↦ meaning.found no_parameters l | some later ↦ meaning.header_from [] later ]
 unfolding start_meant found_meant found_at no_settings parameters_meant given_meant
-start-found l (At n) o e = rw (← e) (header-meant l n)
-start-found l Nowhere o e = rw (← e) refl
+start-found l (Some n) o e = rw (← e) (header-meant l n)
+start-found l None o e = rw (← e) refl
 
 -- a refusal hands back no part
-pub refused-part : (l : List ℕ) (n : Refusal) → meaning.part_of (found_meant l (Refused n)) ≡ []
+pub refused-part : (l : List ℕ) (n : Refusal) → meaning.part_of (found_meant l (Err n)) ≡ []
 unfolding found_meant meaning.part_of
 refused-part l n = cond-case (λ (f : meaning.Found). meaning.part_of f ≡ []) (eqb (number_of n) 8) (λ _. refl) (λ _. refl)
 
@@ -91,8 +87,8 @@ found-meant l = start-found l (start_from 0 l) (after_introducer l) (start-meant
 -- ---- places within the input
 
 abbrev pub StartWithin : ℕ → Start → Type 0
-StartWithin most (At n) = n ≤ most
-StartWithin most Nowhere = Unit
+StartWithin most (Some n) = n ≤ most
+StartWithin most None = Unit
 
 pub start-within : (at : ℕ) (bs : List ℕ) → StartWithin (at + length bs) (start_from at bs)
 unfolding start_from introducer_at
@@ -107,25 +103,25 @@ start-within at (b ∷ bs) =
     long (x ∷ l) u = omega arith
 
 abbrev FoundWithin : ℕ → Found → Type 0
-FoundWithin most (Payload from o) = from ≤ most
-FoundWithin most (Refused n) = Unit
+FoundWithin most (Ok f) = f.from ≤ most
+FoundWithin most (Err n) = Unit
 
 -- so far as the header was read, so far the payload's first byte
 led-within : (most : ℕ) (led : Led) (x : Lead) → x.consumed ≤ most → FoundWithin most (led_to led x)
 unfolding led_to
-led-within most leds.On x h = tt
-led-within most leds.Begins x h = h
-led-within most (leds.Refused n) x h = tt
+led-within most (Ok leds.On) x h = tt
+led-within most (Ok leds.Begins) x h = h
+led-within most (Err n) x h = tt
 
 -- what is found after a start within the input is within it
 found_within : (l : List ℕ) (s : Start) → StartWithin (length l) s → FoundWithin (length l) (found_at s l)
 unfolding found_at header_from
-found_within l (At n) h =
+found_within l (Some n) h =
     let x : Lead = lead_from (drop n l) n places.Header (opened 3) in
     led-within (length l) x.led x (omega (arith, h, lead-bound (drop n l) n places.Header (opened 3), length-drop n l))
-found_within l Nowhere h = omega arith
+found_within l None h = omega arith
 
 -- the payload begins within the input
-pub payload-within : {f : Found} {from : ℕ} {o : Settings} (l : List ℕ) → f ≡ found_in l → f ≡ Payload from o → from ≤ length l
+pub payload-within : {f : Found} {x : search.Found} (l : List ℕ) → f ≡ found_in l → f ≡ Ok x → x.from ≤ length l
 unfolding found_in
 payload-within l e k = subst (FoundWithin (length l)) (sym e ∙ k) (found_within l (start_from 0 l) (rw zero-add at (start-within 0 l)))

@@ -1,5 +1,5 @@
 -- Reading a part: opening, feeds of pieces until all is read, and the finish come to what the part means.
-use Rattle.std.specs.Prelude.{◌≡◌, ℕ, ◌+◌, ◌-◌, ◌*◌, ◌<◌, ◌≤◌, true, false, List, [], length, take, drop}
+use Rattle.std.specs.Prelude.{◌≡◌, ℕ, ◌+◌, ◌-◌, ◌*◌, ◌<◌, ◌≤◌, true, false, List, [], length, take, drop, Ok, Err}
 use mathlib.Core.Option.{Option, none, some}
 use mathlib.Core.Path.{refl, sym, ap, ap₂, subst, ◌∙◌}
 use native.Mathlib.Omega.{arith}
@@ -19,13 +19,10 @@ use Rattle.meaning.specs.Reader.{How, read_all, stopped, refused_by, Run, after}
 use Rattle.meaning.specs.Sessions.{Reading, opened, settled, finish_reading}
 use Rattle.meaning.proofs.AreaLaws.{outcome-reports}
 use Rattle.meaning.proofs.PayloadLaws.{read_payload, reading-settled, reading-finish, reading-refused}
-use Rattle.payload.specs.declared.Answer.{Answer}
+use Rattle.payload.specs.Results.{Answer, Fed, Opened}
 use Rattle.payload.specs.declared.Answer.TheVariants as answers
-use Rattle.payload.specs.declared.Fed.{Fed}
 use Rattle.payload.specs.declared.Finished.{Finished}
-use Rattle.payload.specs.declared.Finishing.TheVariants as finishes
 use Rattle.payload.specs.declared.Life.{Life}
-use Rattle.payload.specs.declared.Opened.{Opened}
 use Rattle.payload.specs.declared.Session.{Session}
 use Rattle.payload.specs.declared.Settings.{Settings}
 use Rattle.payload.specs.declared.kernel.Setup.{Setup}
@@ -41,7 +38,6 @@ use Rattle.oneshot.specs.OneShot.{piece_end, palette_after, read_outcome, read_p
 use Rattle.oneshot.proofs.StandLaws.{session_in, Lives, finish-lives}
 use Rattle.oneshot.proofs.OwnerLaws.{lives-pass}
 use Rattle.payload.specs.declared.Life.TheVariants as life
-use Rattle.payload.specs.declared.Opening.TheVariants as openings
 use Rattle.canvas.specs.Picture.{span}
 use Rattle.canvas.specs.Paint.{painted}
 use Rattle.oneshot.proofs.FeedLaws.{Piece, piece-end, Left, Midway, midway_start, Came, came-all, run, feeds, stop-more, stop-within, stop-left, read_whole_lem, read_left, whole, came-end}
@@ -148,7 +144,7 @@ module _ (l : Limits) (stride : ℕ) (o : Settings) (p : Palette) (opening : Lis
   first = opened (parameters_meant o) p
 
   ready : ◌≡◌ {A = Opened × List ℕ} (y, l₀) (
-    record { answer = openings.Ready; session = session_for l stride (length opening) o (lasting p) life.Live },
+    record { answer = Ok tt; session = session_for l stride (length opening) o (lasting p) life.Live },
     painted (span 0 1) (background_for (lasting p) o.p2) opening,
   )
   unfolding opened_by
@@ -204,13 +200,13 @@ module _ {l : Limits} {stride : ℕ} {o : Settings} {p : Palette} {opening part 
   left = u.midway.left (first-lives l stride o p opening u.opens u.opened) wide
 
   -- a stop goes on
-  pub stop-in : {n i : ℕ} → x.answer ≡ answers.Stopped n i → at + n ≤ length part
+  pub stop-in : {n i : ℕ} → x.answer ≡ Ok (answers.Stopped n i) → at + n ≤ length part
   stop-in a = omega (arith, stop-within left wide piece u.fed a, piece.from, piece.to)
 
-  pub stop-less : {n i : ℕ} → x.answer ≡ answers.Stopped n i → length part - (at + n) < length part - at
+  pub stop-less : {n i : ℕ} → x.answer ≡ Ok (answers.Stopped n i) → length part - (at + n) < length part - at
   stop-less a = omega (arith, stop-more left wide piece u.fed a, stop-in a)
 
-  pub stop-again : {n i : ℕ} → x.answer ≡ answers.Stopped n i → length l₁ ≡ length lc
+  pub stop-again : {n i : ℕ} → x.answer ≡ Ok (answers.Stopped n i) → length l₁ ≡ length lc
       → Midway a y.session l₀ part l₁ x.session (at + n)
   stop-again a kept =
       record {
@@ -220,16 +216,16 @@ module _ {l : Limits} {stride : ℕ} {o : Settings} {p : Palette} {opening part 
       }
 
   -- so does a piece that was all read, unless nothing is left
-  pub read-in : {n i : ℕ} → x.answer ≡ answers.More n i → at + n ≤ length part
+  pub read-in : {n i : ℕ} → x.answer ≡ Ok (answers.More n i) → at + n ≤ length part
   read-in a = omega (arith, read_whole_lem left wide piece u.fed a, piece.from, piece.to)
 
-  pub read-less : {n i : ℕ} → x.answer ≡ answers.More n i → (at + n ≡ length part → ⊥)
+  pub read-less : {n i : ℕ} → x.answer ≡ Ok (answers.More n i) → (at + n ≡ length part → ⊥)
       → length part - (at + n) < length part - at
   read-less a other =
       let more : at < u.end = piece.filled (omega (arith, read-in a)) in
       omega (arith, read_whole_lem left wide piece u.fed a, read-in a)
 
-  pub read_again : {n i : ℕ} → x.answer ≡ answers.More n i → length l₁ ≡ length lc
+  pub read_again : {n i : ℕ} → x.answer ≡ Ok (answers.More n i) → length l₁ ≡ length lc
       → Midway a y.session l₀ part l₁ x.session (at + n)
   read_again a kept =
       record {
@@ -239,7 +235,7 @@ module _ {l : Limits} {stride : ℕ} {o : Settings} {p : Palette} {opening part 
       }
 
   -- a refusal is the part's
-  module _ {n : Refusal} (told : x.answer ≡ answers.Refused n) where
+  module _ {n : Refusal} (told : x.answer ≡ Err n) where
     refused-how : (run left wide piece u.fed).how ≡ refused_by (number_of n)
     unfolding how_told answer_meant
     refused-how = sym (feeds left wide piece u.fed).how ∙ ap (λ (b : Answer). how_told (answer_meant b)) told
@@ -255,7 +251,7 @@ module _ {l : Limits} {stride : ℕ} {o : Settings} {p : Palette} {opening part 
     unfolding after calls.payload_shown
     refused-shows = stands-shows (feeds left wide piece u.fed).stands ∙ ap shown_by (sym refused-came)
 
-    pub part-refused : read_meant (record { answer = finishes.Refused n; palette = p }) l₁ ≡ read_part setting given p opening part
+    pub part-refused : read_meant (record { answer = Err n; palette = p }) l₁ ≡ read_part setting given p opening part
     unfolding read_meant finish_meant read_part read_outcome palette_after meant.finish after
     part-refused =
         ap (λ (c : List ℕ). record { answer = meant.turned_down (number_of n); palette = p; canvas = c }) refused-shows
@@ -263,12 +259,12 @@ module _ {l : Limits} {stride : ℕ} {o : Settings} {p : Palette} {opening part 
         (sym (reading-refused setting given p part (ap (λ (q : Run Reading). q.how) refused-came ∙ refused-how)))
 
   -- after the last piece
-  pub part-read : {n i : ℕ} {r : Finished} {l₂ : List ℕ} → x.answer ≡ answers.More n i → at + n ≡ length part
+  pub part-read : {n i : ℕ} {r : Finished} {l₂ : List ℕ} → x.answer ≡ Ok (answers.More n i) → at + n ≡ length part
       → (r, l₂) ≡ finished_by x.session p l₁ → read_meant r l₂ ≡ read_part setting given p opening part
   part-read a h = finished-part setting given p opening part (came-all (read_left left wide piece u.fed a) h)
 
   -- after an end
-  pub part-ended : {n i b : ℕ} {r : Finished} {l₂ : List ℕ} → x.answer ≡ answers.Ended n i b
+  pub part-ended : {n i b : ℕ} {r : Finished} {l₂ : List ℕ} → x.answer ≡ Ok (answers.Ended n i b)
       → (r, l₂) ≡ finished_by x.session p l₁ → read_meant r l₂ ≡ read_part setting given p opening part
   unfolding how_told answer_meant
   part-ended a =

@@ -1,5 +1,5 @@
 -- Laws of the search: one for each path through a function, and the rest form of its loop.
-use Rattle.std.specs.Prelude.{◌≡◌, ℕ, ◌+◌, ◌-◌, ◌<◌, ◌≤◌, Bool, true, false, cond, ◌&&◌, eqb, ltb, List, [], ◌∷◌, length, get_or, drop}
+use Rattle.std.specs.Prelude.{◌≡◌, ℕ, ◌+◌, ◌-◌, ◌<◌, ◌≤◌, Bool, true, false, cond, ◌&&◌, eqb, ltb, List, [], ◌∷◌, length, get_or, drop, Some, None, Ok, Err}
 use mathlib.Core.Path.{refl, sym, ap, ◌∙◌}
 use native.Mathlib.Nat.{add-zero}
 use native.Mathlib.Numerals.{add-one}
@@ -15,16 +15,12 @@ use Rattle.frame.specs.declared.Refusal.TheVariants.{Unfinished}
 use Rattle.payload.specs.declared.Settings.{Settings}
 use Rattle.payload.specs.Deferred.{no_settings}
 use Rattle.header.specs.declared.Lead.{Lead}
-use Rattle.header.specs.declared.Led.{Led}
+use Rattle.header.specs.Results.{Led}
 use Rattle.header.specs.declared.Led.TheVariants as leds
 use Rattle.header.specs.declared.Place.TheVariants as places
 use Rattle.header.specs.Lead.{lead_from}
 use Rattle.header.specs.Settings.{settings_from}
-use Rattle.oneshot.specs.declared.search.Found.{Found}
-use Rattle.oneshot.specs.declared.search.Found.TheVariants.{Payload, Refused}
-use Rattle.oneshot.specs.declared.search.Start.{Start}
-use Rattle.oneshot.specs.declared.search.Start.TheVariants.{At, Nowhere}
-use Rattle.oneshot.specs.Search.{introducer_at, start_from, led_to, header_from, found_at, found_in}
+use Rattle.oneshot.specs.Search.{Start, Found, introducer_at, start_from, led_to, header_from, found_at, found_in}
 
 -- ---- an introducer
 
@@ -85,19 +81,19 @@ pub record Looking (l : List ℕ) (at : ℕ) : Type 0 where
 pub looking-start : (l : List ℕ) → Looking l 0
 looking-start l = record { same = refl; within = omega arith }
 
-pub looking-past : {l : List ℕ} {at : ℕ} → Looking l at → length l ≤ at → Nowhere ≡ start_from 0 l
+pub looking-past : {l : List ℕ} {at : ℕ} → Looking l at → length l ≤ at → None ≡ start_from 0 l
 unfolding start_from
 looking-past {l} {at} k h = ap (start_from at) (sym (drop_of_length-le l h)) ∙ k.same
 
 module _ {l : List ℕ} {at : ℕ} (k : Looking l at) (more : at < length l) {n : ℕ} (e : n ≡ introducer_at (drop at l)) where
-  here : cond (ltb 0 n) (At (at + n)) (start_from (at + 1) (drop (at + 1) l)) ≡ start_from 0 l
+  here : cond (ltb 0 n) (Some (at + n)) (start_from (at + 1) (drop (at + 1) l)) ≡ start_from 0 l
   unfolding start_from
   here =
-      ap (λ (m : ℕ). cond (ltb 0 m) (At (at + m)) (start_from (at + 1) (drop (at + 1) l))) (e ∙ ap introducer_at (next l at more))
+      ap (λ (m : ℕ). cond (ltb 0 m) (Some (at + m)) (start_from (at + 1) (drop (at + 1) l))) (e ∙ ap introducer_at (next l at more))
       ∙ ap (start_from at) (sym (next l at more))
       ∙ k.same
 
-  pub looking-found : 0 < n → At (at + n) ≡ start_from 0 l
+  pub looking-found : 0 < n → Some (at + n) ≡ start_from 0 l
   looking-found h = sym (cond_yes _ _ (lt-ltb _ _ h)) ∙ here
 
   pub looking-on : n ≤ 0 → Looking l (at + 1)
@@ -117,32 +113,34 @@ module _ {h : Parameters} {x : Lead} (l : List ℕ) (n : ℕ) (e : h ≡ opened 
       ∙ ap (λ (z : Lead). led_to z.led z) (lead ∙ ap (lead_from (drop n l) n places.Header) e)
 
   -- all bytes are read, and there was no `q`
-  pub led_on : x.led ≡ leds.On → Refused Unfinished ≡ header_from n (drop n l)
+  pub led_on : x.led ≡ Ok leds.On → Err Unfinished ≡ header_from n (drop n l)
   unfolding led_to
   led_on k = led k refl
 
   -- `q`
-  pub led-begins : {o : Settings} → x.led ≡ leds.Begins → o ≡ settings_from x.header
-      → Payload x.consumed o ≡ header_from n (drop n l)
+  pub led-begins : {o : Settings} → x.led ≡ Ok leds.Begins → o ≡ settings_from x.header
+      → Ok (record { from = x.consumed; settings = o }) ≡ header_from n (drop n l)
   unfolding led_to
-  led-begins k o = led k (ap (Payload x.consumed) o)
+  led-begins k o = led k (ap (λ (s : Settings). Ok (record { from = x.consumed; settings = s })) o)
 
   -- 2 or 3
-  pub led-refused : {r : Refusal} → x.led ≡ leds.Refused r → Refused r ≡ header_from n (drop n l)
+  pub led-refused : {r : Refusal} → x.led ≡ Err r → Err r ≡ header_from n (drop n l)
   unfolding led_to
   led-refused k = led k refl
 
-pub ruleset headings = (led_on, led-begins, led-refused)
+pub ruleset headings = (led_on, led-begins)
 
 -- ---- where the payload begins
 
 pub found-header : {s : Start} {r : Found} (l : List ℕ) (n : ℕ)
-    → s ≡ start_from 0 l → s ≡ At n → r ≡ header_from n (drop n l) → r ≡ found_in l
+    → s ≡ start_from 0 l → s ≡ Some n → r ≡ header_from n (drop n l) → r ≡ found_in l
 unfolding found_in found_at
 found-header l n e k h = h ∙ ap (λ (x : Start). found_at x l) (sym k ∙ e)
 
-pub found-whole : {s : Start} {o : Settings} (l : List ℕ) → s ≡ start_from 0 l → s ≡ Nowhere → o ≡ no_settings → Payload 0 o ≡ found_in l
+pub found-whole : {s : Start} {o : Settings} (l : List ℕ) → s ≡ start_from 0 l → s ≡ None → o ≡ no_settings
+    → Ok (record { from = 0; settings = o }) ≡ found_in l
 unfolding found_in found_at
-found-whole l e k o = ap (Payload 0) o ∙ ap (λ (x : Start). found_at x l) (sym k ∙ e)
+found-whole l e k o =
+    ap (λ (s : Settings). Ok (record { from = 0; settings = s })) o ∙ ap (λ (x : Start). found_at x l) (sym k ∙ e)
 
 pub ruleset finds = (found-header, found-whole)

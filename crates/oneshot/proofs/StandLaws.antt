@@ -14,7 +14,7 @@ use Rattle.meaning.proofs.CallLaws.{call-stop-reads}
 use Rattle.meaning.proofs.Demand3.{payload-caps}
 use Rattle.meaning.proofs.FeedingLaws.{finish-answers}
 use Rattle.meaning.proofs.ToldLaws.{proper-one}
-use Rattle.payload.specs.declared.Fed.{Fed}
+use Rattle.payload.specs.Results.{Fed}
 use Rattle.payload.specs.declared.Session.{Session}
 use Rattle.payload.specs.History.{Stands, Held, tell_with, calls_of, proper_calls}
 use Rattle.payload.specs.Meant.{answer_meant}

@@ -1,5 +1,5 @@
 -- Reading all at once: one law for each path through it.
-use Rattle.std.specs.Prelude.{◌≡◌, ℕ, ◌-◌, ◌*◌, ◌≤◌, Bool, true, false, cond, eqb, List, [], length, take, drop}
+use Rattle.std.specs.Prelude.{◌≡◌, ℕ, ◌-◌, ◌*◌, ◌≤◌, Bool, true, false, cond, eqb, List, [], length, take, drop, Ok, Err}
 use mathlib.Core.Path.{refl, sym, ap, ◌∙◌}
 use native.Mathlib.Omega.{arith}
 use borrow.Author.Tests.{eqb-true}
@@ -16,18 +16,15 @@ use Rattle.meaning.specs.Drawing.{Setting}
 use Rattle.meaning.specs.OneShot as meaning
 use Rattle.meaning.specs.Payload as meant
 use Rattle.meaning.proofs.AreaLaws.{cond-case}
-use Rattle.payload.specs.declared.Finishing.{Finishing}
-use Rattle.payload.specs.declared.Finishing.TheVariants as finishes
-use Rattle.payload.specs.declared.Settings.{Settings}
+use Rattle.payload.specs.Results.{Finishing}
 use Rattle.payload.specs.Core.{finished_over}
 use Rattle.payload.specs.Meant.{parameters_meant, limits_meant, setting_meant, finish_meant}
 use Rattle.payload.specs.Refusals.{openable}
 use Rattle.payload.proofs.Openings.{opens-meant}
 use Rattle.oneshot.specs.declared.Reading.{Reading}
-use Rattle.oneshot.specs.declared.search.Found.{Found}
-use Rattle.oneshot.specs.declared.search.Found.TheVariants.{Payload, Refused}
+use Rattle.oneshot.specs.declared.search.Found as search
 use Rattle.oneshot.specs.OneShot.{unfound_meant, found_meant, Read, palette_after, read_whole, read_outcome, read_part, read_meant}
-use Rattle.oneshot.specs.Search.{found_in}
+use Rattle.oneshot.specs.Search.{Found, found_in}
 use Rattle.oneshot.proofs.FoundLaws.{found-meant, payload-within}
 use Rattle.oneshot.proofs.FeedLaws.{rest_all}
 
@@ -149,7 +146,7 @@ module _ {t : Bool} (l : Limits) (stride : ℕ) (p : Palette) (canvas bytes : Li
 
   -- 11
   pub whole-unopened : t ≡ false
-      → read_meant (record { answer = finishes.Refused refusals.Opening; palette = p }) canvas ≡ read_whole (limits_meant l) stride p canvas bytes
+      → read_meant (record { answer = Err refusals.Opening; palette = p }) canvas ≡ read_whole (limits_meant l) stride p canvas bytes
   unfolding read_meant finish_meant number_of not_opened
   whole-unopened h = ap whether (sym h) ∙ coded
 
@@ -162,8 +159,8 @@ module _ {t : Bool} (l : Limits) (stride : ℕ) (p : Palette) (canvas bytes : Li
         ∙ coded
 
     -- 2, 3 or 8
-    pub whole-refused : {n : Refusal} → f ≡ Refused n
-        → read_meant (record { answer = finishes.Refused n; palette = p }) canvas ≡ read_whole (limits_meant l) stride p canvas bytes
+    pub whole-refused : {n : Refusal} → f ≡ Err n
+        → read_meant (record { answer = Err n; palette = p }) canvas ≡ read_whole (limits_meant l) stride p canvas bytes
     unfolding read_meant finish_meant found_meant
     whole-refused {n} k =
         sym (unfound-read (setting_meant l stride (length canvas)) p canvas (number_of n))
@@ -171,20 +168,20 @@ module _ {t : Bool} (l : Limits) (stride : ℕ) (p : Palette) (canvas bytes : Li
         ∙ found-whole
 
     -- a payload
-    pub whole-found : {from : ℕ} {o : Settings} {x : Read} → f ≡ Payload from o
-        → x ≡ read_part (setting_meant l stride (length canvas)) (parameters_meant o) p canvas
-        (take (length bytes - from) (drop from bytes))
+    pub whole-found : {y : search.Found} {x : Read} → f ≡ Ok y
+        → x ≡ read_part (setting_meant l stride (length canvas)) (parameters_meant y.settings) p canvas
+        (take (length bytes - y.from) (drop y.from bytes))
         → x ≡ read_whole (limits_meant l) stride p canvas bytes
     unfolding read_part read_outcome found_read found_meant meaning.answer_of drawing_found
-    whole-found {from} {o} k m =
+    whole-found {y} k m =
         m
-        ∙ ap (read_part (setting_meant l stride (length canvas)) (parameters_meant o) p canvas) (rest_all bytes from)
+        ∙ ap (read_part (setting_meant l stride (length canvas)) (parameters_meant y.settings) p canvas) (rest_all bytes y.from)
         ∙ ap (λ (x : Found). found_read (setting_meant l stride (length canvas)) p canvas (found_meant bytes x)) (sym k)
         ∙ found-whole
 
 -- a refusal, and no part
-pub turned : {r : Reading} {n : Refusal} (colors canvas : List ℕ) {x : Read} {size : ℕ} → r ≡ record { answer = finishes.Refused n; part = 0 }
-    → read_meant (finished_over (finishes.Refused n) colors) canvas ≡ x → 0 ≡ size
+pub turned : {r : Reading} {n : Refusal} (colors canvas : List ℕ) {x : Read} {size : ℕ} → r ≡ record { answer = Err n; part = 0 }
+    → read_meant (finished_over (Err n) colors) canvas ≡ x → 0 ≡ size
     → (read_meant (finished_over r.answer colors) canvas ≡ x) × (r.part ≡ size)
 turned colors canvas e h k = rw e (h, k)
 

@@ -1,5 +1,5 @@
 -- What the code finds, and the whole outcome of reading all at once, in the definition's terms (docs/RULES.md, section 8).
-use Rattle.std.specs.Prelude.{ℕ, ◌+◌, ◌-◌, cond, List, length, drop, ◌==◌, nat_le}
+use Rattle.std.specs.Prelude.{ℕ, ◌+◌, ◌-◌, cond, List, length, drop, ◌==◌, nat_le, Ok, Err}
 use Rattle.std.proofs.Math.Option.{some}
 use Rattle.colours.specs.declared.Palette.{Palette}
 use Rattle.frame.specs.Numbers.{number_of}
@@ -9,8 +9,7 @@ use Rattle.meaning.specs.OneShot as meaning
 use Rattle.meaning.specs.Payload as meant
 use Rattle.payload.specs.declared.Finished.{Finished}
 use Rattle.payload.specs.Meant.{parameters_meant, finish_meant}
-use Rattle.oneshot.specs.declared.search.Found.{Found}
-use Rattle.oneshot.specs.declared.search.Found.TheVariants.{Payload, Refused}
+use Rattle.oneshot.specs.Search.{Found}
 
 -- without a payload: 8 says that bytes are missing, another number refuses
 unfoldable pub unfound_meant : ℕ → meaning.Found
@@ -19,8 +18,8 @@ unfound_meant n = cond (n == 8) meaning.lacking (meaning.refused_with n)
 -- what was found in some bytes: parameters and the part from a place on, or a refusal's number
 unfoldable pub found_meant : List ℕ → Found → meaning.Found
 unfolding unfound_meant
-found_meant bs (Payload from o) = meaning.found (parameters_meant o) (drop from bs)
-found_meant bs (Refused n) = unfound_meant (number_of n)
+found_meant bs (Ok f) = meaning.found (parameters_meant f.settings) (drop f.from bs)
+found_meant bs (Err n) = unfound_meant (number_of n)
 
 -- the whole outcome of a reading: its answer, the owner's palette after it, and every byte of the canvas
 pub record Read : Type 0 where

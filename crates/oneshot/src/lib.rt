@@ -4,7 +4,7 @@
 
 pub mod search;
 
-ghost use Rattle.std.specs.Prelude.{◌≡◌, ◌*◌, ◌≤◌, true, length};
+ghost use Rattle.std.specs.Prelude.{◌≡◌, ◌*◌, ◌≤◌, true, length, Err};
 ghost use Rattle.colours.specs.Palette.{of_table};
 ghost use Rattle.meaning.specs.Calls.{part_handed_back};
 ghost use Rattle.payload.specs.Core.{over, fed_over, finished_over, Passed};
@@ -21,9 +21,9 @@ use payload::kernel::feeding::{Fed, feed_passed};
 use payload::kernel::finishing::finish;
 use payload::kernel::opening::open;
 use payload::refusals::may_open;
-use payload::{Answer, Finished, Finishing, Life, Settings};
+use payload::{Answer, Finished, Life, Report, Settings};
 use reading::renew::renewed;
-use search::{Found, find};
+use search::find;
 
 // The largest allowance. A call stops only where its ink would pass what a number can hold.
 const ALLOWANCE: usize = 18_446_744_073_709_551_615;
@@ -33,13 +33,13 @@ const ALLOWANCE: usize = 18_446_744_073_709_551_615;
 pub fn payload_part(limits: Limits, stride: usize, length: usize, bytes: &[u8]) -> &[u8]
     ensures { result.now ≡ part_handed_back (limits_meant limits) stride length bytes.now }
 {
-    if may_open(limits, stride, length) {
-        if let Found::Payload { from, settings: _ } = find(bytes) {
-            return &bytes[from..];
-        }
+    if !may_open(limits, stride, length) {
         return &bytes[..0];
     }
-    &bytes[..0]
+    match find(bytes) {
+        Ok(found) => &bytes[found.from..],
+        Err(_) => &bytes[..0],
+    }
 }
 
 // Where a piece that begins at a place ends: `chunk` bytes on, or at the end of all where fewer are left or `chunk` is 0.
@@ -47,13 +47,11 @@ fn piece_end(at: usize, length: usize, chunk: usize) -> usize
     requires { at ≤ length }
     ensures { result ≡ piece_end at length chunk }
 {
-    if chunk == 0 {
-        return length;
+    if chunk == 0 || length - at <= chunk {
+        length
+    } else {
+        at + chunk
     }
-    if length - at <= chunk {
-        return length;
-    }
-    at + chunk
 }
 
 // Finishes a session for the owner of some registers: those lent are the picture's where there is one, and else the owner's.
@@ -64,14 +62,13 @@ fn finish_for(
     frame: Frame,
     colors: &mut [u32; 256],
     canvas: &mut [u8],
-) -> Finishing
+) -> Result<Report, Refusal>
     ensures { (finished_over result colors.new, canvas.new)
         ≡ finished_by (over setup life frame (of_table colors.old)) (of_table owner.now) canvas.old }
 {
     let answer = finish(setup, life, frame, colors, canvas);
-    if let Finishing::Refused(refusal) = answer {
+    if answer.is_err() {
         *colors = *owner;
-        return Finishing::Refused(refusal);
     }
     answer
 }
@@ -92,11 +89,9 @@ fn feed_anew(
         ≡ fed_by (over setup life frame (of_table colors.old)) canvas.old bytes.now allowance }
 {
     let fed = feed_passed(setup, life, frame, colors, canvas, bytes, allowance);
-    let answer = fed.answer;
-    let after = fed.life;
     Fed {
-        answer,
-        life: after,
+        answer: fed.answer,
+        life: fed.life,
         frame: renewed(fed.frame),
     }
 }
@@ -113,7 +108,7 @@ pub fn read_in_pieces(
     part: &[u8],
     chunk: usize,
     allowance: usize,
-) -> Finishing
+) -> Result<Report, Refusal>
     requires canvas_value { openable limits stride (length canvas.old) ≡ true }
     requires width_bound { 6 * limits.width ≤ allowance }
     ensures { read_meant (finished_over result colors.new) canvas.new
@@ -127,29 +122,32 @@ pub fn read_in_pieces(
     let mut life = opened.life;
     let mut frame = opened.frame;
     let mut at = 0;
+    // Kept: the place moves as far as a call has read, so that there is nothing to go over.
     loop {
         let end = piece_end(at, part.len(), chunk);
         let bytes = &part[at..end];
         let fed = feed_anew(setup, life, frame, colors, canvas, bytes, allowance);
-        let answer = fed.answer;
         life = fed.life;
         frame = fed.frame;
+        let answer = fed.answer;
         match answer {
-            Answer::Stopped { consumed, ink: _ } => at += consumed,
-            Answer::More { consumed, ink: _ } => {
+            Ok(Answer::Stopped { consumed, ink: _ }) => at += consumed,
+            Ok(Answer::More { consumed, ink: _ }) => {
                 at += consumed;
                 if at == part.len() {
                     return finish_for(&owner, setup, life, frame, colors, canvas);
                 }
             }
-            Answer::Ended {
-                consumed: _,
-                ink: _,
-                byte: _,
-            } => return finish_for(&owner, setup, life, frame, colors, canvas),
-            Answer::Refused(refusal) => {
+            Ok(
+                Answer::Ended {
+                    consumed: _,
+                    ink: _,
+                    end: _,
+                },
+            ) => return finish_for(&owner, setup, life, frame, colors, canvas),
+            Err(refusal) => {
                 *colors = owner;
-                return Finishing::Refused(refusal);
+                return Err(refusal);
             }
         }
     }
@@ -159,15 +157,15 @@ pub fn read_in_pieces(
 // before that.
 #[derive(Clone, Copy)]
 pub struct Reading {
-    pub answer: Finishing,
+    pub answer: Result<Report, Refusal>,
     pub part: usize,
 }
 
 fn turned_away(refusal: Refusal) -> Reading
-    ensures { result ≡ record { answer = Finishing.Refused refusal; part = 0 } }
+    ensures { result ≡ record { answer = Err refusal; part = 0 } }
 {
     Reading {
-        answer: Finishing::Refused(refusal),
+        answer: Err(refusal),
         part: 0,
     }
 }
@@ -187,21 +185,21 @@ pub fn read_onto(
 {
     if may_open(limits, stride, canvas.len()) {
         match find(bytes) {
-            Found::Payload { from, settings } => {
-                let part = bytes.len() - from;
+            Ok(found) => {
+                let part = bytes.len() - found.from;
                 let answer = read_in_pieces(
                     limits,
                     stride,
-                    settings,
+                    found.settings,
                     colors,
                     canvas,
-                    &bytes[from..],
+                    &bytes[found.from..],
                     0,
                     ALLOWANCE,
                 );
                 return Reading { answer, part };
             }
-            Found::Refused(refusal) => return turned_away(refusal),
+            Err(refusal) => return turned_away(refusal),
         }
     }
     turned_away(Refusal::Opening)
@@ -220,9 +218,8 @@ pub fn read(
 {
     let mut colors = palette.table();
     let read = read_onto(limits, stride, &mut colors, canvas, bytes);
-    let answer = read.answer;
     Finished {
-        answer,
+        answer: read.answer,
         palette: Palette::of_table(colors),
     }
 }

@@ -7,21 +7,15 @@ use header::{Led, Place, read_lead, settings_from};
 use numbers::Parameters;
 use payload::{Settings, no_settings};
 
-// The place of the first byte of the payload, and its parameters; or the header's refusal.
+// The place of the first byte of the payload, and its parameters.
 #[derive(Clone, Copy)]
-pub enum Found {
-    Payload { from: usize, settings: Settings },
-    Refused(Refusal),
-}
-
-// The place of the first byte of a header.
-#[derive(Clone, Copy)]
-pub enum Start {
-    At(usize),
-    Nowhere,
+pub struct Found {
+    pub from: usize,
+    pub settings: Settings,
 }
 
 // How many bytes the introducer has that stands at a place: 90 alone, or 1B and `P`. None there is 0.
+// Kept: a length of 0 is no introducer; an Option would be opened where its length is added.
 fn introducer_length(bytes: &[u8], at: usize) -> usize
     ensures { result ≡ introducer_at (drop at bytes.now) }
 {
@@ -42,49 +36,42 @@ fn introducer_length(bytes: &[u8], at: usize) -> usize
     0
 }
 
-// Looks for the first introducer.
-pub fn header_start(bytes: &[u8]) -> Start
+// Looks for the first introducer: the place of the first byte of its header.
+pub fn header_start(bytes: &[u8]) -> Option<usize>
     ensures { result ≡ start_from 0 bytes.now }
 {
-    let mut at = 0;
-    let place = loop {
-        if bytes.len() <= at {
-            return Start::Nowhere;
-        }
+    for at in 0..bytes.len() {
         let length = introducer_length(bytes, at);
         if 0 < length {
-            break at + length;
+            return Some(at + length);
         }
-        at += 1;
-    };
-    Start::At(place)
+    }
+    None
 }
 
 // Reads a header that begins at a place. One without `q` is 8.
-fn read_header(bytes: &[u8], start: usize) -> Found
+fn read_header(bytes: &[u8], start: usize) -> Result<Found, Refusal>
     ensures { result ≡ header_from start (drop start bytes.now) }
 {
     let lead = read_lead(Place::Header, Parameters::new(3), bytes, start);
-    let led = lead.led;
-    match led {
-        Led::On => Found::Refused(Refusal::Unfinished),
-        Led::Begins => Found::Payload {
+    match lead.led? {
+        Led::On => Err(Refusal::Unfinished),
+        Led::Begins => Ok(Found {
             from: lead.consumed,
             settings: settings_from(lead.header),
-        },
-        Led::Refused(refusal) => Found::Refused(refusal),
+        }),
     }
 }
 
 // Without an introducer the whole input is payload, with no parameters.
-pub fn find(bytes: &[u8]) -> Found
+pub fn find(bytes: &[u8]) -> Result<Found, Refusal>
     ensures { result ≡ found_in bytes.now }
 {
     match header_start(bytes) {
-        Start::At(start) => read_header(bytes, start),
-        Start::Nowhere => Found::Payload {
+        Some(start) => read_header(bytes, start),
+        None => Ok(Found {
             from: 0,
             settings: no_settings(),
-        },
+        }),
     }
 }

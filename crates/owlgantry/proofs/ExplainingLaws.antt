@@ -1,7 +1,7 @@
 -- What is told of the calls over a session in memory: one law for each path.
-use Rattle.std.specs.Prelude.{◌≡◌, ℕ, List, ◌∷◌, get_or, replicate}
+use Rattle.std.specs.Prelude.{◌≡◌, ℕ, List, ◌∷◌, get_or, replicate, Ok, Err, Some, None}
+use Rattle.std.specs.Prelude as rust
 use native.Mathlib.Omega.{arith}
-use mathlib.Core.Option.{Option, none, some}
 use mathlib.Core.Path.{refl, sym, ap, ◌∙◌}
 use Rattle.colours.specs.Palette.{of_table}
 use Rattle.frame.specs.declared.Frame.{Frame}
@@ -21,9 +21,7 @@ use Rattle.dcs.specs.Memory as dcs_memory
 use Rattle.words.specs.declared.Telling.{Telling}
 use Rattle.words.specs.Memory.{place_numbers, need_numbers, numbers_of, having, refusal_from, telling_from}
 use Rattle.words.proofs.MemoryLaws.{refusal-at, telling-back}
-use Rattle.explain.specs.declared.Explained.{Explained}
-use Rattle.explain.specs.declared.Explained.TheVariants.{Fine, Refused}
-use Rattle.explain.specs.Explained.{placeless_for, unless_judged, fed_explained, payload_feed_explained, payload_finish_explained, dcs_feed_explained}
+use Rattle.explain.specs.Explained.{Explained, placeless_for, unless_judged, fed_explained, payload_feed_explained, payload_finish_explained, dcs_feed_explained}
 use Rattle.explain.specs.Explained.{dcs_finish_explained}
 use Rattle.owlgantry.specs.Explaining.{told_number, told_numbers, told_as, payload_feed_told, payload_finish_told, dcs_feed_told, dcs_finish_told}
 use Rattle.owlgantry.proofs.SessionCalls.{payload-held, core-held}
@@ -31,8 +29,8 @@ use Rattle.owlgantry.proofs.SessionCalls.{payload-held, core-held}
 -- the first of the seven is the number that is answered
 first-told : (x : Explained) → get_or (told_numbers x) 0 0 ≡ told_number x
 unfolding told_number told_numbers numbers_of
-first-told Fine = refl
-first-told (Refused t) = refl
+first-told (Ok tt) = refl
+first-told (Err t) = refl
 
 -- what is told of a call, as numbers
 pub told_of_lem : {x y : Explained} {seven : List ℕ} → seven ≡ told_numbers x → x ≡ y → (get_or seven 0 0, seven) ≡ told_as y
@@ -75,18 +73,18 @@ module _ (ns ts : List ℕ) {c : Core} (ec : c ≡ dcs_memory.core_from ns) {x :
 some_number : (r : Refusal) → number_of r ≡ 0 → ⊥
 unfolding refusal_from having number_of
 some_number r e =
-    let found : ◌≡◌ {A = Option Refusal} (some r) none = refusal-at r 0 (sym e) in
+    let found : ◌≡◌ {A = rust.Option Refusal} (Some r) None = refusal-at r 0 (sym e) in
     let never : ◌≡◌ {A = ℕ} 0 1 = cc in
     omega arith
 
 -- where the answer is 0, all that is told is zeros
 pub nothing-told : (x : Explained) → (told_as x).0 ≡ 0 → (told_as x).1 ≡ replicate 7 0
 unfolding told_as told_number told_numbers
-nothing-told Fine e = refl
-nothing-told (Refused t) e = absurd (some_number t.refusal e)
+nothing-told (Ok tt) e = refl
+nothing-told (Err t) e = absurd (some_number t.refusal e)
 
 -- and else the seven give back what is told of the refusal
-pub all_told : (x : Explained) (t : Telling) → x ≡ Refused t → telling_from (told_as x).1 ≡ some t
+pub all_told : (x : Explained) (t : Telling) → x ≡ Err t → telling_from (told_as x).1 ≡ Some t
 unfolding told_as told_numbers
 all_told x t e = rw e (telling-back t)
 

@@ -1,11 +1,9 @@
 -- What a finish answers as numbers, and reading all at once: one law for each path.
-use Rattle.std.specs.Prelude.{◌≡◌, ℕ, ◌-◌, ◌≤◌, Bool, true, false, cond, List, [], ◌∷◌, length}
+use Rattle.std.specs.Prelude.{◌≡◌, ℕ, ◌-◌, ◌≤◌, Bool, true, false, cond, List, [], ◌∷◌, length, Ok, Err}
 use native.Mathlib.Omega.{arith}
 use mathlib.Core.Path.{refl, sym, ap, ap₂, subst, ◌∙◌}
 use lib.ListN.{length-drop}
 use mir.Val.{bool_byte}
-use Rattle.canvas.specs.Copy as copy
-use Rattle.canvas.specs.declared.Copied.{Copied}
 use Rattle.colours.specs.declared.Palette.{Palette}
 use Rattle.colours.specs.Palette.{of_table, standard}
 use Rattle.frame.specs.declared.Limits.{Limits}
@@ -13,15 +11,12 @@ use Rattle.meaning.specs.Calls.{opens, part_handed_back}
 use Rattle.meaning.specs.OneShot as meaning
 use Rattle.meaning.specs.Payload as meant
 use Rattle.meaning.proofs.AreaLaws.{cond-case}
-use Rattle.payload.specs.declared.Finishing.{Finishing}
-use Rattle.payload.specs.declared.Finishing.TheVariants.{Picture}
+use Rattle.payload.specs.Results.{Finishing}
 use Rattle.payload.specs.declared.Report.{Report}
 use Rattle.payload.specs.Core.{finished_over}
 use Rattle.payload.specs.Meant.{ratio_meant, limits_meant, report_meant, finish_meant}
-use Rattle.oneshot.specs.declared.search.Found.{Found}
-use Rattle.oneshot.specs.declared.search.Found.TheVariants as founds
 use Rattle.oneshot.specs.OneShot.{found_meant, Read, read_whole, read_meant}
-use Rattle.oneshot.specs.Search.{found_in}
+use Rattle.oneshot.specs.Search.{Found, found_in}
 use Rattle.oneshot.proofs.FoundLaws.{refused-part, found-meant}
 use Rattle.owlgantry.specs.Reading.{ratio_kind, ratio_number, report_numbers, refusal_number, sixel_read}
 
@@ -61,7 +56,7 @@ picture-numbers x kind number clear place part =
     ∷ []
 
 pub report-picture : {a : Finishing} {x : Report} {k n : ℕ} (p : Palette) (place part : ℕ)
-    → a ≡ Picture x → k ≡ ratio_kind (ratio_meant x.ratio) → n ≡ ratio_number (ratio_meant x.ratio)
+    → a ≡ Ok x → k ≡ ratio_kind (ratio_meant x.ratio) → n ≡ ratio_number (ratio_meant x.ratio)
     → picture-numbers x k n (bool_byte x.transparent) place part ≡ report_numbers (finish_meant a p) place part
 unfolding report_numbers finish_meant report_meant
 report-picture {x = x} p place part e k n =
@@ -77,11 +72,7 @@ report-as p place part = by-case (λ (x : Finishing). report_numbers (finish_mea
 
 pub ruleset reported = (report-picture, report-as)
 
--- ---- copying, and the standard palette
-
-pub copy-as : {x other : Copied} {out : List ℕ} {n : ℕ} {z : ℕ × List ℕ}
-    → (copy.number_of x, out) ≡ z → x ≡ other → n ≡ copy.number_of other → (n, out) ≡ z
-copy-as {out = out} k e h = ap (λ (i : ℕ). (i, out)) (by-case copy.number_of e h) ∙ k
+-- ---- the standard palette
 
 pub standard-table : (t : List ℕ) {p : Palette} → of_table t ≡ p → p ≡ standard → of_table t ≡ standard
 standard-table t e k = e ∙ k
@@ -90,8 +81,8 @@ standard-table t e k = e ∙ k
 
 found-short : (bytes : List ℕ) (f : Found) → length (meaning.part_of (found_meant bytes f)) ≤ length bytes
 unfolding meaning.part_of found_meant
-found-short bytes (founds.Payload from o) = rw (length-drop from bytes) (omega arith)
-found-short bytes (founds.Refused n) = rw (refused-part bytes n) (omega arith)
+found-short bytes (Ok x) = rw (length-drop x.from bytes) (omega arith)
+found-short bytes (Err n) = rw (refused-part bytes n) (omega arith)
 
 -- the part is no longer than the bytes
 pub part-short : (l : Limits) (stride size : ℕ) (bytes : List ℕ) {part : ℕ}

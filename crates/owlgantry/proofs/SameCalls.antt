@@ -1,5 +1,5 @@
 -- Whatever the caller's memory holds: the number that is told of a call is the number that the call answers.
-use Rattle.std.specs.Prelude.{◌≡◌, ℕ, List, length}
+use Rattle.std.specs.Prelude.{◌≡◌, ℕ, List, length, Ok, Err}
 use mathlib.Core.Option.{Option, none, some}
 use mathlib.Core.Path.{refl, sym, ap, ◌∙◌}
 use Rattle.colours.specs.Palette.{of_table}
@@ -8,26 +8,23 @@ use Rattle.meaning.specs.Calls as calls
 use Rattle.meaning.specs.Payload as meant
 use Rattle.meaning.specs.Tellings.{number_told, answer_number, finish_number}
 use Rattle.meaning.proofs.TellingLaws.{read_number_lem}
-use Rattle.payload.specs.declared.Answer as payload_answer
+use Rattle.payload.specs.Results as payload_answer
 use Rattle.payload.specs.declared.Answer.TheVariants as payload_answers
 use Rattle.payload.specs.Meant as payload_meant
 use Rattle.payload.specs.Memory as payload_memory
 use Rattle.payload.specs.Session as payload
-use Rattle.dcs.specs.declared.Answer as dcs_answer
-use Rattle.dcs.specs.declared.Answer.TheVariants as dcs_answers
+use Rattle.dcs.specs.Results as dcs_answer
 use Rattle.dcs.specs.Meant as dcs_meant
 use Rattle.dcs.specs.Memory as dcs_memory
 use Rattle.dcs.specs.Session as dcs
 use Rattle.oneshot.specs.OneShot.{read_whole}
-use Rattle.explain.specs.declared.Explained.{Explained}
-use Rattle.explain.specs.declared.Explained.TheVariants.{Fine, Refused}
-use Rattle.explain.specs.Explained.{payload_feed_explained, payload_finish_explained, dcs_feed_explained, dcs_finish_explained, read_explained}
+use Rattle.explain.specs.Explained.{Explained, payload_feed_explained, payload_finish_explained, dcs_feed_explained, dcs_finish_explained, read_explained}
 use Rattle.explain.specs.Meant.{telling_meant, explained_meant}
 use Rattle.explain.proofs.SameNumbers as explained
 use Rattle.explain.proofs.WholeTells.{read_told_lem}
 use Rattle.owlgantry.specs.Explaining.{told_number, told_as, payload_feed_told, payload_finish_told, dcs_feed_told, dcs_finish_told, read_told}
 use Rattle.owlgantry.specs.Reading.{refusal_number, sixel_read}
-use Rattle.owlgantry.specs.Sessions.{payload_number, payload_fed_as, payload_fed, finished_as, payload_finished, dcs_number, dcs_fed_as, dcs_fed, dcs_finished}
+use Rattle.owlgantry.specs.Sessions.{number_or_zero, payload_fed_as, payload_fed, finished_as, payload_finished, dcs_fed_as, dcs_fed, dcs_finished}
 
 -- ---- a number that is there, or 0: how an answer tells a refusal
 
@@ -37,22 +34,22 @@ or_zero (some n) = n
 
 told-as : (x : Explained) → (told_as x).0 ≡ or_zero (number_told (explained_meant x))
 unfolding told_as told_number number_told explained_meant telling_meant or_zero
-told-as Fine = refl
-told-as (Refused t) = refl
+told-as (Ok tt) = refl
+told-as (Err t) = refl
 
-payload-as : (a : payload_answer.Answer) → payload_number a ≡ or_zero (answer_number (payload_meant.answer_meant a))
-unfolding payload_number answer_number payload_meant.answer_meant or_zero
-payload-as (payload_answers.More n i) = refl
-payload-as (payload_answers.Stopped n i) = refl
-payload-as (payload_answers.Ended n i b) = refl
-payload-as (payload_answers.Refused r) = refl
+payload-as : (a : payload_answer.Answer) → number_or_zero a ≡ or_zero (answer_number (payload_meant.answer_meant a))
+unfolding number_or_zero answer_number payload_meant.answer_meant or_zero
+payload-as (Ok (payload_answers.More n i)) = refl
+payload-as (Ok (payload_answers.Stopped n i)) = refl
+payload-as (Ok (payload_answers.Ended n i b)) = refl
+payload-as (Err r) = refl
 
-dcs-as : (a : dcs_answer.Answer) → dcs_number a ≡ or_zero (answer_number (dcs_meant.answer_meant a))
-unfolding dcs_number answer_number dcs_meant.answer_meant or_zero
-dcs-as (dcs_answers.More n i) = refl
-dcs-as (dcs_answers.Stopped n i) = refl
-dcs-as (dcs_answers.Ended n i e) = refl
-dcs-as (dcs_answers.Refused r) = refl
+dcs-as : (a : dcs_answer.Answer) → number_or_zero a ≡ or_zero (answer_number (dcs_meant.answer_meant a))
+unfolding number_or_zero answer_number dcs_meant.answer_meant or_zero
+dcs-as (Ok (payload_answers.More n i)) = refl
+dcs-as (Ok (payload_answers.Stopped n i)) = refl
+dcs-as (Ok (payload_answers.Ended n i e)) = refl
+dcs-as (Err r) = refl
 
 finish-as : (x : meant.Finished) → refusal_number x ≡ or_zero (finish_number x)
 unfolding refusal_number finish_number or_zero

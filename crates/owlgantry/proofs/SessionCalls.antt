@@ -1,5 +1,5 @@
 -- What the calls over a session in memory come to: one law for each path.
-use Rattle.std.specs.Prelude.{◌≡◌, ℕ, List, [], ◌∷◌, get_or, replicate}
+use Rattle.std.specs.Prelude.{◌≡◌, ℕ, List, [], ◌∷◌, get_or, replicate, true, false, is_ok, Ok, Err}
 use mathlib.Core.Path.{refl, sym, ap, ap₂, ◌∙◌}
 use Rattle.colours.specs.declared.Palette.{Palette}
 use Rattle.colours.specs.Marks.{lasting}
@@ -11,9 +11,7 @@ use types.Run.{OneOf, miss}
 use Rattle.numbers.specs.Memory as parameters
 use Rattle.frame.specs.declared.Frame.{Frame}
 use Rattle.payload.specs.declared.Finished.{Finished}
-use Rattle.payload.specs.declared.Finishing.{Finishing}
-use Rattle.payload.specs.declared.Finishing.TheVariants as finishes
-use Rattle.payload.specs.declared.Given.{Given}
+use Rattle.payload.specs.Results.{Finishing, Given}
 use Rattle.payload.specs.declared.Life.{Life}
 use Rattle.payload.specs.declared.Session as payload_session
 use Rattle.payload.specs.declared.Settings.{Settings}
@@ -23,23 +21,20 @@ use Rattle.payload.specs.declared.kernel.opening.Opened as payload_opening
 use Rattle.payload.specs.Codes.{given_from, life_from}
 use Rattle.payload.specs.Core as payload_parts
 use Rattle.payload.proofs.CoreLaws.{owned}
-use Rattle.payload.specs.contracts.Finishing as FinishingType
 use Rattle.payload.specs.Memory as payload_memory
 use Rattle.payload.specs.Session as payload
-use Rattle.dcs.specs.declared.Answer as dcs_answer
-use Rattle.dcs.specs.declared.Answer.TheVariants as dcs_answers
+use Rattle.dcs.specs.Results as dcs_answer
+use Rattle.payload.specs.declared.Answer.TheVariants as dcs_answers
 use Rattle.dcs.specs.declared.Ending.{Ending}
 use Rattle.dcs.specs.declared.Phase.{Phase}
 use Rattle.dcs.specs.declared.Session as dcs_session
 use Rattle.dcs.specs.declared.kernel.Core.{Core}
-use Rattle.dcs.specs.declared.kernel.feeding.Fed as dcs_feeding
-use Rattle.dcs.specs.declared.kernel.opening.Opened as dcs_opening
 use Rattle.dcs.specs.Core as dcs_parts
 use Rattle.dcs.specs.Memory as dcs_memory
 use Rattle.dcs.specs.Session as dcs
 use Rattle.payload.specs.Meant.{finish_meant}
 use Rattle.owlgantry.specs.Reading.{report_numbers, refusal_number}
-use Rattle.owlgantry.specs.Sessions.{opening_number, payload_number, payload_report, ending_kind, ending_byte, dcs_number, dcs_report, finish_report}
+use Rattle.owlgantry.specs.Sessions.{number_or_zero, payload_report, ending_kind, ending_byte, dcs_report, finish_report}
 use Rattle.owlgantry.specs.Sessions.{payload_opened_as, payload_opened, payload_fed_as, payload_fed, finished_as, dcs_opened_as, dcs_opened}
 use Rattle.owlgantry.specs.Sessions.{dcs_fed_as, dcs_fed}
 
@@ -55,7 +50,7 @@ four w h m n = record { width = w; height = h; repeats = m; pixels = n }
 -- ---- reports
 
 pub told-end : {k b n i : ℕ} {x : dcs_answer.Answer} (e : Ending)
-    → x ≡ dcs_answers.Ended n i e → k ≡ ending_kind e → b ≡ ending_byte e → k ∷ n ∷ i ∷ b ∷ [] ≡ dcs_report x
+    → x ≡ Ok (dcs_answers.Ended n i e) → k ≡ ending_kind e → b ≡ ending_byte e → k ∷ n ∷ i ∷ b ∷ [] ≡ dcs_report x
 unfolding dcs_report
 told-end {n = n} {i = i} e h p q = ap₂ (λ (x y : ℕ). x ∷ n ∷ i ∷ y ∷ []) p q ∙ ap dcs_report (sym h)
 
@@ -108,7 +103,7 @@ pub payload-opened : (w h m n stride p1 p2 : ℕ) (owner own canvas : List ℕ) 
     {ns : List ℕ} {r : ℕ} → g1 ≡ given_from p1 → g2 ≡ given_from p2 → of_table own ≡ lasting (of_table owner)
     → (payload_parts.opened_over x (of_table own), l₁)
     ≡ payload.opened_on (four w h m n) stride (record { p1 = g1; p2 = g2 }) (of_table own) canvas
-    → ((p : Palette) → ns ≡ payload_memory.numbers_of (payload_parts.over x.setup x.life x.frame p)) → r ≡ opening_number x.answer
+    → ((p : Palette) → ns ≡ payload_memory.numbers_of (payload_parts.over x.setup x.life x.frame p)) → r ≡ number_or_zero x.answer
     → (r, ns, own, l₁) ≡ payload_opened (four w h m n) stride p1 p2 owner canvas
 unfolding payload_opened payload_opened_as payload.opened_by of_table
 payload-opened w h m n stride p1 p2 owner own canvas {g1} {g2} x l₁ a b eo e en er =
@@ -118,9 +113,9 @@ payload-opened w h m n stride p1 p2 owner own canvas {g1} {g2} x l₁ a b eo e e
     (e ∙ ap (λ (q : Palette). payload.opened_on (four w h m n) stride given q canvas) eo)
     (ap₂ (λ (i j : Given). record { p1 = i; p2 = j }) a b)
 
-pub dcs-opened : (w h m n stride size : ℕ) (owner own : List ℕ) (x : dcs_opening.Opened) {ns : List ℕ} {r : ℕ}
+pub dcs-opened : (w h m n stride size : ℕ) (owner own : List ℕ) (x : dcs_answer.OpenedCore) {ns : List ℕ} {r : ℕ}
     → of_table own ≡ lasting (of_table owner) → dcs_parts.opened_over x (of_table own) ≡ dcs.opened_on (four w h m n) stride (of_table own) size
-    → ((p : Palette) → ns ≡ dcs_memory.numbers_of (dcs_parts.over x.core p)) → r ≡ opening_number x.answer
+    → ((p : Palette) → ns ≡ dcs_memory.numbers_of (dcs_parts.over x.session p)) → r ≡ number_or_zero x.answer
     → (r, ns, own) ≡ dcs_opened (four w h m n) stride size owner
 unfolding dcs_opened dcs_opened_as dcs.opened_by of_table
 dcs-opened w h m n stride size owner own x eo e en er =
@@ -134,17 +129,17 @@ pub payload-fed : (ns ts canvas bytes : List ℕ) (allowance : ℕ) {u v : Setup
     → u ≡ payload_memory.setup_from ns → life ≡ life_from (get_or ns 10 0) → f ≡ payload_memory.frame_from ns
     → (payload_parts.fed_over u x ts', l₁) ≡ payload.fed_by (payload_parts.over u life f (of_table ts)) canvas bytes allowance
     → v ≡ payload_memory.setup_from ns → ((p : Palette) → ns' ≡ payload_memory.numbers_of (payload_parts.over v x.life x.frame p))
-    → report ≡ payload_report x.answer → r ≡ payload_number x.answer
+    → report ≡ payload_report x.answer → r ≡ number_or_zero x.answer
     → (r, ns', ts', l₁, report) ≡ payload_fed ns ts canvas bytes allowance
 unfolding payload_fed payload_fed_as of_table
 payload-fed ns ts canvas bytes allowance x l₁ ts' eu el ef e ev en ep er =
     called payload_fed_as (λ (s : payload_session.Session). payload.fed_by s canvas bytes allowance) (rw (er, en (of_table ts'), ev ∙ sym eu, ep) refl) e
     (payload-held ns ts eu el ef)
 
-pub dcs-fed : (ns ts canvas bytes : List ℕ) (allowance : ℕ) {c : Core} (x : dcs_feeding.Fed) (l₁ ts' : List ℕ) {ns' report : List ℕ} {r : ℕ}
+pub dcs-fed : (ns ts canvas bytes : List ℕ) (allowance : ℕ) {c : Core} (x : dcs_answer.FedCore) (l₁ ts' : List ℕ) {ns' report : List ℕ} {r : ℕ}
     → c ≡ dcs_memory.core_from ns → (dcs_parts.fed_over x (of_table ts'), l₁) ≡ dcs.fed_by (dcs_parts.over c (of_table ts)) canvas bytes allowance
-    → ((p : Palette) → ns' ≡ dcs_memory.numbers_of (dcs_parts.over x.core p))
-    → report ≡ dcs_report x.answer → r ≡ dcs_number x.answer
+    → ((p : Palette) → ns' ≡ dcs_memory.numbers_of (dcs_parts.over x.session p))
+    → report ≡ dcs_report x.answer → r ≡ number_or_zero x.answer
     → (r, ns', ts', l₁, report) ≡ dcs_fed ns ts canvas bytes allowance
 unfolding dcs_fed dcs_fed_as of_table
 dcs-fed ns ts canvas bytes allowance x l₁ ts' k e en ep er =
@@ -155,8 +150,8 @@ dcs-fed ns ts canvas bytes allowance x l₁ ts' k e en ep er =
 -- the answer that is handed back is the finish's
 handed-answer : (a : Finishing) (owner after : Palette) → (payload_parts.handed_back a owner after).answer ≡ a
 unfolding payload_parts.handed_back
-handed-answer (finishes.Picture r) owner after = refl
-handed-answer (finishes.Refused n) owner after = refl
+handed-answer (Ok r) owner after = refl
+handed-answer (Err n) owner after = refl
 
 finish-told : (a : Finishing) (owner after : Palette) (l₁ : List ℕ) {ts report : List ℕ} {r : ℕ}
     → ts ≡ (payload_parts.handed_back a owner after).palette.colors
@@ -181,16 +176,14 @@ finished-by {S} from by own ns ts palette canvas {a = a} after l₁ k e et ep er
     (ap (owned (of_table palette)) (e ∙ ap (λ (s : S). by s (of_table ts) canvas) k) ∙ sym (own (from ns ts) (of_table palette) (of_table ts) canvas))
 
 -- the owner's registers then
-pub over-picture : (a : Finishing) (owner after : List ℕ) → OneOf (0 ∷ []) (tag_of FinishingType.the_type a)
+pub over-picture : (a : Finishing) (owner after : List ℕ) → is_ok a ≡ true
     → after ≡ (payload_parts.handed_back a (of_table owner) (of_table after)).palette.colors
 unfolding payload_parts.handed_back of_table
-over-picture (finishes.Picture r) owner after h = refl
-over-picture (finishes.Refused n) owner after h = absurd (miss (0 ∷ []) 1 tt h)
+over-picture (Ok r) owner after h = refl
+over-picture (Err n) owner after h = cc
 
-pub over-refused : (a : Finishing) (owner after : List ℕ) → OneOf (1 ∷ []) (tag_of FinishingType.the_type a)
+pub over-refused : (a : Finishing) (owner after : List ℕ) → is_ok a ≡ false
     → owner ≡ (payload_parts.handed_back a (of_table owner) (of_table after)).palette.colors
 unfolding payload_parts.handed_back of_table
-over-refused (finishes.Picture r) owner after h = absurd (miss (1 ∷ []) 0 tt h)
-over-refused (finishes.Refused n) owner after h = refl
-
-pub ruleset handings = (over-picture, over-refused)
+over-refused (Ok r) owner after h = cc
+over-refused (Err n) owner after h = refl

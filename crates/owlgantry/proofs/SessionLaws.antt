@@ -19,7 +19,7 @@ use Rattle.dcs.specs.Memory as dcs_memory
 use Rattle.dcs.specs.Session as dcs
 use Rattle.dcs.proofs.MemoryLaws as dcs_laws
 use Rattle.dcs.proofs.SessionRanges as dcs_kept
-use Rattle.owlgantry.specs.Sessions.{payload_number, payload_opened_as, payload_opened, payload_fed_as, payload_fed, finished_as, payload_finished, dcs_number}
+use Rattle.owlgantry.specs.Sessions.{number_or_zero, payload_opened_as, payload_opened, payload_fed_as, payload_fed, finished_as, payload_finished}
 use Rattle.owlgantry.specs.Sessions.{dcs_opened_as, dcs_opened, dcs_fed_as, dcs_fed, dcs_finished}
 
 -- ---- a payload session
@@ -119,9 +119,9 @@ module _ (s : dcs_session.Session) (ns ts : List ℕ) (h : DcsHeld s ns ts) wher
 -- ---- zeros
 
 pub payload-zeros : (ts canvas bytes : List ℕ) (allowance : ℕ) → (payload_fed (replicate 48 0) ts canvas bytes allowance).0 ≡ 9
-unfolding payload_fed payload_fed_as payload.fed_by payload.fed_as feed_judged is_failed payload_memory.session_from life_from payload_number number_of
+unfolding payload_fed payload_fed_as payload.fed_by payload.fed_as feed_judged is_failed payload_memory.session_from life_from number_or_zero number_of
 payload-zeros ts canvas bytes allowance = refl
 
 pub dcs-zeros : (ts canvas bytes : List ℕ) (allowance : ℕ) → (dcs_fed (replicate 48 0) ts canvas bytes allowance).0 ≡ 9
-unfolding dcs_fed dcs_fed_as dcs.fed_by dcs.fed_as feed_judged is_failed dcs_memory.session_from payload_memory.session_from life_from dcs_number number_of
+unfolding dcs_fed dcs_fed_as dcs.fed_by dcs.fed_as feed_judged is_failed dcs_memory.session_from payload_memory.session_from life_from number_or_zero number_of
 dcs-zeros ts canvas bytes allowance = refl

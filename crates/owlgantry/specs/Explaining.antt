@@ -1,6 +1,6 @@
 -- What a call over a session in the caller's memory is refused with, as numbers (docs/RULES.md, rules 5.9 to 5.11): the number that the call
 -- answers, and the seven of what is told. Each is what `explain` tells of the session that the memory holds.
-use Rattle.std.specs.Prelude.{ℕ, List, replicate}
+use Rattle.std.specs.Prelude.{ℕ, List, replicate, Ok, Err}
 use Rattle.text.specs.Text.{put}
 use Rattle.colours.specs.Palette.{of_table}
 use Rattle.frame.specs.declared.Limits.{Limits}
@@ -8,21 +8,19 @@ use Rattle.frame.specs.Numbers.{number_of}
 use Rattle.payload.specs.Memory as payload_memory
 use Rattle.dcs.specs.Memory as dcs_memory
 use Rattle.words.specs.Memory.{numbers_of, text_of}
-use Rattle.explain.specs.declared.Explained.{Explained}
-use Rattle.explain.specs.declared.Explained.TheVariants.{Fine, Refused}
-use Rattle.explain.specs.Explained.{payload_feed_explained, payload_finish_explained, dcs_feed_explained, dcs_finish_explained, read_explained}
+use Rattle.explain.specs.Explained.{Explained, payload_feed_explained, payload_finish_explained, dcs_feed_explained, dcs_finish_explained, read_explained}
 
 -- ---- what is told, as numbers
 
 -- 0 of a call that is not refused, else the refusal's number
 unfoldable pub told_number : Explained → ℕ
-told_number Fine = 0
-told_number (Refused t) = number_of t.refusal
+told_number (Ok tt) = 0
+told_number (Err t) = number_of t.refusal
 
 -- seven zeros of a call that is not refused, else what is told of its refusal
 unfoldable pub told_numbers : Explained → List ℕ
-told_numbers Fine = replicate 7 0
-told_numbers (Refused t) = numbers_of t
+told_numbers (Ok tt) = replicate 7 0
+told_numbers (Err t) = numbers_of t
 
 unfoldable pub told_as : Explained → ℕ × List ℕ
 unfolding told_number told_numbers

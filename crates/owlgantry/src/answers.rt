@@ -2,58 +2,41 @@
 ghost use Rattle.std.specs.Prelude.{◌≡◌};
 ghost use Rattle.colours.specs.declared.Palette.{Palette};
 ghost use Rattle.payload.specs.Meant.{finish_meant};
-ghost use Rattle.owlgantry.specs.Sessions.{opening_number, payload_number, payload_report, ending_kind, ending_byte, dcs_number, dcs_report, finish_report};
+ghost use Rattle.owlgantry.specs.Sessions.{number_or_zero, payload_report, ending_kind, ending_byte, dcs_report, finish_report};
 
 use crate::report::report_numbers;
 use dcs::Ending;
-use frame::number;
-use payload::{Finishing, Opening};
+use frame::{Refusal, number};
+use payload::{Answer, Report};
 
-// 0, or 11.
-pub fn opening_number(answer: Opening) -> u64
-    ensures { result ≡ opening_number answer }
+// 0, or the refusal's number: of an opening, a feed, a finish or a move.
+#[tactic(auto, unfolding(crate::specs::Sessions::number_or_zero))]
+pub fn number_or_zero<T: Copy>(answer: Result<T, Refusal>) -> u64
+    ensures { result ≡ number_or_zero answer }
 {
     match answer {
-        Opening::Ready => 0,
-        Opening::Refused(refusal) => number(refusal) as u64,
-    }
-}
-
-// 0, or the refusal's number.
-pub fn payload_number(answer: payload::Answer) -> u64
-    ensures { result ≡ payload_number answer }
-{
-    match answer {
-        payload::Answer::More {
-            consumed: _,
-            ink: _,
-        } => 0,
-        payload::Answer::Stopped {
-            consumed: _,
-            ink: _,
-        } => 0,
-        payload::Answer::Ended {
-            consumed: _,
-            ink: _,
-            byte: _,
-        } => 0,
-        payload::Answer::Refused(refusal) => number(refusal) as u64,
+        Ok(_) => 0,
+        Err(refusal) => number(refusal) as u64,
     }
 }
 
 // How a call went (0: all bytes read, 1: stopped for ink, 2: ended), bytes consumed, ink, and the byte that ended the payload.
-pub fn payload_report(answer: payload::Answer) -> [u64; 4]
+// Kept: a closure for the end in one function of both would say in a clause what its two callers' definitions say, and be no shorter.
+#[tactic(auto, unfolding(crate::specs::Sessions::payload_report))]
+pub fn payload_report(answer: Result<Answer<u8>, Refusal>) -> [u64; 4]
     ensures { result ≡ payload_report answer }
 {
     match answer {
-        payload::Answer::More { consumed, ink } => [0, consumed as u64, ink as u64, 0],
-        payload::Answer::Stopped { consumed, ink } => [1, consumed as u64, ink as u64, 0],
-        payload::Answer::Ended {
-            consumed,
-            ink,
-            byte,
-        } => [2, consumed as u64, ink as u64, byte as u64],
-        payload::Answer::Refused(_) => [0, 0, 0, 0],
+        Ok(Answer::More { consumed, ink }) => [0, consumed as u64, ink as u64, 0],
+        Ok(Answer::Stopped { consumed, ink }) => [1, consumed as u64, ink as u64, 0],
+        Ok(
+            Answer::Ended {
+                consumed,
+                ink,
+                end: byte,
+            },
+        ) => [2, consumed as u64, ink as u64, byte as u64],
+        Err(_) => [0, 0, 0, 0],
     }
 }
 
@@ -77,53 +60,34 @@ fn ending_byte(ending: Ending) -> u64
     }
 }
 
-// 0, or the refusal's number.
-pub fn dcs_number(answer: dcs::Answer) -> u64
-    ensures { result ≡ dcs_number answer }
-{
-    match answer {
-        dcs::Answer::More {
-            consumed: _,
-            ink: _,
-        } => 0,
-        dcs::Answer::Stopped {
-            consumed: _,
-            ink: _,
-        } => 0,
-        dcs::Answer::Ended {
-            consumed: _,
-            ink: _,
-            ending: _,
-        } => 0,
-        dcs::Answer::Refused(refusal) => number(refusal) as u64,
-    }
-}
-
 // How a call went (0: all bytes read, 1: stopped for ink, 2: complete, 3: cancelled, 4: interrupted), bytes consumed, ink, and the byte
 // that cancelled or interrupted the sequence.
-pub fn dcs_report(answer: dcs::Answer) -> [u64; 4]
+#[tactic(auto, unfolding(crate::specs::Sessions::dcs_report))]
+pub fn dcs_report(answer: Result<Answer<Ending>, Refusal>) -> [u64; 4]
     ensures { result ≡ dcs_report answer }
 {
     match answer {
-        dcs::Answer::More { consumed, ink } => [0, consumed as u64, ink as u64, 0],
-        dcs::Answer::Stopped { consumed, ink } => [1, consumed as u64, ink as u64, 0],
-        dcs::Answer::Ended {
-            consumed,
-            ink,
-            ending,
-        } => [
+        Ok(Answer::More { consumed, ink }) => [0, consumed as u64, ink as u64, 0],
+        Ok(Answer::Stopped { consumed, ink }) => [1, consumed as u64, ink as u64, 0],
+        Ok(
+            Answer::Ended {
+                consumed,
+                ink,
+                end: ending,
+            },
+        ) => [
             ending_kind(ending),
             consumed as u64,
             ink as u64,
             ending_byte(ending),
         ],
-        dcs::Answer::Refused(_) => [0, 0, 0, 0],
+        Err(_) => [0, 0, 0, 0],
     }
 }
 
 // Width, height, right, bottom, the ratio's kind and number, 1 for a transparent background, how many registers were defined, and the
 // declared width and height, and how many definitions had a held value; on a refusal all are 0.
-pub fn finish_report(answer: Finishing) -> [u64; 11]
+pub fn finish_report(answer: Result<Report, Refusal>) -> [u64; 11]
     ensures { (p : Palette) → result ≡ finish_report (finish_meant answer p) }
 {
     let all = report_numbers(answer, 0, 0);

@@ -2,7 +2,7 @@
 ghost use Rattle.std.specs.Prelude.{◌≡◌};
 ghost use Rattle.owlgantry.specs.Sessions.{dcs_opened, dcs_fed, dcs_finished};
 
-use crate::answers::{dcs_number, dcs_report, finish_report, opening_number};
+use crate::answers::{dcs_report, finish_report, number_or_zero};
 use crate::report::{hand_over, refusal_number};
 use colours::marks::begin;
 use dcs::kernel::feeding::feed;
@@ -39,9 +39,8 @@ pub fn owlgantry_raw_dcs_open(
     *registers = *palette;
     begin(registers);
     let opened = open(limits, stride, registers, length);
-    let answer = opened.answer;
-    *session = numbers_of(opened.core);
-    opening_number(answer)
+    *session = numbers_of(opened.session);
+    number_or_zero(opened.answer)
 }
 
 // Reads bytes. Answers 0 or the refusal's number, and reports four numbers: how the call went (0: all bytes read, 1: stopped for ink,
@@ -61,9 +60,9 @@ pub fn owlgantry_raw_dcs_feed(
     let before = core_from(session);
     let fed = feed(before, registers, canvas, bytes, allowance);
     let answer = fed.answer;
-    *session = numbers_of(fed.core);
+    *session = numbers_of(fed.session);
     *report = dcs_report(answer);
-    dcs_number(answer)
+    number_or_zero(answer)
 }
 
 // Finishes a sequence that has come to its end, as a payload session is finished.

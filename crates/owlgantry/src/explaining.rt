@@ -3,52 +3,22 @@
 // that the call itself answers, on a canvas of `length` bytes; where that is 0, all seven are. Nothing else is written: a session is read as it is
 // before the call.
 ghost use Rattle.std.specs.Prelude.{◌≡◌};
-ghost use Rattle.dcs.specs.Memory.{core_from};
 ghost use Rattle.owlgantry.specs.Explaining.{told_numbers, payload_feed_told, payload_finish_told, dcs_feed_told, dcs_finish_told, read_told, words_put};
 
-use dcs::kernel::Core;
-use dcs::memory::phase_from;
-use explain::Explained;
+use dcs::memory::core_from;
 use frame::Limits;
-use numbers::memory::parameters_from;
 use payload::codes::life_from;
 use payload::memory::{frame_from, setup_from};
 use payload::places;
+use words::Telling;
 use words::memory::{numbers_of, put_numbers};
 
-fn told_numbers(told: Explained) -> [u64; 7]
+fn told_numbers(told: Result<(), Telling>) -> [u64; 7]
     ensures { result ≡ told_numbers told }
 {
     match told {
-        Explained::Fine => [0, 0, 0, 0, 0, 0, 0],
-        Explained::Refused(telling) => numbers_of(telling),
-    }
-}
-
-// The session that the memory holds, as `dcs::memory::core_from` makes it. That has one caller, a feed, so that the compiler makes it part of the feed.
-fn held_core(numbers: &[u64; 48]) -> Core
-    ensures { result ≡ core_from numbers.now }
-{
-    let values = [
-        numbers[places::HEADER_0],
-        numbers[places::HEADER_1],
-        numbers[places::HEADER_2],
-        numbers[places::HEADER_3],
-        numbers[places::HEADER_4],
-        numbers[places::HEADER_5],
-        numbers[places::HEADER_6],
-        numbers[places::HEADER_7],
-        numbers[places::HEADER_8],
-    ];
-    let header = parameters_from(values);
-    let phase = phase_from(numbers[places::PHASE]);
-    let life = life_from(numbers[places::LIFE]);
-    Core {
-        setup: setup_from(numbers),
-        life,
-        frame: frame_from(numbers),
-        header,
-        phase,
+        Ok(()) => [0; 7],
+        Err(telling) => numbers_of(telling),
     }
 }
 
@@ -105,7 +75,7 @@ pub fn owlgantry_raw_dcs_explain(
     ensures { (result, telling.new)
         ≡ dcs_feed_told session.now registers.now length bytes.now allowance }
 {
-    let core = held_core(session);
+    let core = core_from(session);
     let told = explain::dcs_session::explain_feed(core, registers, length, bytes, allowance);
     let numbers = told_numbers(told);
     *telling = numbers;
@@ -121,7 +91,7 @@ pub fn owlgantry_raw_dcs_explain_finish(
 ) -> u64
     ensures { (result, telling.new) ≡ dcs_finish_told session.now registers.now length }
 {
-    let core = held_core(session);
+    let core = core_from(session);
     let told = explain::dcs_session::explain_finish(core, registers, length);
     let numbers = told_numbers(told);
     *telling = numbers;

@@ -11,11 +11,11 @@ mod report;
 
 ghost use Rattle.std.specs.Prelude.{◌≡◌};
 ghost use Rattle.colours.specs.Palette.{of_table, standard};
-ghost use Rattle.canvas.specs.Copy.{copied};
+ghost use Rattle.canvas.specs.Copy.{number_of, copied};
 ghost use Rattle.canvas.specs.Picture.{area_of};
 ghost use Rattle.owlgantry.specs.Reading.{sixel_read};
 
-use canvas::{Copied, copy_picture};
+use canvas::{Uncopied, copy_picture};
 use colours::Palette;
 use frame::Limits;
 use oneshot::read_onto;
@@ -53,6 +53,18 @@ pub fn owlgantry_raw_read(
     refusal_number(answer)
 }
 
+// The number of a copy's answer: 0, 12 or 14.
+#[tactic(auto, unfolding(canvas::specs::Copy::number_of))]
+fn copy_number(answer: Result<(), Uncopied>) -> u64
+    ensures { result ≡ number_of answer }
+{
+    match answer {
+        Ok(()) => 0,
+        Err(Uncopied::Misfit) => 12,
+        Err(Uncopied::Short) => 14,
+    }
+}
+
 // Copies a picture's rows without gaps to the front of `out`. Answers 0, 12 or 14.
 pub fn owlgantry_raw_copy(
     canvas: &[u8],
@@ -63,11 +75,7 @@ pub fn owlgantry_raw_copy(
 ) -> u64
     ensures { (result, out.new) ≡ copied stride (area_of width height) canvas.now out.old }
 {
-    match copy_picture(canvas, stride, width, height, out) {
-        Copied::Done => 0,
-        Copied::Misfit => 12,
-        Copied::Short => 14,
-    }
+    copy_number(copy_picture(canvas, stride, width, height, out))
 }
 
 // The standard palette's 256 registers, each a packed colour without a mark.

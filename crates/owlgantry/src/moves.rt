@@ -2,45 +2,39 @@
 ghost use Rattle.std.specs.Prelude.{◌≡◌};
 ghost use Rattle.canvas.specs.Picture.{area_of};
 ghost use Rattle.moving.specs.Carry.{carried_to};
-ghost use Rattle.owlgantry.specs.Moving.{moving_number, moving_report, placed_as, payload_moved, dcs_moved};
+ghost use Rattle.owlgantry.specs.Moving.{moving_report, placed_as, payload_moved, dcs_moved};
 
-use canvas::{Copied, rows};
+use crate::answers::number_or_zero;
+use crate::copy_number;
+use canvas::rows;
 use dcs::memory::core_from;
-use frame::number;
-use moving::Moving;
+use frame::{Refusal, VisibleArea};
 use moving::carrying::carry_picture;
 use payload::codes::life_from;
 use payload::memory::{frame_from, setup_from};
 use payload::places;
 
-// 0, or the refusal's number.
-fn moving_number(answer: Moving) -> u64
-    ensures { result ≡ moving_number answer }
-{
-    match answer {
-        Moving::Done {
-            width: _,
-            height: _,
-        } => 0,
-        Moving::Refused(refusal) => number(refusal) as u64,
-    }
-}
-
 // The picture's width and height; zeros on a refusal.
-fn moving_report(answer: Moving) -> [u64; 2]
+#[tactic(auto, unfolding(crate::specs::Moving::moving_report))]
+fn moving_report(answer: Result<VisibleArea, Refusal>) -> [u64; 2]
     ensures { result ≡ moving_report answer }
 {
     match answer {
-        Moving::Done { width, height } => [width as u64, height as u64],
-        Moving::Refused(_) => [0, 0],
+        Ok(area) => [area.width as u64, area.height as u64],
+        Err(_) => [0, 0],
     }
 }
 
 // Puts a session on its other canvas, unless that was refused: of its numbers three are the canvas's.
-fn place(answer: Moving, session: &mut [u64; 48], stride: usize, length: usize)
+fn place(
+    answer: Result<VisibleArea, Refusal>,
+    session: &mut [u64; 48],
+    stride: usize,
+    length: usize,
+)
     ensures { session.new ≡ placed_as answer session.old stride length }
 {
-    if let Moving::Refused(_) = answer {
+    if let Err(_) = answer {
         return;
     }
     session[places::STRIDE] = stride as u64;
@@ -68,7 +62,7 @@ pub fn owlgantry_raw_payload_move(
     );
     place(answer, session, stride, length);
     *report = moving_report(answer);
-    moving_number(answer)
+    number_or_zero(answer)
 }
 
 // Moves a DCS session, as a payload session is moved. Before the `q` of its header there is no picture, and both numbers are 0.
@@ -84,7 +78,7 @@ pub fn owlgantry_raw_dcs_move(
     let answer = moving::dcs_session::move_answer(core, stride, length);
     place(answer, session, stride, length);
     *report = moving_report(answer);
-    moving_number(answer)
+    number_or_zero(answer)
 }
 
 // Carries a picture's rows from one canvas to another, each at its canvas's stride; all other bytes of the other canvas stay. Answers 0, or 12
@@ -100,9 +94,5 @@ pub fn owlgantry_raw_carry(
     ensures { (result, other.new)
         ≡ carried_to stride other_stride (area_of width height) canvas.now other.old }
 {
-    match carry_picture(canvas, stride, width, height, other, other_stride) {
-        Copied::Done => 0,
-        Copied::Misfit => 12,
-        Copied::Short => 14,
-    }
+    copy_number(carry_picture(canvas, stride, width, height, other, other_stride))
 }

@@ -3,7 +3,7 @@
 ghost use Rattle.std.specs.Prelude.{◌≡◌};
 ghost use Rattle.owlgantry.specs.Sessions.{payload_opened, payload_fed, payload_finished};
 
-use crate::answers::{finish_report, opening_number, payload_number, payload_report};
+use crate::answers::{finish_report, number_or_zero, payload_report};
 use crate::report::{hand_over, refusal_number};
 use colours::marks::begin;
 use frame::Limits;
@@ -45,10 +45,8 @@ pub fn owlgantry_raw_payload_open(
     *registers = *palette;
     begin(registers);
     let opened = open(limits, stride, settings, registers, canvas);
-    let answer = opened.answer;
-    let life = opened.life;
-    *session = numbers_of(opened.setup, life, opened.frame);
-    opening_number(answer)
+    *session = numbers_of(opened.setup, opened.life, opened.frame);
+    number_or_zero(opened.answer)
 }
 
 // Reads bytes. Answers 0 or the refusal's number, and reports four numbers: how the call went (0: all bytes read, 1: stopped for ink,
@@ -76,12 +74,11 @@ pub fn owlgantry_raw_payload_feed(
         allowance,
     );
     let answer = fed.answer;
-    let after = fed.life;
     // Read once more, where it still lies, so that the call above has nothing of it to keep.
     let kept = setup_from(session);
-    *session = numbers_of(kept, after, fed.frame);
+    *session = numbers_of(kept, fed.life, fed.frame);
     *report = payload_report(answer);
-    payload_number(answer)
+    number_or_zero(answer)
 }
 
 // Carries the pending command out. Answers 0 or the refusal's number. The palette gets the session's colours and marks where there is a

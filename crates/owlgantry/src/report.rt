@@ -6,34 +6,34 @@ ghost use Rattle.payload.specs.Core.{handed_back};
 ghost use Rattle.payload.specs.Meant.{given_meant, ratio_meant, finish_meant};
 ghost use Rattle.owlgantry.specs.Reading.{given_kind, given_number, ratio_kind, ratio_number, report_numbers, refusal_number};
 
-use frame::number;
-use payload::{Finishing, Given, Ratio};
+use frame::{Refusal, number};
+use payload::{Ratio, Report};
 
 // 0, or the refusal's number.
-pub fn refusal_number(answer: Finishing) -> u64
+pub fn refusal_number(answer: Result<Report, Refusal>) -> u64
     ensures { (p : Palette) → result ≡ refusal_number (finish_meant answer p) }
 {
     match answer {
-        Finishing::Picture(_) => 0,
-        Finishing::Refused(refusal) => number(refusal) as u64,
+        Ok(_) => 0,
+        Err(refusal) => number(refusal) as u64,
     }
 }
 
-fn given_kind(given: Given) -> u64
+fn given_kind(given: Option<u16>) -> u64
     ensures { result ≡ given_kind (given_meant given) }
 {
     match given {
-        Given::Nothing => 0,
-        Given::Number(_) => 1,
+        None => 0,
+        Some(_) => 1,
     }
 }
 
-fn given_number(given: Given) -> u64
+fn given_number(given: Option<u16>) -> u64
     ensures { result ≡ given_number (given_meant given) }
 {
     match given {
-        Given::Nothing => 0,
-        Given::Number(n) => n as u64,
+        None => 0,
+        Some(n) => n as u64,
     }
 }
 
@@ -56,11 +56,11 @@ fn ratio_number(ratio: Ratio) -> u64
 }
 
 // The thirteen numbers of a report, with the part's place and length.
-pub fn report_numbers(answer: Finishing, place: usize, size: usize) -> [u64; 13]
+pub fn report_numbers(answer: Result<Report, Refusal>, place: usize, size: usize) -> [u64; 13]
     ensures { (p : Palette) → result ≡ report_numbers (finish_meant answer p) place size }
 {
     match answer {
-        Finishing::Picture(report) => {
+        Ok(report) => {
             let ratio = report.ratio;
             [
                 report.width as u64,
@@ -78,16 +78,16 @@ pub fn report_numbers(answer: Finishing, place: usize, size: usize) -> [u64; 13]
                 size as u64,
             ]
         }
-        Finishing::Refused(_) => [0, 0, 0, 0, 0, 0, 0, 0, 0, 0, 0, place as u64, size as u64],
+        Err(_) => [0, 0, 0, 0, 0, 0, 0, 0, 0, 0, 0, place as u64, size as u64],
     }
 }
 
 // The owner's registers become the picture's, where there is one.
-pub fn hand_over(answer: Finishing, after: &[u32; 256], palette: &mut [u32; 256])
+pub fn hand_over(answer: Result<Report, Refusal>, after: &[u32; 256], palette: &mut [u32; 256])
     ensures { palette.new
         ≡ (handed_back answer (of_table palette.old) (of_table after.now)).palette.colors }
 {
-    if let Finishing::Picture(_) = answer {
+    if answer.is_ok() {
         *palette = *after;
     }
 }

@@ -21,7 +21,7 @@ use Rattle.meaning.proofs.HistoryLaws.{StaysHalted, halts-again}
 use Rattle.meaning.proofs.ToldLaws as told_laws
 use Rattle.meaning.proofs.ToldLaws.{end_told, Tells, answered-tells, answered-leaves, Learned, learned-more, answer-status}
 use Rattle.agreement.proofs.Feed.{EndsAlike, all_read, stopped_early, at_end, turned_down}
-use Rattle.payload.specs.declared.Fed.{Fed}
+use Rattle.payload.specs.Results.{Fed}
 use Rattle.payload.specs.Session.{fed_by}
 use Rattle.payload.specs.History.{Stands, Feeds, Held, tell_with, called, calls_of, proper_calls}
 use Rattle.payload.specs.Meant.{answer_meant}

@@ -11,7 +11,7 @@ use Rattle.frame.specs.declared.Kind.{Kind}
 use Rattle.frame.specs.declared.Pen.{Pen}
 use Rattle.frame.specs.declared.Raster.{Raster}
 use Rattle.frame.specs.declared.VisibleArea.{VisibleArea}
-use Rattle.payload.specs.declared.Given.{Given}
+use Rattle.payload.specs.Results.{Given}
 use Rattle.payload.specs.declared.Life.{Life}
 use Rattle.payload.specs.declared.Session.{Session}
 use Rattle.payload.specs.declared.Settings.{Settings}

@@ -1,8 +1,6 @@
 -- A call by value is the call over the session's parts.
-use Rattle.std.specs.Prelude.{◌≡◌, ℕ, List, [], ◌∷◌, length}
+use Rattle.std.specs.Prelude.{◌≡◌, ℕ, List, length, Ok, Err}
 use mathlib.Core.Path.{refl, sym, ap, ◌∙◌}
-use denote.Enum.Declared.{tag_of}
-use types.Run.{OneOf, miss}
 use Rattle.colours.specs.declared.Palette.{Palette}
 use Rattle.colours.specs.Marks.{lasting}
 use Rattle.colours.specs.Palette.{of_table}
@@ -12,23 +10,19 @@ use Rattle.frame.specs.declared.Outcome.{Outcome}
 use Rattle.frame.specs.declared.Outcome.TheVariants as outcomes
 use Rattle.frame.specs.declared.Refusal.{Refusal}
 use Rattle.frame.specs.Commands.{Ended, ended}
-use Rattle.payload.specs.declared.Fed as session
+use Rattle.payload.specs.Results as session
 use Rattle.payload.specs.declared.Finished.{Finished}
-use Rattle.payload.specs.declared.Finishing.{Finishing}
-use Rattle.payload.specs.declared.Finishing.TheVariants as finishes
+use Rattle.payload.specs.Results.{Finishing, Verdict}
 use Rattle.payload.specs.declared.Life.{Life}
-use Rattle.payload.specs.declared.Opened as whole
+use Rattle.payload.specs.declared.Report.{Report}
 use Rattle.payload.specs.declared.Session.{Session}
 use Rattle.payload.specs.declared.Settings.{Settings}
 use Rattle.payload.specs.declared.kernel.Setup.{Setup}
 use Rattle.payload.specs.declared.kernel.feeding.Fed.{Fed}
 use Rattle.payload.specs.declared.kernel.opening.Opened.{Opened}
-use Rattle.payload.specs.declared.refusals.Verdict.{Verdict}
-use Rattle.payload.specs.declared.refusals.Verdict.TheVariants as verdicts
 use Rattle.payload.specs.Core.{setup_of, over, opened_over, fed_over, finished_over, handed_back}
 use Rattle.payload.specs.Refusals.{finish_judged}
 use Rattle.payload.specs.Session.{opened_on, opened_by, fed_by, turned_away, pictured, finished_in, finished_live, finished_as, finished_by}
-use Rattle.payload.specs.contracts.Finishing as FinishingType
 
 -- the parts of a session make it again
 pub over-same : {u : Setup} {life : Life} {f : Frame} {p : Palette} (s : Session) → u ≡ setup_of s → life ≡ s.life → f ≡ s.frame → p ≡ s.palette
@@ -40,7 +34,7 @@ pub opened-whole : {x : Opened} {after : List ℕ} {q : Session} {own lent : Pal
     (l : Limits) (stride : ℕ) (o : Settings) (owner : Palette) (canvas : List ℕ)
     → own ≡ lasting owner → lent ≡ own
     → (opened_over x lent, after) ≡ opened_on l stride o lent canvas → q ≡ over x.setup x.life x.frame own
-    → ◌≡◌ {A = whole.Opened × List ℕ} (record { answer = x.answer; session = q }, after) (opened_by l stride o owner canvas)
+    → ◌≡◌ {A = session.Opened × List ℕ} (record { answer = x.answer; session = q }, after) (opened_by l stride o owner canvas)
 unfolding opened_by
 opened-whole l stride o owner canvas eo el e eq = rw (eq, ← eo, ← el) e
 
@@ -55,16 +49,15 @@ module _ (s : Session) {u : Setup} {life : Life} {f : Frame} {p : Palette} (eu :
 
 -- ---- the owner of a palette
 
-pub handed-refused : {a : Finishing} {n : Refusal} (owner after : Palette) → a ≡ finishes.Refused n
-    → ◌≡◌ {A = Finished} (record { answer = finishes.Refused n; palette = owner }) (handed_back a owner after)
+pub handed-refused : {a : Finishing} {n : Refusal} (owner after : Palette) → a ≡ Err n
+    → ◌≡◌ {A = Finished} (record { answer = Err n; palette = owner }) (handed_back a owner after)
 unfolding handed_back
 handed-refused owner after e = rw e refl
 
-pub handed-picture : (a : Finishing) (owner after : Palette) → OneOf (0 ∷ []) (tag_of FinishingType.the_type a)
-    → ◌≡◌ {A = Finished} (record { answer = a; palette = after }) (handed_back a owner after)
+pub handed-picture : {a : Finishing} {r : Report} (owner after : Palette) → a ≡ Ok r
+    → ◌≡◌ {A = Finished} (record { answer = Ok r; palette = after }) (handed_back a owner after)
 unfolding handed_back
-handed-picture (finishes.Picture r) owner after h = refl
-handed-picture (finishes.Refused n) owner after h = absurd (miss (0 ∷ []) 1 tt h)
+handed-picture owner after e = rw e refl
 
 -- a finish for one owner is that for another, but for what a refusal hands back
 abbrev pub owned : Palette → Finished × List ℕ → Finished × List ℕ
@@ -80,10 +73,10 @@ module _ (s : Session) (owner other : Palette) (canvas : List ℕ) where
 
   owned-as : (v : Verdict) → finished_as v s owner canvas ≡ owned owner (finished_as v s other canvas)
   unfolding finished_as finished_live turned_away handed_back
-  owned-as verdicts.Fine =
+  owned-as (Ok tt) =
       let e : Ended = ended s.frame s.ground s.palette in
       owned_in e.progress.outcome e.progress.frame e.palette
-  owned-as (verdicts.Refused n) = refl
+  owned-as (Err n) = refl
 
   pub owned_by : finished_by s owner canvas ≡ owned owner (finished_by s other canvas)
   unfolding finished_by

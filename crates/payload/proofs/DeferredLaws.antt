@@ -1,5 +1,5 @@
 -- Laws of a session that starts later: one for each path through a function of `deferred`.
-use Rattle.std.specs.Prelude.{◌≡◌, ℕ, Bool, true, false, cond, leb, List, length}
+use Rattle.std.specs.Prelude.{◌≡◌, ℕ, Bool, true, false, cond, leb, List, length, Ok, Err}
 use mathlib.Core.Path.{refl}
 use Rattle.colours.specs.declared.Palette.{Palette}
 use Rattle.frame.specs.declared.Frame.{Frame}
@@ -7,8 +7,7 @@ use Rattle.frame.specs.declared.Limits.{Limits}
 use Rattle.frame.specs.declared.Refusal.TheVariants as refusals
 use Rattle.payload.specs.declared.Life.{Life}
 use Rattle.payload.specs.declared.Life.TheVariants as lives
-use Rattle.payload.specs.declared.Opened.{Opened}
-use Rattle.payload.specs.declared.Opening.TheVariants as openings
+use Rattle.payload.specs.Results.{Opened}
 use Rattle.payload.specs.declared.Settings.{Settings}
 use Rattle.payload.specs.declared.kernel.Setup.{Setup}
 use Rattle.payload.specs.Core.{over, begun_over}
@@ -18,8 +17,8 @@ use Rattle.payload.specs.Deferred.{no_settings, reserved_by, with_background, be
 
 module _ (l : Limits) (stride : ℕ) (p : Palette) (size : ℕ) where
   either : (t : Bool) → opened_if t l stride size no_settings p
-      ≡ cond t (record { answer = openings.Ready; session = session_for l stride size no_settings p lives.Live })
-      (record { answer = openings.Refused refusals.Opening; session = session_for l stride size no_settings p lives.Failed })
+      ≡ cond t (record { answer = Ok tt; session = session_for l stride size no_settings p lives.Live })
+      (record { answer = Err refusals.Opening; session = session_for l stride size no_settings p lives.Failed })
   unfolding opened_if opening_for first_life
   either true = refl
   either false = refl

@@ -1,5 +1,5 @@
 -- A feed of the code is the definition's.
-use Rattle.std.specs.Prelude.{◌≡◌, ℕ, ◌-◌, Bool, true, false, cond, leb, List, [], ◌∷◌, length}
+use Rattle.std.specs.Prelude.{◌≡◌, ℕ, ◌-◌, Bool, true, false, cond, leb, List, [], ◌∷◌, length, Ok, Err}
 use Prim.Native.Nat.{zero-le}
 use native.Mathlib.Nat.{zero-add, sub-zero}
 use mathlib.Core.Bool.{true≢false}
@@ -22,12 +22,10 @@ use Rattle.meaning.proofs.FeedingLaws.{fed-as}
 use Rattle.meaning.proofs.PayloadLaws.{reading-parameters}
 use Rattle.agreement.proofs.Feed.{EndsAlike, all_read, stopped_early, at_end, turned_down, FeedAgrees, feed-agrees}
 use Rattle.payload.specs.declared.Answer.TheVariants as answers
-use Rattle.payload.specs.declared.Fed.{Fed}
+use Rattle.payload.specs.Results.{Fed, Verdict}
 use Rattle.payload.specs.declared.Life.{Life}
 use Rattle.payload.specs.declared.Life.TheVariants as lives
 use Rattle.payload.specs.declared.Session.{Session}
-use Rattle.payload.specs.declared.refusals.Verdict.{Verdict}
-use Rattle.payload.specs.declared.refusals.Verdict.TheVariants as verdicts
 use Rattle.payload.specs.Refusals.{is_failed, feed_judged}
 use Rattle.payload.specs.Session.{session_with, answered_in, answered_by, fed_live, fed_in, fed_as, fed_by}
 use Rattle.payload.proofs.RefusalLaws.{passes}
@@ -126,20 +124,20 @@ module _ {opening : List ℕ} {s : Session} {l : List ℕ} {m : calls.Session Re
   unended h = subst (λ (f : Bool). Stands opening s l (calls.session_after m m.state f)) h k
 
   again-feeds : {b : ℕ} → m.failed ≡ false → m.state.over ≡ some b
-      → Feeds opening (record { answer = answers.Ended 0 0 b; session = s }, l)
+      → Feeds opening (record { answer = Ok (answers.Ended 0 0 b); session = s }, l)
       (record { answer = calls.told 0 0 (calls.at_end m.state.over); session = calls.session_after m m.state false })
   unfolding answer_meant calls.at_end
   again-feeds h over = record { answer = ap (λ (o : Option ℕ). calls.told 0 0 (calls.at_end o)) (sym over); session = unended h }
 
   ended-feeds : (a : ℕ) (bs : List ℕ) {b : ℕ} → m.failed ≡ false → m.state.over ≡ some b
-      → Feeds opening (record { answer = answers.Ended 0 0 b; session = s }, l)
+      → Feeds opening (record { answer = Ok (answers.Ended 0 0 b); session = s }, l)
       (calls.answered (λ (r : Reading). r.over) m (call (payload_step m.setting) (rested m.setting) a m.state bs))
   unfolding call follow still calls.answered calls.tells
   ended-feeds a [] h over = again-feeds h over
   ended-feeds a (x ∷ bs) {b} h over =
       subst
       (λ (y : Step Reading).
-      Feeds opening (record { answer = answers.Ended 0 0 b; session = s }, l)
+      Feeds opening (record { answer = Ok (answers.Ended 0 0 b); session = s }, l)
       (calls.answered (λ (r : Reading). r.over) m
       (follow y
       (λ (t : Reading) (i : ℕ).
@@ -149,7 +147,7 @@ module _ {opening : List ℕ} {s : Session} {l : List ℕ} {m : calls.Session Re
       (again-feeds h over)
 
   -- a session that passes 9, 12 and 13, whatever its life
-  passed-feeds : (a : ℕ) (bs : List ℕ) (size : ℕ) → feed_judged s size a ≡ verdicts.Fine → (life : Life) → s.life ≡ life
+  passed-feeds : (a : ℕ) (bs : List ℕ) (size : ℕ) → feed_judged s size a ≡ Ok tt → (life : Life) → s.life ≡ life
       → Feeds opening (fed_in life s l bs a)
       (calls.answered (λ (r : Reading). r.over) m (call (payload_step m.setting) (rested m.setting) a m.state bs))
   unfolding fed_in feed_judged is_failed
@@ -170,12 +168,12 @@ unfolding fed_by fed_as judged_meant answer_meant calls.feed_payload
 feed-stands {opening} {s} {l} {m} k bs a = go (feed_judged s (length l) a) refl
   where
     go : (j : Verdict) → feed_judged s (length l) a ≡ j → Feeds opening (fed_as j s l bs a) (calls.feed_payload m (length l) a bs)
-    go verdicts.Fine e =
+    go (Ok tt) e =
         subst (Feeds opening (fed_in s.life s l bs a))
         (sym (fed-as (λ (r : Reading). r.drawing.area) payload_step rested (λ (r : Reading). r.over) m (length l) a bs
         (sym (feed-judged k (length l) a) ∙ ap judged_meant e)))
         (passed-feeds k a bs (length l) e s.life refl)
-    go (verdicts.Refused n) e =
-        subst (Feeds opening (record { answer = answers.Refused n; session = s }, l))
+    go (Err n) e =
+        subst (Feeds opening (record { answer = Err n; session = s }, l))
         (sym (fed-as (λ (r : Reading). r.drawing.area) payload_step rested (λ (r : Reading). r.over) m (length l) a bs
         (sym (feed-judged k (length l) a) ∙ ap judged_meant e))) (record { answer = refl; session = k })

@@ -1,5 +1,5 @@
 -- A finish of the code is the definition's.
-use Rattle.std.specs.Prelude.{◌≡◌, ℕ, Bool, false, eqb, List, length}
+use Rattle.std.specs.Prelude.{◌≡◌, ℕ, Bool, false, eqb, List, length, Ok, Err}
 use mathlib.Core.Path.{refl, sym, ap, ap₂, ◌∙◌, subst}
 use Rattle.colours.specs.declared.Palette.{Palette}
 use Rattle.colours.specs.Marks.{lasting, defined_count}
@@ -19,13 +19,10 @@ use Rattle.agreement.specs.Same as same
 use Rattle.meaning.proofs.FeedingLaws.{finished_as_lem}
 use Rattle.agreement.proofs.Finish.{Finishing, reporting, declining, finish-agrees}
 use Rattle.payload.specs.declared.Finished.{Finished}
-use Rattle.payload.specs.declared.Finishing.TheVariants as finishes
-use Rattle.payload.specs.declared.Given.{Given}
+use Rattle.payload.specs.Results.{Given, Verdict}
 use Rattle.payload.specs.declared.Session.{Session}
 use Rattle.payload.specs.declared.Settings.{Settings}
 use Rattle.payload.specs.declared.Report.{Report}
-use Rattle.payload.specs.declared.refusals.Verdict.{Verdict}
-use Rattle.payload.specs.declared.refusals.Verdict.TheVariants as verdicts
 use Rattle.payload.specs.Refusals.{is_failed, finish_judged}
 use Rattle.payload.specs.Session.{ratio_for, reported_as, turned_away, pictured, finished_in, finished_live, finished_as, finished_by}
 use Rattle.payload.proofs.RefusalLaws.{passes}
@@ -67,7 +64,7 @@ module _ {opening : List ℕ} {s : Session} {l : List ℕ} {m : calls.Session Re
   unfolding last
   told =
       let report : Report = reported_as last.progress.frame s.settings (defined_count last.palette) in
-      record { answer = finishes.Picture report; palette = lasting last.palette }
+      record { answer = Ok report; palette = lasting last.palette }
 
   -- a report: the drawing with the pending command carried out is on the canvas
   live-pictures : last.progress.outcome ≡ outcomes.Read
@@ -101,7 +98,7 @@ module _ {opening : List ℕ} {s : Session} {l : List ℕ} {m : calls.Session Re
       (ap (λ (o : Outcome). finished_in o s owner last.progress.frame last.palette l) (sym e))
       (subst
       (λ (i : ℕ).
-      Finishes (calls.payload_shown_at_finish m opening) owner l (record { answer = finishes.Refused why; palette = owner }, l)
+      Finishes (calls.payload_shown_at_finish m opening) owner l (record { answer = Err why; palette = owner }, l)
       (meant.turned_down i))
       number
       (declines why))
@@ -114,11 +111,11 @@ finish-stands {opening} {s} {l} {m} k owner = go (finish_judged s (length l)) re
   where
     go : (j : Verdict) → finish_judged s (length l) ≡ j
         → Finishes (calls.payload_shown_at_finish m opening) owner l (finished_as j s owner l) (calls.finish_payload m (length l))
-    go verdicts.Fine e =
+    go (Ok tt) e =
         let live : m.failed ≡ false = sym (failed-test k (length l)) ∙ (passes refusals.Failed (is_failed s.life) _ e).0 in
         subst (Finishes (calls.payload_shown_at_finish m opening) owner l (finished_live s owner l))
         (sym (finished_as_lem (λ (r : Reading). r.drawing.area) finish_reading m (length l) (sym (finish-judged k (length l)) ∙ ap judged_meant e)))
         (live-finishes k owner (finish-agrees (record { drawing = k.drawing; begun = k.begun live })))
-    go (verdicts.Refused n) e =
-        subst (Finishes (calls.payload_shown_at_finish m opening) owner l (record { answer = finishes.Refused n; palette = owner }, l))
+    go (Err n) e =
+        subst (Finishes (calls.payload_shown_at_finish m opening) owner l (record { answer = Err n; palette = owner }, l))
         (sym (finished_as_lem (λ (r : Reading). r.drawing.area) finish_reading m (length l) (sym (finish-judged k (length l)) ∙ ap judged_meant e))) (declines n)

@@ -1,5 +1,5 @@
 -- What a session of the code that stands for one of the definition has, and the refusals that both give before a byte is read.
-use Rattle.std.specs.Prelude.{◌≡◌, ℕ, ◌*◌, Bool, true, false, cond, not, ◌&&◌, ◌||◌, eqb, ltb, leb, List, [], ◌∷◌, length}
+use Rattle.std.specs.Prelude.{◌≡◌, ℕ, ◌*◌, Bool, true, false, cond, not, ◌&&◌, ◌||◌, eqb, ltb, leb, List, [], ◌∷◌, length, Ok, Err}
 use mathlib.Core.Option.{Option, none, some}
 use mathlib.Core.Path.{refl, sym, ap, ap₂, ◌∙◌, subst}
 use borrow.Author.Tests.{eqb-true, eq-eqb, le-leb}
@@ -18,8 +18,7 @@ use Rattle.agreement.specs.Same as same
 use Rattle.payload.specs.declared.Life.{Life}
 use Rattle.payload.specs.declared.Life.TheVariants as lives
 use Rattle.payload.specs.declared.Session.{Session}
-use Rattle.payload.specs.declared.refusals.Verdict.{Verdict}
-use Rattle.payload.specs.declared.refusals.Verdict.TheVariants as verdicts
+use Rattle.payload.specs.Results.{Verdict}
 use Rattle.payload.specs.Refusals.{is_failed, fitting, misfitting, feed_judged, finish_judged}
 use Rattle.payload.specs.History.{SameLife, Stands}
 use Rattle.payload.specs.Meant.{setting_meant}
@@ -101,11 +100,11 @@ module _ {opening : List ℕ} {s : Session} {l : List ℕ} {m : calls.Session Re
 
 -- a refusal as the definition has it
 unfoldable pub judged_meant : Verdict → Option ℕ
-judged_meant verdicts.Fine = none
-judged_meant (verdicts.Refused n) = some (number_of n)
+judged_meant (Ok tt) = none
+judged_meant (Err n) = some (number_of n)
 
 judged-by : (t u : Bool) (n : Refusal) (j : Verdict) (o : Option ℕ) → t ≡ u → judged_meant j ≡ o
-    → judged_meant (cond t (verdicts.Refused n) j) ≡ cond u (some (number_of n)) o
+    → judged_meant (cond t (Err n) j) ≡ cond u (some (number_of n)) o
 unfolding judged_meant
 judged-by true u n j o e k = subst (λ (v : Bool). some (number_of n) ≡ cond v (some (number_of n)) o) e refl
 judged-by false u n j o e k = subst (λ (v : Bool). judged_meant j ≡ cond v (some (number_of n)) o) e k
@@ -121,17 +120,17 @@ module _ {opening : List ℕ} {s : Session} {l : List ℕ} {m : calls.Session Re
   pub finish-judged : judged_meant (finish_judged s size) ≡ calls.first_of (record { holds = m.failed; number = 9 } ∷ record { holds = misfit; number = 12 } ∷ [])
   unfolding finish_judged calls.first_of number_of judged_meant misfit
   finish-judged =
-      judged-by (is_failed s.life) m.failed refusals.Failed (cond (misfitting s size) (verdicts.Refused refusals.Canvas) verdicts.Fine)
+      judged-by (is_failed s.life) m.failed refusals.Failed (cond (misfitting s size) (Err refusals.Canvas) (Ok tt))
       (cond misfit (some 12) none) failed-test
-      (judged-by (misfitting s size) misfit refusals.Canvas verdicts.Fine none (misfit-meant k size) refl)
+      (judged-by (misfitting s size) misfit refusals.Canvas (Ok tt) none (misfit-meant k size) refl)
 
   pub feed-judged : (allowance : ℕ) → judged_meant (feed_judged s size allowance) ≡ calls.feed_refusal (λ (r : Reading). r.drawing.area) m size allowance
   unfolding feed_judged calls.feed_refusal calls.first_of number_of judged_meant misfit
   feed-judged a =
-      let low : Verdict = cond (ltb a (6 * s.ground.limits.width)) (verdicts.Refused refusals.Allowance) verdicts.Fine in
+      let low : Verdict = cond (ltb a (6 * s.ground.limits.width)) (Err refusals.Allowance) (Ok tt) in
       let few : Option ℕ = cond (ltb a (6 * m.setting.limits.width)) (some 13) none in
-      judged-by (is_failed s.life) m.failed refusals.Failed (cond (misfitting s size) (verdicts.Refused refusals.Canvas) low)
+      judged-by (is_failed s.life) m.failed refusals.Failed (cond (misfitting s size) (Err refusals.Canvas) low)
       (cond misfit (some 12) few) failed-test
       (judged-by (misfitting s size) misfit refusals.Canvas low few (misfit-meant k size)
-      (judged-by (ltb a (6 * s.ground.limits.width)) (ltb a (6 * m.setting.limits.width)) refusals.Allowance verdicts.Fine none
+      (judged-by (ltb a (6 * s.ground.limits.width)) (ltb a (6 * m.setting.limits.width)) refusals.Allowance (Ok tt) none
       (ap (λ (w : ℕ). ltb a (6 * w)) (same-limit k)) refl))

@@ -1,5 +1,5 @@
 -- The round trip of a session through numbers and registers: read back it is the same session.
-use Rattle.std.specs.Prelude.{◌≡◌, ℕ, ◌+◌, ◌-◌, ◌*◌, ◌/◌, ◌%◌, ◌<◌, List, [], ◌∷◌, ◌++◌, length, get_or}
+use Rattle.std.specs.Prelude.{◌≡◌, ℕ, ◌+◌, ◌-◌, ◌*◌, ◌/◌, ◌%◌, ◌<◌, List, [], ◌∷◌, ◌++◌, length, get_or, Some, None}
 use native.Mathlib.Nat.{mod-eq_of_lt}
 use native.Mathlib.Omega.{arith}
 use mathlib.Core.Path.{refl, ap, ◌∙◌}
@@ -11,8 +11,7 @@ use Rattle.colours.specs.Packing.{packed}
 use Rattle.colours.specs.Palette.{of_table}
 use Rattle.frame.specs.declared.Kind.{Kind}
 use Rattle.frame.specs.declared.Kind.TheVariants as kinds
-use Rattle.payload.specs.declared.Given.{Given}
-use Rattle.payload.specs.declared.Given.TheVariants as givens
+use Rattle.payload.specs.Results.{Given}
 use Rattle.payload.specs.declared.Life.{Life}
 use Rattle.payload.specs.declared.Life.TheVariants as lives
 use Rattle.payload.specs.declared.Session.{Session}
@@ -24,8 +23,8 @@ use Rattle.payload.specs.Ranges.{ColorRanged, GivenRanged, LifeRanged, Ranged}
 
 given_back : (g : Given) → GivenRanged g → given_from (given_number g) ≡ g
 unfolding given_from given_number
-given_back givens.Nothing h = refl
-given_back (givens.Number n) h = cond_yes _ _ (lt-ltb n 65536 h)
+given_back None h = refl
+given_back (Some n) h = cond_yes _ _ (lt-ltb n 65536 h)
 
 life-back : (x : Life) → LifeRanged x → life_from (life_number x) ≡ x
 unfolding life_from life_number

@@ -1,5 +1,5 @@
 -- An opening of the code is the definition's.
-use Rattle.std.specs.Prelude.{◌≡◌, ℕ, Bool, true, false, cond, ◌↔◌, List, [], ◌∷◌, length}
+use Rattle.std.specs.Prelude.{◌≡◌, ℕ, Bool, true, false, cond, ◌↔◌, List, [], ◌∷◌, length, Ok, Err, Some, None}
 use native.Mathlib.Omega.{arith}
 use mathlib.Core.Option.{some}
 use mathlib.Core.Path.{refl, sym, ap, ◌∙◌, subst}
@@ -18,12 +18,8 @@ use Rattle.meaning.specs.Sessions.{opened}
 use Rattle.meaning.proofs.Cases.{cond_map}
 use Rattle.agreement.specs.Same as same
 use Rattle.agreement.proofs.Finish.{opened-same}
-use Rattle.payload.specs.declared.Given.{Given}
-use Rattle.payload.specs.declared.Given.TheVariants as givens
+use Rattle.payload.specs.Results.{Given, Opened, Opening}
 use Rattle.payload.specs.declared.Life.TheVariants as lives
-use Rattle.payload.specs.declared.Opened.{Opened}
-use Rattle.payload.specs.declared.Opening.{Opening}
-use Rattle.payload.specs.declared.Opening.TheVariants as openings
 use Rattle.payload.specs.declared.Settings.{Settings}
 use Rattle.payload.specs.Refusals.{in_range, limits_fit, openable}
 use Rattle.payload.specs.Session.{clear_for, background_for, blank_frame, ground_for, session_for, opened_by}
@@ -32,8 +28,8 @@ use Rattle.payload.specs.Meant.{given_meant, parameters_meant, limits_meant, set
 
 pub clear-meant : (g : Given) → clear_for g ≡ drawing.transparent (given_meant g)
 unfolding clear_for drawing.transparent given_meant
-clear-meant givens.Nothing = refl
-clear-meant (givens.Number n) = refl
+clear-meant None = refl
+clear-meant (Some n) = refl
 
 background-meant : (p : Palette) (g : Given) → background_for p g ≡ drawing.background_of p (given_meant g)
 unfolding background_for drawing.background_of
@@ -51,13 +47,13 @@ opens-meant l stride size = refl
 
 -- an opening's answer by its test: ready where it holds, and else 11
 abbrev pub opening_by : Bool → Opening
-opening_by t = cond t openings.Ready (openings.Refused refusals.Opening)
+opening_by t = cond t (Ok tt) (Err refusals.Opening)
 
-pub ready-exactly : (t : Bool) {a : Opening} → a ≡ opening_by t → (a ≡ openings.Ready) ↔ (t ≡ true)
+pub ready-exactly : (t : Bool) {a : Opening} → a ≡ opening_by t → (a ≡ Ok tt) ↔ (t ≡ true)
 ready-exactly true e = (λ _. refl, λ _. e)
 ready-exactly false e = (λ z. let never : ◌≡◌ {A = ℕ} 0 1 = cc in absurd (omega arith), λ z. let never : ◌≡◌ {A = ℕ} 0 1 = cc in absurd (omega arith))
 
-pub refused-exactly : (t : Bool) {a : Opening} → a ≡ opening_by t → (a ≡ openings.Refused refusals.Opening) ↔ (t ≡ false)
+pub refused-exactly : (t : Bool) {a : Opening} → a ≡ opening_by t → (a ≡ Err refusals.Opening) ↔ (t ≡ false)
 refused-exactly true e = (λ z. let never : ◌≡◌ {A = ℕ} 0 1 = cc in absurd (omega arith), λ z. let never : ◌≡◌ {A = ℕ} 0 1 = cc in absurd (omega arith))
 refused-exactly false e = (λ _. refl, λ _. e)
 
@@ -83,7 +79,7 @@ module _ (l : Limits) (stride : ℕ) (o : Settings) (p : Palette) (opening : Lis
       (opens-meant l stride (length opening)) (λ e. is_ready (ready-stands e)) (λ e. is_refused refusals.Opening)
 
   -- it is 11 exactly when it may not be opened
-  pub open-refused : ((opened_by l stride o p opening).0.answer ≡ openings.Refused refusals.Opening) ↔ (openable l stride (length opening) ≡ false)
+  pub open-refused : ((opened_by l stride o p opening).0.answer ≡ Err refusals.Opening) ↔ (openable l stride (length opening) ≡ false)
   unfolding opened_by
   open-refused =
       refused-exactly (openable l stride (length opening))

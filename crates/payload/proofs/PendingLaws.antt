@@ -1,6 +1,6 @@
 -- The pending command at a finish: the byte 1B ends it as any byte that ends a command does, and then ends the payload, so that what a finish
 -- reports is what ending the command alone comes to.
-use Rattle.std.specs.Prelude.{◌≡◌, ℕ, max, ◌&&◌, eqb, ltb, List, [], ◌∷◌}
+use Rattle.std.specs.Prelude.{◌≡◌, ℕ, max, ◌&&◌, eqb, ltb, List, [], ◌∷◌, Ok, Err}
 use mathlib.Core.Path.{refl, sym, ap, ◌∙◌}
 use denote.Enum.Declared.{tag_of}
 use types.Run.{OneOf, miss}
@@ -22,15 +22,13 @@ use Rattle.frame.specs.declared.Raster.{Raster}
 use Rattle.frame.specs.declared.Refusal.{Refusal}
 use Rattle.frame.specs.declared.Refusal.TheVariants as refusals
 use Rattle.frame.specs.declared.VisibleArea.{VisibleArea}
-use Rattle.frame.specs.declared.sizes.Needed.{Needed}
-use Rattle.frame.specs.declared.sizes.Needed.TheVariants as needed
+use Rattle.std.specs.Prelude.{Result, Ok, Err}
 use Rattle.frame.specs.Sizes.{raster_area}
 use Rattle.frame.specs.Commands.{settled_as, unread_as, refused_as, with_repeat, repeat_ended, color_ended_by, raster_by, raster_grown, raster_ended_by, finished_of, Ended, ended_in, ended}
 use Rattle.reference.specs.Step.{Reached, area_grown, data_step, settled_step, argument_step, step_in, step_of}
 use Rattle.reference.specs.Feed.{then_data, byte_step, reached_as, go_on, feed_from}
 use Rattle.meaning.proofs.AreaLaws.{cond-case}
 use Rattle.payload.specs.declared.Finished.{Finished}
-use Rattle.payload.specs.declared.Finishing.TheVariants as finishes
 use Rattle.payload.specs.declared.Report.{Report}
 use Rattle.payload.specs.declared.Session.{Session}
 use Rattle.payload.specs.Session.{reported_as, reached_by, then_ended, closed_by, carried_out_in, carried_out, turned_away, pictured, finished_in, finished_live}
@@ -45,10 +43,10 @@ data EndsAs (f : Frame) : Progress → Type 0 where
   declines : (n : Refusal) → EndsAs f (refused_as f n)
 
 module _ (f : Frame) (g : Ground) where
-  grown-ends : (r : Raster) (n : Needed) → EndsAs f (raster_grown f r n)
+  grown-ends : (r : Raster) (n : Result VisibleArea Refusal) → EndsAs f (raster_grown f r n)
   unfolding raster_grown
-  grown-ends r (needed.Area w h) = settles _ _ _ _ _
-  grown-ends r (needed.Refused n) = declines n
+  grown-ends r (Ok a) = settles _ _ _ _ _
+  grown-ends r (Err n) = declines n
 
   raster-ends : (r : Raster) → EndsAs f (raster_ended_by f g r)
   unfolding raster_ended_by
@@ -129,7 +127,7 @@ module _ (s : Session) (owner : Palette) where
   unfolding reported_as
   reported t =
       let report : Report = reported_as t.progress.frame s.settings (defined_count t.palette) in
-      (record { answer = finishes.Picture report; palette = lasting t.palette }, t.canvas)
+      (record { answer = Ok report; palette = lasting t.palette }, t.canvas)
 
   -- or a refusal
   told_in : Outcome → Reached → Finished × List ℕ
@@ -137,7 +135,7 @@ module _ (s : Session) (owner : Palette) where
   told_in outcomes.Read t = reported t
   told_in outcomes.Stopped t = reported t
   told_in (outcomes.Ended b) t = reported t
-  told_in (outcomes.Refused n) t = (record { answer = finishes.Refused n; palette = owner }, t.canvas)
+  told_in (outcomes.Refused n) t = (record { answer = Err n; palette = owner }, t.canvas)
 
   module _ (p : Palette) (l : List ℕ) where
     -- an area that stays as it is grows nothing
@@ -155,14 +153,14 @@ module _ (s : Session) (owner : Palette) where
         ≡ finish x q
     unfolding closed_by then_ended settled_as unread_as refused_as told_in finished_in pictured turned_away
     closed-told q (settles _ _ _ _ _) = refl
-    closed-told q (declines n) = ap (λ (c : List ℕ). (record { answer = finishes.Refused n; palette = owner }, c)) stays
+    closed-told q (declines n) = ap (λ (c : List ℕ). (record { answer = Err n; palette = owner }, c)) stays
 
     told_in_lem : (k : Kind) → s.frame.command.kind ≡ k
         → (let t : Reached = carried_out_in k s.frame s.ground p l in told_in t.progress.outcome t)
         ≡ (let e : Ended = ended s.frame s.ground p in finish e.progress e.palette)
     unfolding carried_out_in settled_step ended ended_in settled_as unread_as told_in reported finished_in pictured
     told_in_lem kinds.Data e =
-        ap (λ (c : List ℕ). (record { answer = finishes.Picture (reported_as s.frame s.settings (defined_count p)); palette = lasting p }, c)) (sym stays)
+        ap (λ (c : List ℕ). (record { answer = Ok (reported_as s.frame s.settings (defined_count p)); palette = lasting p }, c)) (sym stays)
         ∙ ap (λ (k : Kind). finish (ended_in k s.frame s.ground p).progress (ended_in k s.frame s.ground p).palette) (sym e)
     told_in_lem kinds.Repeat e = closed-told _ (command-ends s.frame s.ground p)
     told_in_lem kinds.Color e = closed-told _ (command-ends s.frame s.ground p)
@@ -186,18 +184,18 @@ module _ (s : Session) (owner : Palette) where
 
     -- a refusal leaves the registers that were lent, and so the owner's, as they are
     pub finish-last : {n : Refusal} → owner ≡ lent → r.outcome ≡ outcomes.Refused n
-        → ◌≡◌ {A = Finished × List ℕ} (record { answer = finishes.Refused n; palette = after }, later) (finished_live s owner canvas)
+        → ◌≡◌ {A = Finished × List ℕ} (record { answer = Err n; palette = after }, later) (finished_live s owner canvas)
     unfolding told_in carried_out
     finish-last {n} o h =
         let kept = refused-kept s.frame s.ground lent canvas s.frame.command.kind refl in
-        ap (λ (q : Palette). (record { answer = finishes.Refused n; palette = q }, later))
+        ap (λ (q : Palette). (record { answer = Err n; palette = q }, later))
         (ap (λ (x : Reached). x.palette) e ∙ kept (ap (λ (x : Reached). x.progress.outcome) (sym e) ∙ h) ∙ sym o)
         ∙ ap (λ (o : Outcome). told_in o (reached_by r after later)) (sym h)
         ∙ finish-in
 
     pub finish-pictured : {told : Report} {q : Palette} {n : ℕ} → OneOf (0 ∷ 1 ∷ 2 ∷ []) (tag_of OutcomeType.the_type r.outcome)
         → told ≡ reported_as r.frame s.settings n → n ≡ defined_count after → q ≡ lasting after
-        → ◌≡◌ {A = Finished × List ℕ} (record { answer = finishes.Picture told; palette = q }, later) (finished_live s owner canvas)
+        → ◌≡◌ {A = Finished × List ℕ} (record { answer = Ok told; palette = q }, later) (finished_live s owner canvas)
     unfolding reported
     finish-pictured h k n q =
         rw (k, n, q) refl ∙ not-refused r.outcome (reached_by r after later) h ∙ finish-in

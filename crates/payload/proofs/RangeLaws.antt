@@ -23,8 +23,8 @@ use Rattle.frame.specs.declared.Outcome.TheVariants as outcomes
 use Rattle.frame.specs.declared.Progress.{Progress}
 use Rattle.frame.specs.declared.Raster.{Raster}
 use Rattle.frame.specs.declared.Refusal.{Refusal}
-use Rattle.frame.specs.declared.sizes.Needed.{Needed}
-use Rattle.frame.specs.declared.sizes.Needed.TheVariants as needs
+use Rattle.frame.specs.declared.VisibleArea.{VisibleArea}
+use Rattle.std.specs.Prelude.{Result, Ok, Err}
 use Rattle.frame.specs.Sizes.{raster_area, sixel_area}
 use Rattle.frame.specs.Commands.{no_command, with_command, begun, values_longer, number_longer, by_digit_in, by_digit, by_semicolon, settled_as, refused_as, with_repeat, repeat_ended, with_color, color_ended_by, quotient_of, ratio_by, raster_by, raster_grown, raster_ended_by, finished_of, ended_in, ended}
 use Rattle.reference.specs.Step.{Reached, read_as, pen_after, inked, painted_on, drawn_in, drawn_by, moved_to, own_of, data_step, takes_semicolon, settled_step, argument_step, step_in, step_of}
@@ -124,10 +124,10 @@ module _ (f : Frame) (h : FrameRanged f) where
       cond-case ReachedRanged (ltb left _) (λ _. record { frame = h; outcome = tt })
       (λ _. record { frame = record { color = h.color; ratio = h.ratio; parameters = h.parameters }; outcome = tt })
 
-  drawn : (n : Needed) (g : Ground) (bits left : ℕ) (p : Palette) (l : List ℕ) → ReachedRanged (drawn_in n f g bits left p l)
+  drawn : (n : Result VisibleArea Refusal) (g : Ground) (bits left : ℕ) (p : Palette) (l : List ℕ) → ReachedRanged (drawn_in n f g bits left p l)
   unfolding drawn_in
-  drawn (needs.Area w x) g bits left p l = painted g bits left w x p l
-  drawn (needs.Refused r) g bits left p l = refused r
+  drawn (Ok a) g bits left p l = painted g bits left a.width a.height p l
+  drawn (Err r) g bits left p l = refused r
 
   data-ranged : (g : Ground) (b left : ℕ) (p : Palette) (l : List ℕ) → ReachedRanged (data_step f g b left p l)
   unfolding data_step drawn_by read_as
@@ -137,10 +137,10 @@ module _ (f : Frame) (h : FrameRanged f) where
       (λ _. record { frame = own b; outcome = tt }))
 
   -- a command's end
-  rastered : (r : Raster) → r.ratio < 256 → (n : Needed) → ProgressRanged (raster_grown f r n)
+  rastered : (r : Raster) → r.ratio < 256 → (n : Result VisibleArea Refusal) → ProgressRanged (raster_grown f r n)
   unfolding raster_grown settled_as no_command refused_as
-  rastered r k (needs.Area w x) = record { frame = record { color = h.color; ratio = k; parameters = opened-ranged 0 }; outcome = tt }
-  rastered r k (needs.Refused n) = record { frame = h; outcome = tt }
+  rastered r k (Ok a) = record { frame = record { color = h.color; ratio = k; parameters = opened-ranged 0 }; outcome = tt }
+  rastered r k (Err n) = record { frame = h; outcome = tt }
 
   raster-ended : (g : Ground) (r : Raster) → r.ratio < 256 → ProgressRanged (raster_ended_by f g r)
   unfolding raster_ended_by settled_as no_command

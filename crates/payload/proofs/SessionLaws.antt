@@ -1,5 +1,6 @@
 -- Laws of a session: one for each path through a function.
-use Rattle.std.specs.Prelude.{◌≡◌, ℕ, ◌/◌, ◌≤◌, Bool, true, false, cond, List, [], ◌∷◌, length}
+use Rattle.std.specs.Option.{option_eq}
+use Rattle.std.specs.Prelude.{◌≡◌, eqb, Some, None, ℕ, ◌/◌, ◌≤◌, Bool, true, false, cond, List, [], ◌∷◌, length, Ok, Err}
 use mathlib.Core.Path.{refl, sym, ap, ◌∙◌}
 use native.Mathlib.Nat.{div-le_self}
 use native.Mathlib.Omega.{arith}
@@ -24,25 +25,17 @@ use Rattle.frame.specs.declared.Refusal.{Refusal}
 use Rattle.frame.specs.declared.Refusal.TheVariants as refusals
 use Rattle.reference.specs.Step.{Reached}
 use Rattle.reference.specs.Feed.{feed_from}
-use Rattle.payload.specs.declared.Answer.{Answer}
+use Rattle.payload.specs.Results.{Answer, Fed, Given, Opened, Opening, Verdict}
 use Rattle.payload.specs.declared.Answer.TheVariants as answers
-use Rattle.payload.specs.declared.Fed.{Fed}
-use Rattle.payload.specs.declared.Finishing.TheVariants as finishes
 use Rattle.payload.specs.declared.Finished.{Finished}
-use Rattle.payload.specs.declared.Given.{Given}
 use Rattle.payload.specs.declared.Life.{Life}
 use Rattle.payload.specs.declared.Life.TheVariants as lives
-use Rattle.payload.specs.declared.Opened.{Opened}
-use Rattle.payload.specs.declared.Opening.{Opening}
-use Rattle.payload.specs.declared.Opening.TheVariants as openings
 use Rattle.payload.specs.declared.Ratio.{Ratio}
 use Rattle.payload.specs.declared.Ratio.TheVariants as ratios
 use Rattle.payload.specs.declared.Report.{Report}
 use Rattle.payload.specs.declared.Session.{Session}
 use Rattle.payload.specs.declared.Settings.{Settings}
 use Rattle.payload.specs.declared.kernel.Setup.{Setup}
-use Rattle.payload.specs.declared.refusals.Verdict.{Verdict}
-use Rattle.payload.specs.declared.refusals.Verdict.TheVariants as verdicts
 use Rattle.payload.specs.Core.{over, setup_for}
 use Rattle.payload.specs.Refusals.{limits_fit, in_range, openable, feed_judged, finish_judged}
 use Rattle.payload.specs.Session.{clear_for, background_for, blank_frame, ground_for, session_for, opening_for, first_life, opened_if, first_painted, opened_on, session_with, answer_of, life_after, answered_in, answered_by, fed_live, fed_in, fed_as, fed_by, ratio_for, reported_as, turned_away, finished_live, finished_as, finished_by}
@@ -51,8 +44,10 @@ use Rattle.payload.proofs.PendingLaws.{finish-last, finish-pictured}
 
 -- ---- opening
 
-pub clear-as : {r : Bool} {p other : Given} → p ≡ other → r ≡ clear_for other → r ≡ clear_for p
-clear-as e k = k ∙ ap clear_for (sym e)
+pub clear-tested : (p : Given) → option_eq eqb p (Some 1) ≡ clear_for p
+unfolding clear_for
+clear-tested None = refl
+clear-tested (Some n) = refl
 
 pub background-clear : {t : Bool} (p : Palette) (o : Given) → t ≡ clear_for o → t ≡ true → 0 ∷ 0 ∷ 0 ∷ 0 ∷ [] ≡ background_for p o
 unfolding background_for
@@ -97,11 +92,11 @@ unfolding setup_for ground_for
 setup-as l stride size o p b r = rw (b, r) refl
 
 module _ {t : Bool} where
-  pub opening-yes : t ≡ true → openings.Ready ≡ opening_for t
+  pub opening-yes : t ≡ true → Ok tt ≡ opening_for t
   unfolding opening_for
   opening-yes e = sym (cond_yes _ _ e)
 
-  pub opening-no : t ≡ false → openings.Refused refusals.Opening ≡ opening_for t
+  pub opening-no : t ≡ false → Err refusals.Opening ≡ opening_for t
   unfolding opening_for
   opening-no e = sym (cond_no _ _ e)
 
@@ -131,8 +126,8 @@ module _ (l : Limits) (stride : ℕ) (o : Settings) (p : Palette) (canvas : List
   either : (t : Bool)
       → ◌≡◌ {A = Opened × List ℕ} (opened_if t l stride (length canvas) o p, first_painted t (background_for p o.p2) canvas)
       (cond t
-      (record { answer = openings.Ready; session = session_for l stride (length canvas) o p lives.Live }, painted (span 0 1) (background_for p o.p2) canvas)
-      (record { answer = openings.Refused refusals.Opening; session = session_for l stride (length canvas) o p lives.Failed }, canvas))
+      (record { answer = Ok tt; session = session_for l stride (length canvas) o p lives.Live }, painted (span 0 1) (background_for p o.p2) canvas)
+      (record { answer = Err refusals.Opening; session = session_for l stride (length canvas) o p lives.Failed }, canvas))
   unfolding opened_if opening_for first_life first_painted
   either true = refl
   either false = refl
@@ -144,7 +139,7 @@ module _ (l : Limits) (stride : ℕ) (o : Settings) (p : Palette) (canvas : List
   opened-as {t} e b a k = rw (k, a, b, e) (either (openable l stride (length canvas)))
 
 pub ruleset openings-made = (
-  clear-as,
+  clear-tested,
   background-clear,
   background-kept,
   blank-as,
@@ -196,19 +191,19 @@ fed-live u life f p canvas bytes allowance {after} {pr} {later} e ea el =
 
 module _ (s : Session) (canvas bytes : List ℕ) (allowance : ℕ) where
   module _ {j : Verdict} (e : j ≡ feed_judged s (length canvas) allowance) where
-    pub fed-refused : {n : Refusal} → j ≡ verdicts.Refused n
-        → ◌≡◌ {A = Fed × List ℕ} (record { answer = answers.Refused n; session = s }, canvas) (fed_by s canvas bytes allowance)
+    pub fed-refused : {n : Refusal} → j ≡ Err n
+        → ◌≡◌ {A = Fed × List ℕ} (record { answer = Err n; session = s }, canvas) (fed_by s canvas bytes allowance)
     unfolding fed_by fed_as
     fed-refused h = ap (λ (k : Verdict). fed_as k s canvas bytes allowance) (sym h ∙ e)
 
-    pub fed-ended : {b : ℕ} → j ≡ verdicts.Fine → s.life ≡ lives.Ended b
-        → ◌≡◌ {A = Fed × List ℕ} (record { answer = answers.Ended 0 0 b; session = s }, canvas) (fed_by s canvas bytes allowance)
+    pub fed-ended : {b : ℕ} → j ≡ Ok tt → s.life ≡ lives.Ended b
+        → ◌≡◌ {A = Fed × List ℕ} (record { answer = Ok (answers.Ended 0 0 b); session = s }, canvas) (fed_by s canvas bytes allowance)
     unfolding fed_by fed_as fed_in
     fed-ended h l =
         ap (λ (k : Life). fed_in k s canvas bytes allowance) (sym l)
         ∙ ap (λ (k : Verdict). fed_as k s canvas bytes allowance) (sym h ∙ e)
 
-    pub fed-on : {x : Fed} {later : List ℕ} → j ≡ verdicts.Fine → OneOf (0 ∷ 2 ∷ []) (tag_of LifeType.the_type s.life)
+    pub fed-on : {x : Fed} {later : List ℕ} → j ≡ Ok tt → OneOf (0 ∷ 2 ∷ []) (tag_of LifeType.the_type s.life)
         → (x, later) ≡ fed_live s canvas bytes allowance → (x, later) ≡ fed_by s canvas bytes allowance
     unfolding fed_by fed_as
     fed-on h l k =
@@ -218,11 +213,11 @@ module _ (s : Session) (canvas bytes : List ℕ) (allowance : ℕ) where
 
 -- the same of a session's parts, whose life is known
 pub fed-over : (u : Setup) (life : Life) (f : Frame) (p : Palette) (canvas bytes : List ℕ) (allowance : ℕ) {b : ℕ}
-    → verdicts.Fine ≡ feed_judged (over u life f p) (length canvas) allowance → life ≡ lives.Ended b
-    → ◌≡◌ {A = Fed × List ℕ} (record { answer = answers.Ended 0 0 b; session = over u (lives.Ended b) f p }, canvas)
+    → Ok tt ≡ feed_judged (over u life f p) (length canvas) allowance → life ≡ lives.Ended b
+    → ◌≡◌ {A = Fed × List ℕ} (record { answer = Ok (answers.Ended 0 0 b); session = over u (lives.Ended b) f p }, canvas)
     (fed_by (over u life f p) canvas bytes allowance)
 fed-over u life f p canvas bytes allowance {b} e l =
-    ap (λ (k : Life). (record { answer = answers.Ended 0 0 b; session = over u k f p }, canvas)) (sym l)
+    ap (λ (k : Life). (record { answer = Ok (answers.Ended 0 0 b); session = over u k f p }, canvas)) (sym l)
     ∙ fed-ended (over u life f p) canvas bytes allowance e refl l
 
 pub ruleset feedings = (fed-live, fed-refused, fed-ended, fed-on)
@@ -256,12 +251,12 @@ unfolding reported_as
 reported-as f o n e k = rw (e, k) refl
 
 module _ (s : Session) (owner : Palette) (canvas : List ℕ) {j : Verdict} (e : j ≡ finish_judged s (length canvas)) where
-  pub finish-refused : {n : Refusal} → j ≡ verdicts.Refused n
-      → ◌≡◌ {A = Finished × List ℕ} (record { answer = finishes.Refused n; palette = owner }, canvas) (finished_by s owner canvas)
+  pub finish-refused : {n : Refusal} → j ≡ Err n
+      → ◌≡◌ {A = Finished × List ℕ} (record { answer = Err n; palette = owner }, canvas) (finished_by s owner canvas)
   unfolding finished_by finished_as turned_away
   finish-refused h = ap (λ (i : Verdict). finished_as i s owner canvas) (sym h ∙ e)
 
-  pub finish-on : {x : Finished} {later : List ℕ} → j ≡ verdicts.Fine → (x, later) ≡ finished_live s owner canvas → (x, later) ≡ finished_by s owner canvas
+  pub finish-on : {x : Finished} {later : List ℕ} → j ≡ Ok tt → (x, later) ≡ finished_live s owner canvas → (x, later) ≡ finished_by s owner canvas
   unfolding finished_by finished_as
   finish-on h y = y ∙ ap (λ (i : Verdict). finished_as i s owner canvas) (sym h ∙ e)
 

@@ -1,5 +1,5 @@
 -- Every session that a call hands back has its fields in their ranges, where the session that it is given has.
-use Rattle.std.specs.Prelude.{ℕ, ltb, List, [], ◌∷◌}
+use Rattle.std.specs.Prelude.{ℕ, ltb, List, [], ◌∷◌, Ok, Err}
 use native.Mathlib.Omega.{arith}
 use borrow.Author.Tests.{ltb-true}
 use mathlib.Core.Path.{refl}
@@ -14,14 +14,11 @@ use Rattle.frame.specs.declared.Outcome.TheVariants as outcomes
 use Rattle.frame.specs.declared.Progress.{Progress}
 use Rattle.reference.specs.Step.{Reached}
 use Rattle.reference.specs.Feed.{feed_from}
-use Rattle.payload.specs.declared.Given.{Given}
+use Rattle.payload.specs.Results.{Given, Opened, Verdict}
 use Rattle.payload.specs.declared.Life.{Life}
 use Rattle.payload.specs.declared.Life.TheVariants as lives
-use Rattle.payload.specs.declared.Opened.{Opened}
 use Rattle.payload.specs.declared.Session.{Session}
 use Rattle.payload.specs.declared.Settings.{Settings}
-use Rattle.payload.specs.declared.refusals.Verdict.{Verdict}
-use Rattle.payload.specs.declared.refusals.Verdict.TheVariants as verdicts
 use Rattle.payload.specs.Deferred.{no_settings, reserved_by, with_background, begun_session, begun_by, failed_of}
 use Rattle.payload.specs.Codes.{given_from}
 use Rattle.payload.specs.Refusals.{openable, feed_judged}
@@ -88,8 +85,8 @@ module _ (s : Session) (h : Ranged s) (canvas bytes : List ℕ) (allowance : ℕ
 
   as-ranged : (j : Verdict) → Ranged (fed_as j s canvas bytes allowance).0.session
   unfolding fed_as
-  as-ranged verdicts.Fine = in-ranged s.life
-  as-ranged (verdicts.Refused n) = h
+  as-ranged (Ok tt) = in-ranged s.life
+  as-ranged (Err n) = h
 
   pub fed-ranged : Ranged (fed_by s canvas bytes allowance).0.session
   unfolding fed_by

@@ -1,21 +1,20 @@
 -- A parameter, a life, a kind and a colour as one number each, and back: for a session that lies in a caller's memory. Every number is one
 -- of each.
-use Rattle.std.specs.Prelude.{ℕ, ◌+◌, ◌-◌, ◌*◌, ◌/◌, ◌%◌, cond, List, [], ◌∷◌, ◌==◌, nat_lt, slice_index}
+use Rattle.std.specs.Prelude.{ℕ, ◌+◌, ◌-◌, ◌*◌, ◌/◌, ◌%◌, cond, List, [], ◌∷◌, ◌==◌, nat_lt, slice_index, Some, None}
 use Rattle.colours.specs.Packing.{packed}
 use Rattle.frame.specs.declared.Kind.{Kind}
 use Rattle.frame.specs.declared.Kind.TheVariants as kinds
-use Rattle.payload.specs.declared.Given.{Given}
-use Rattle.payload.specs.declared.Given.TheVariants as givens
+use Rattle.payload.specs.Results.{Given}
 use Rattle.payload.specs.declared.Life.{Life}
 use Rattle.payload.specs.declared.Life.TheVariants as lives
 
 -- a parameter is its number, and 65,536 where it is missing
 unfoldable pub given_number : Given → ℕ
-given_number givens.Nothing = 65536
-given_number (givens.Number n) = n
+given_number None = 65536
+given_number (Some n) = n
 
 unfoldable pub given_from : ℕ → Given
-given_from n = cond (nat_lt n 65536) (givens.Number n) givens.Nothing
+given_from n = cond (nat_lt n 65536) (Some n) None
 
 -- 0 failed, 1 live, and 2 more than the byte that ended it
 unfoldable pub life_number : Life → ℕ

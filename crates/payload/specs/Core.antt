@@ -1,23 +1,20 @@
 -- A session in parts: its setup, its life, its frame, and the palette that is lent beside them. What a call over the parts comes to is
 -- said by the session that they make.
-use Rattle.std.specs.Prelude.{◌≡◌, ℕ, List}
+use Rattle.std.specs.Prelude.{◌≡◌, ℕ, List, Ok, Err}
 use Rattle.colours.specs.declared.Palette.{Palette}
 use Rattle.colours.specs.Palette.{of_table}
 use Rattle.frame.specs.declared.Ground.{Ground}
 use Rattle.frame.specs.declared.Frame.{Frame}
 use Rattle.frame.specs.declared.Limits.{Limits}
-use Rattle.payload.specs.declared.Fed as session
+use Rattle.payload.specs.Results as session
 use Rattle.payload.specs.declared.Finished.{Finished}
-use Rattle.payload.specs.declared.Finishing.{Finishing}
-use Rattle.payload.specs.declared.Finishing.TheVariants as finishes
+use Rattle.payload.specs.Results.{Finishing}
 use Rattle.payload.specs.declared.Life.{Life}
-use Rattle.payload.specs.declared.Opened as whole
 use Rattle.payload.specs.declared.Session.{Session}
 use Rattle.payload.specs.declared.Settings.{Settings}
 use Rattle.payload.specs.declared.kernel.Setup.{Setup}
 use Rattle.payload.specs.declared.kernel.feeding.Fed.{Fed}
 use Rattle.payload.specs.declared.kernel.opening.Opened.{Opened}
-use Rattle.payload.specs.declared.refusals.Verdict.TheVariants as verdicts
 use Rattle.payload.specs.Refusals.{feed_judged}
 use Rattle.payload.specs.Session.{background_for, blank_frame, ground_for}
 
@@ -35,7 +32,7 @@ unfolding ground_for
 setup_for l stride size o p =
     record { ground = ground_for l stride size (background_for p o.p2); length = size; settings = o }
 
-abbrev pub opened_over : Opened → Palette → whole.Opened
+abbrev pub opened_over : Opened → Palette → session.Opened
 opened_over x p = record { answer = x.answer; session = over x.setup x.life x.frame p }
 
 -- the session at `q`, in its life before it
@@ -51,9 +48,9 @@ finished_over a colors = record { answer = a; palette = of_table colors }
 
 -- 9, 12 and 13 do not refuse
 abbrev pub Passed : Setup → Life → Frame → ℕ → ℕ → Type 0
-Passed u life f length allowance = (p : Palette) → verdicts.Fine ≡ feed_judged (over u life f p) length allowance
+Passed u life f length allowance = (p : Palette) → Ok tt ≡ feed_judged (over u life f p) length allowance
 
 -- the owner's palette after a finish: the session's where there is a picture
 unfoldable pub handed_back : Finishing → Palette → Palette → Finished
-handed_back (finishes.Picture r) owner after = record { answer = finishes.Picture r; palette = after }
-handed_back (finishes.Refused n) owner after = record { answer = finishes.Refused n; palette = owner }
+handed_back (Ok r) owner after = record { answer = Ok r; palette = after }
+handed_back (Err n) owner after = record { answer = Err n; palette = owner }

@@ -1,15 +1,13 @@
 -- A payload session inside a DCS session: before `q`, at it, and failed.
-use Rattle.std.specs.Prelude.{ℕ, cond, List, length, nat_le}
+use Rattle.std.specs.Prelude.{ℕ, cond, List, length, nat_le, Ok, Err, None}
 use Rattle.colours.specs.declared.Palette.{Palette}
 use Rattle.canvas.specs.Picture.{span}
 use Rattle.canvas.specs.Paint.{painted}
 use Rattle.frame.specs.declared.Ground.{Ground}
 use Rattle.frame.specs.declared.Limits.{Limits}
 use Rattle.frame.specs.declared.Refusal.TheVariants as refusals
-use Rattle.payload.specs.declared.Given.TheVariants as givens
 use Rattle.payload.specs.declared.Life.TheVariants as lives
-use Rattle.payload.specs.declared.Opened.{Opened}
-use Rattle.payload.specs.declared.Opening.TheVariants as openings
+use Rattle.payload.specs.Results.{Opened}
 use Rattle.payload.specs.declared.Session.{Session}
 use Rattle.payload.specs.declared.Settings.{Settings}
 use Rattle.payload.specs.Refusals.{openable}
@@ -17,14 +15,14 @@ use Rattle.payload.specs.Session.{background_for, blank_frame, session_for, sess
 
 -- no parameters
 unfoldable pub no_settings : Settings
-no_settings = record { p1 = givens.Nothing; p2 = givens.Nothing }
+no_settings = record { p1 = None; p2 = None }
 
 unfoldable pub reserved_by : Limits → ℕ → Palette → ℕ → Opened
 unfolding no_settings
 reserved_by l stride p size =
     cond (openable l stride size)
-    (record { answer = openings.Ready; session = session_for l stride size no_settings p lives.Live })
-    (record { answer = openings.Refused refusals.Opening; session = session_for l stride size no_settings p lives.Failed })
+    (record { answer = Ok tt; session = session_for l stride size no_settings p lives.Live })
+    (record { answer = Err refusals.Opening; session = session_for l stride size no_settings p lives.Failed })
 
 unfoldable pub with_background : Ground → List ℕ → Ground
 with_background g background = record { limits = g.limits; stride = g.stride; rows = g.rows; background = background }

@@ -1,5 +1,5 @@
 -- The simulation relation: when a session of the code and its canvas stand for a session of the definition, and its callers.
-use Rattle.std.specs.Prelude.{◌≡◌, ℕ, Bool, true, false, List}
+use Rattle.std.specs.Prelude.{◌≡◌, ℕ, Bool, true, false, List, Ok, Err}
 use Rattle.std.proofs.Math.Option.{Option, none, some}
 use Rattle.colours.specs.declared.Palette.{Palette}
 use Rattle.frame.specs.declared.Refusal.{Refusal}
@@ -11,14 +11,10 @@ use Rattle.meaning.specs.Payload as meant
 use Rattle.meaning.specs.Reader.{Turn, Caller}
 use Rattle.meaning.specs.Sessions.{Reading}
 use Rattle.agreement.specs.Same.{SameDrawing, SameBegun}
-use Rattle.payload.specs.declared.Answer.{Answer}
-use Rattle.payload.specs.declared.Fed.{Fed}
+use Rattle.payload.specs.Results.{Answer, Fed, Opened}
 use Rattle.payload.specs.declared.Finished.{Finished}
-use Rattle.payload.specs.declared.Finishing.TheVariants as finishes
 use Rattle.payload.specs.declared.Life.{Life}
 use Rattle.payload.specs.declared.Life.TheVariants as lives
-use Rattle.payload.specs.declared.Opened.{Opened}
-use Rattle.payload.specs.declared.Opening.TheVariants as openings
 use Rattle.payload.specs.declared.Report.{Report}
 use Rattle.payload.specs.declared.Session.{Session}
 use Rattle.payload.specs.Session.{fed_by}
@@ -45,9 +41,9 @@ pub record Stands (opening : List ℕ) (s : Session) (l : List ℕ) (m : calls.S
 -- an opening: a session that stands for the definition's, or the definition's refusal and not a byte written
 pub data Opens (opening : List ℕ) : Opened × List ℕ → calls.Opened Reading → Type 0 where
   is_ready : {s : Session} {l : List ℕ} {m : calls.Session Reading} → Stands opening s l m
-      → Opens opening (record { answer = openings.Ready; session = s }, l) (calls.is_open m)
+      → Opens opening (record { answer = Ok tt; session = s }, l) (calls.is_open m)
   is_refused : (n : Refusal) {s : Session}
-      → Opens opening (record { answer = openings.Refused n; session = s }, opening) (calls.not_opened (number_of n))
+      → Opens opening (record { answer = Err n; session = s }, opening) (calls.not_opened (number_of n))
 
 -- a feed: the definition's answer, and a session and a canvas that stand for its session
 pub record Feeds (opening : List ℕ) (x : Fed × List ℕ) (y : calls.Fed Reading ℕ) : Type 0 where
@@ -58,9 +54,9 @@ pub record Feeds (opening : List ℕ) (x : Fed × List ℕ) (y : calls.Fed Readi
 -- and the canvas as it was
 pub data Finishes (picture : List ℕ) (owner : Palette) (l : List ℕ) : Finished × List ℕ → meant.Finished → Type 0 where
   pictures : {r : Report} {p : Palette}
-      → Finishes picture owner l (record { answer = finishes.Picture r; palette = p }, picture) (meant.finished (report_meant r p))
+      → Finishes picture owner l (record { answer = Ok r; palette = p }, picture) (meant.finished (report_meant r p))
   declines : (n : Refusal)
-      → Finishes picture owner l (record { answer = finishes.Refused n; palette = owner }, l) (meant.turned_down (number_of n))
+      → Finishes picture owner l (record { answer = Err n; palette = owner }, l) (meant.turned_down (number_of n))
 
 -- ---- callers
 

@@ -1,3 +1,4 @@
+pub mod Results
 pub mod Refusals
 pub mod Session
 pub mod Core

@@ -1,6 +1,6 @@
 -- What the code's answers mean: a payload session's parameters, limits, answers and report in the definition's terms. A refusal is known by its
 -- number (`number_of`).
-use Rattle.std.specs.Prelude.{ℕ}
+use Rattle.std.specs.Prelude.{ℕ, Ok, Err, Some, None}
 use Rattle.std.proofs.Math.Option.{Option, none, some}
 use Rattle.colours.specs.declared.Palette.{Palette}
 use Rattle.canvas.specs.Picture.{area_of}
@@ -9,12 +9,8 @@ use Rattle.frame.specs.Numbers.{number_of}
 use Rattle.meaning.specs.Calls as calls
 use Rattle.meaning.specs.Drawing as drawing
 use Rattle.meaning.specs.Payload as meant
-use Rattle.payload.specs.declared.Answer.{Answer}
+use Rattle.payload.specs.Results.{Answer, Finishing, Given}
 use Rattle.payload.specs.declared.Answer.TheVariants as answers
-use Rattle.payload.specs.declared.Finishing.{Finishing}
-use Rattle.payload.specs.declared.Finishing.TheVariants as finishes
-use Rattle.payload.specs.declared.Given.{Given}
-use Rattle.payload.specs.declared.Given.TheVariants as givens
 use Rattle.payload.specs.declared.Ratio.{Ratio}
 use Rattle.payload.specs.declared.Ratio.TheVariants as ratios
 use Rattle.payload.specs.declared.Report.{Report}
@@ -22,8 +18,8 @@ use Rattle.payload.specs.declared.Settings.{Settings}
 
 -- a parameter: some number, or none
 unfoldable pub given_meant : Given → Option ℕ
-given_meant givens.Nothing = none
-given_meant (givens.Number n) = some n
+given_meant None = none
+given_meant (Some n) = some n
 
 unfoldable pub parameters_meant : Settings → meant.Parameters
 unfolding given_meant
@@ -43,10 +39,10 @@ setting_meant l stride size = calls.setting_for (limits_meant l) stride size
 
 -- a feed's answer: counts and a status, or a refusal's number
 unfoldable pub answer_meant : Answer → calls.Answer ℕ
-answer_meant (answers.More consumed ink) = calls.told consumed ink calls.needs_more
-answer_meant (answers.Stopped consumed ink) = calls.told consumed ink calls.stopped_for_ink
-answer_meant (answers.Ended consumed ink b) = calls.told consumed ink (calls.ended b)
-answer_meant (answers.Refused n) = calls.refused (number_of n)
+answer_meant (Ok (answers.More consumed ink)) = calls.told consumed ink calls.needs_more
+answer_meant (Ok (answers.Stopped consumed ink)) = calls.told consumed ink calls.stopped_for_ink
+answer_meant (Ok (answers.Ended consumed ink b)) = calls.told consumed ink (calls.ended b)
+answer_meant (Err n) = calls.refused (number_of n)
 
 unfoldable pub ratio_meant : Ratio → meant.Ratio
 unfolding given_meant
@@ -70,5 +66,5 @@ report_meant r p =
 
 -- a finish's answer, with that palette
 unfoldable pub finish_meant : Finishing → Palette → meant.Finished
-finish_meant (finishes.Picture r) p = meant.finished (report_meant r p)
-finish_meant (finishes.Refused n) p = meant.turned_down (number_of n)
+finish_meant (Ok r) p = meant.finished (report_meant r p)
+finish_meant (Err n) p = meant.turned_down (number_of n)

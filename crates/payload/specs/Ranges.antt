@@ -1,9 +1,8 @@
 -- What each session of the code is: its fields are in the ranges of their types. Those of 64 bits are numbers as they are.
-use Rattle.std.specs.Prelude.{◌≡◌, ℕ, ◌<◌, List, length, slice_index_or}
+use Rattle.std.specs.Prelude.{◌≡◌, ℕ, ◌<◌, List, length, slice_index_or, Some, None}
 use Rattle.numbers.specs.Memory as parameters
 use Rattle.frame.specs.declared.Frame.{Frame}
-use Rattle.payload.specs.declared.Given.{Given}
-use Rattle.payload.specs.declared.Given.TheVariants as givens
+use Rattle.payload.specs.Results.{Given}
 use Rattle.payload.specs.declared.Life.{Life}
 use Rattle.payload.specs.declared.Life.TheVariants as lives
 use Rattle.payload.specs.declared.Session.{Session}
@@ -19,8 +18,8 @@ pub record ColorRanged (px : List ℕ) : Type 0 where
 
 -- a parameter has 16 bits
 abbrev pub GivenRanged : Given → Type 0
-GivenRanged givens.Nothing = Unit {0}
-GivenRanged (givens.Number n) = n < 65536
+GivenRanged None = Unit {0}
+GivenRanged (Some n) = n < 65536
 
 pub record SettingsRanged (o : Settings) : Type 0 where
   pub p1 : GivenRanged o.p1

@@ -1,13 +1,12 @@
 -- The refusals before a byte is read, on the code's own records.
-use Rattle.std.specs.Prelude.{ℕ, ◌*◌, ◌^◌, Bool, true, false, cond, not, ◌&&◌, ◌==◌, nat_le, nat_lt}
+use Rattle.std.specs.Prelude.{ℕ, ◌*◌, ◌^◌, Bool, true, false, cond, not, ◌&&◌, ◌==◌, nat_le, nat_lt, Ok, Err}
 use Rattle.canvas.specs.Picture.{rows_of}
 use Rattle.frame.specs.declared.Limits.{Limits}
 use Rattle.frame.specs.declared.Refusal.TheVariants as refusals
 use Rattle.payload.specs.declared.Life.{Life}
 use Rattle.payload.specs.declared.Life.TheVariants as lives
 use Rattle.payload.specs.declared.Session.{Session}
-use Rattle.payload.specs.declared.refusals.Verdict.{Verdict}
-use Rattle.payload.specs.declared.refusals.Verdict.TheVariants.{Fine, Refused}
+use Rattle.payload.specs.Results.{Verdict}
 
 -- 1 to a largest
 unfoldable pub in_range : ℕ → ℕ → Bool
@@ -44,12 +43,12 @@ misfitting s length = not (fitting s length)
 unfoldable pub finish_judged : Session → ℕ → Verdict
 unfolding is_failed misfitting
 finish_judged s length =
-    cond (is_failed s.life) (Refused refusals.Failed) (cond (misfitting s length) (Refused refusals.Canvas) Fine)
+    cond (is_failed s.life) (Err refusals.Failed) (cond (misfitting s length) (Err refusals.Canvas) (Ok tt))
 
 -- feed: 9, 12, 13
 unfoldable pub feed_judged : Session → ℕ → ℕ → Verdict
 unfolding is_failed misfitting
 feed_judged s length allowance =
-    cond (is_failed s.life) (Refused refusals.Failed)
-    (cond (misfitting s length) (Refused refusals.Canvas)
-    (cond (nat_lt allowance (6 * s.ground.limits.width)) (Refused refusals.Allowance) Fine))
+    cond (is_failed s.life) (Err refusals.Failed)
+    (cond (misfitting s length) (Err refusals.Canvas)
+    (cond (nat_lt allowance (6 * s.ground.limits.width)) (Err refusals.Allowance) (Ok tt)))

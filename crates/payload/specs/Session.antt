@@ -1,5 +1,5 @@
 -- The whole outcome of each function over a payload session: its answer, the session, the palette and every byte of the canvas.
-use Rattle.std.specs.Prelude.{ℕ, Bool, false, cond, List, [], ◌∷◌, length, ◌==◌}
+use Rattle.std.specs.Prelude.{ℕ, Bool, false, cond, List, [], ◌∷◌, length, ◌==◌, Ok, Err, Some, None}
 use Rattle.numbers.specs.Step as numbers
 use Rattle.colours.specs.declared.Palette.{Palette}
 use Rattle.colours.specs.Palette.{of_table, register_of}
@@ -20,33 +20,24 @@ use Rattle.frame.specs.declared.Refusal.TheVariants as refusals
 use Rattle.frame.specs.Commands.{unread_as, Ended, ended}
 use Rattle.reference.specs.Step.{Reached, area_grown, settled_step}
 use Rattle.reference.specs.Feed.{feed_from}
-use Rattle.payload.specs.declared.Answer.{Answer}
+use Rattle.payload.specs.Results.{Answer, Fed, Given, Opened, Opening, Verdict}
 use Rattle.payload.specs.declared.Answer.TheVariants as answers
-use Rattle.payload.specs.declared.Fed.{Fed}
-use Rattle.payload.specs.declared.Finishing.TheVariants as finishes
 use Rattle.payload.specs.declared.Finished.{Finished}
-use Rattle.payload.specs.declared.Given.{Given}
-use Rattle.payload.specs.declared.Given.TheVariants as givens
 use Rattle.payload.specs.declared.Life.{Life}
 use Rattle.payload.specs.declared.Life.TheVariants as lives
-use Rattle.payload.specs.declared.Opened.{Opened}
-use Rattle.payload.specs.declared.Opening.{Opening}
-use Rattle.payload.specs.declared.Opening.TheVariants as openings
 use Rattle.payload.specs.declared.Ratio.{Ratio}
 use Rattle.payload.specs.declared.Ratio.TheVariants as ratios
 use Rattle.payload.specs.declared.Report.{Report}
 use Rattle.payload.specs.declared.Session.{Session}
 use Rattle.payload.specs.declared.Settings.{Settings}
-use Rattle.payload.specs.declared.refusals.Verdict.{Verdict}
-use Rattle.payload.specs.declared.refusals.Verdict.TheVariants as verdicts
 use Rattle.payload.specs.Refusals.{openable, feed_judged, finish_judged}
 
 -- ---- opening
 
 -- the background is transparent exactly when P2 is 1
 unfoldable pub clear_for : Given → Bool
-clear_for givens.Nothing = false
-clear_for (givens.Number n) = n == 1
+clear_for None = false
+clear_for (Some n) = n == 1
 
 unfoldable pub background_for : Palette → Given → List ℕ
 unfolding clear_for
@@ -81,7 +72,7 @@ session_for l stride size o p life =
 
 -- by whether it may open
 unfoldable pub opening_for : Bool → Opening
-opening_for may = cond may openings.Ready (openings.Refused refusals.Opening)
+opening_for may = cond may (Ok tt) (Err refusals.Opening)
 
 unfoldable pub first_life : Bool → Life
 first_life may = cond may lives.Live lives.Failed
@@ -98,8 +89,8 @@ unfoldable pub opened_on : Limits → ℕ → Settings → Palette → List ℕ 
 unfolding session_for
 opened_on l stride o p canvas =
     cond (openable l stride (length canvas))
-    (record { answer = openings.Ready; session = session_for l stride (length canvas) o p lives.Live }, painted (span 0 1) (background_for p o.p2) canvas)
-    (record { answer = openings.Refused refusals.Opening; session = session_for l stride (length canvas) o p lives.Failed }, canvas)
+    (record { answer = Ok tt; session = session_for l stride (length canvas) o p lives.Live }, painted (span 0 1) (background_for p o.p2) canvas)
+    (record { answer = Err refusals.Opening; session = session_for l stride (length canvas) o p lives.Failed }, canvas)
 
 -- with its owner's palette, of which it has a copy: colours and marks
 unfoldable pub opened_by : Limits → ℕ → Settings → Palette → List ℕ → Opened × List ℕ
@@ -115,10 +106,10 @@ session_with s life f p =
 
 -- what reading came to, as an answer
 unfoldable pub answer_of : Outcome → ℕ → ℕ → Answer
-answer_of outcomes.Read n i = answers.More n i
-answer_of outcomes.Stopped n i = answers.Stopped n i
-answer_of (outcomes.Ended b) n i = answers.Ended n i b
-answer_of (outcomes.Refused r) n i = answers.Refused r
+answer_of outcomes.Read n i = Ok (answers.More n i)
+answer_of outcomes.Stopped n i = Ok (answers.Stopped n i)
+answer_of (outcomes.Ended b) n i = Ok (answers.Ended n i b)
+answer_of (outcomes.Refused r) n i = Err r
 
 -- the session's life then: a refusal fails it
 unfoldable pub life_after : Outcome → Life
@@ -148,14 +139,14 @@ fed_live s canvas bytes allowance =
 unfoldable pub fed_in : Life → Session → List ℕ → List ℕ → ℕ → Fed × List ℕ
 unfolding fed_live
 fed_in lives.Live s canvas bytes allowance = fed_live s canvas bytes allowance
-fed_in (lives.Ended b) s canvas bytes allowance = (record { answer = answers.Ended 0 0 b; session = s }, canvas)
+fed_in (lives.Ended b) s canvas bytes allowance = (record { answer = Ok (answers.Ended 0 0 b); session = s }, canvas)
 fed_in lives.Failed s canvas bytes allowance = fed_live s canvas bytes allowance
 
 -- 9, 12, 13 leave all as it is
 unfoldable pub fed_as : Verdict → Session → List ℕ → List ℕ → ℕ → Fed × List ℕ
 unfolding fed_in
-fed_as verdicts.Fine s canvas bytes allowance = fed_in s.life s canvas bytes allowance
-fed_as (verdicts.Refused n) s canvas bytes allowance = (record { answer = answers.Refused n; session = s }, canvas)
+fed_as (Ok tt) s canvas bytes allowance = fed_in s.life s canvas bytes allowance
+fed_as (Err n) s canvas bytes allowance = (record { answer = Err n; session = s }, canvas)
 
 unfoldable pub fed_by : Session → List ℕ → List ℕ → ℕ → Fed × List ℕ
 unfolding fed_as
@@ -214,13 +205,13 @@ unfolding carried_out_in
 carried_out f g p canvas = carried_out_in f.command.kind f g p canvas
 
 unfoldable pub turned_away : Palette → Refusal → List ℕ → Finished × List ℕ
-turned_away owner n canvas = (record { answer = finishes.Refused n; palette = owner }, canvas)
+turned_away owner n canvas = (record { answer = Err n; palette = owner }, canvas)
 
 -- the picture: the area that the pending command grew gets the background, and the palette's colours and marks are the owner's from now on
 unfoldable pub pictured : Session → Frame → Palette → List ℕ → Finished × List ℕ
 unfolding reported_as
 pictured s last p canvas = (
-  record { answer = finishes.Picture (reported_as last s.settings (defined_count p)); palette = lasting p },
+  record { answer = Ok (reported_as last s.settings (defined_count p)); palette = lasting p },
   area_grown s.frame s.ground last.area.width last.area.height canvas,
 )
 
@@ -240,8 +231,8 @@ finished_live s owner canvas =
 
 unfoldable pub finished_as : Verdict → Session → Palette → List ℕ → Finished × List ℕ
 unfolding finished_live turned_away
-finished_as verdicts.Fine s owner canvas = finished_live s owner canvas
-finished_as (verdicts.Refused n) s owner canvas = turned_away owner n canvas
+finished_as (Ok tt) s owner canvas = finished_live s owner canvas
+finished_as (Err n) s owner canvas = turned_away owner n canvas
 
 -- 9, 12, the pending command's refusal
 unfoldable pub finished_by : Session → Palette → List ℕ → Finished × List ℕ

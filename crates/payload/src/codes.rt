@@ -3,31 +3,27 @@ ghost use Rattle.std.specs.Prelude.{◌≡◌, ◌+◌, ◌*◌};
 ghost use Rattle.colours.specs.Packing.{packed};
 ghost use Rattle.payload.specs.Codes.{given_number, given_from, life_number, life_from, kind_number, kind_from, color_number, color_from};
 
-use crate::{Given, Life};
+use crate::Life;
 use colours::pack_rgb;
 use frame::Kind;
 
 // No number of 16 bits: a parameter that is missing.
 const MISSING: u64 = 65_536;
 
-pub fn given_number(given: Given) -> u64
+#[tactic(auto, unfolding(crate::specs::Codes::given_number))]
+pub fn given_number(given: Option<u16>) -> u64
     ensures { result ≡ given_number given }
 {
-    match given {
-        Given::Nothing => MISSING,
-        Given::Number(n) => n as u64,
-    }
+    given.map_or(MISSING, u64::from)
 }
 
-pub fn given_from(number: u64) -> Given
+pub fn given_from(number: u64) -> Option<u16>
     ensures { result ≡ given_from number }
 {
-    if number < MISSING {
-        return Given::Number(number as u16);
-    }
-    Given::Nothing
+    u16::try_from(number).ok()
 }
 
+// Kept: numbers for lives and kinds, since the session lies in a C caller's memory (`owlgantry_raw_payload_feed`).
 pub fn life_number(life: Life) -> u64
     ensures { result ≡ life_number life }
 {

@@ -27,20 +27,14 @@ pub fn start(setup: Setup, settings: Settings, colors: &[u32; 256], canvas: &mut
     ensures { (life : Life) (f : Frame) → begun_over result life (of_table colors.now) canvas.new
         ≡ begun_by (over setup life f (of_table colors.now)) settings canvas.old }
 {
-    let old = setup.ground;
-    let limits = old.limits;
-    let p2 = settings.p2;
-    let background = background_for(colors, p2);
-    let ground = Ground {
-        limits,
-        stride: old.stride,
-        rows: old.rows,
-        background,
-    };
+    let background = background_for(colors, settings.p2);
     paint_if(4 <= canvas.len(), canvas, background);
     Setup {
-        ground,
-        length: setup.length,
+        ground: Ground {
+            background,
+            ..setup.ground
+        },
         settings,
+        ..setup
     }
 }

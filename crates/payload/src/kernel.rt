@@ -22,12 +22,10 @@ pub struct Setup {
 pub fn setup_of(session: Session) -> Setup
     ensures { result ≡ setup_of session }
 {
-    let ground = session.ground;
-    let settings = session.settings;
     Setup {
-        ground,
+        ground: session.ground,
         length: session.length,
-        settings,
+        settings: session.settings,
     }
 }
 
@@ -53,12 +51,10 @@ pub fn palette_of(session: Session) -> Palette
 pub fn session_of(setup: Setup, life: Life, frame: Frame, palette: Palette) -> Session
     ensures { result ≡ over setup life frame palette }
 {
-    let ground = setup.ground;
-    let settings = setup.settings;
     Session {
-        ground,
+        ground: setup.ground,
         length: setup.length,
-        settings,
+        settings: setup.settings,
         life,
         frame,
         palette,

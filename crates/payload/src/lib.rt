@@ -21,18 +21,12 @@ use crate::kernel::{frame_of, life_of, palette_of, session_of, setup_of};
 use colours::Palette;
 use frame::{Frame, Ground, Limits, Refusal};
 
-// A parameter of a DCS header: a 16-bit number, or none.
-#[derive(Clone, Copy)]
-pub enum Given {
-    Nothing,
-    Number(u16),
-}
-
-// P1, to which the ratio is left where no raster says it, and P2, which says whether the background is transparent.
+// Two parameters of a DCS header, each a 16-bit number or none: P1, to which the ratio is left where no raster says it, and P2, which
+// says whether the background is transparent.
 #[derive(Clone, Copy)]
 pub struct Settings {
-    pub p1: Given,
-    pub p2: Given,
+    pub p1: Option<u16>,
+    pub p2: Option<u16>,
 }
 
 #[derive(Clone, Copy)]
@@ -52,49 +46,33 @@ pub struct Session {
     palette: Palette,
 }
 
-#[derive(Clone, Copy)]
-pub enum Opening {
-    Ready,
-    Refused(Refusal),
-}
-
 // An opening's answer and the session, which is a failed one where the opening is refused.
 #[derive(Clone, Copy)]
-pub struct Opened {
-    pub answer: Opening,
-    pub session: Session,
+pub struct Opened<S> {
+    pub answer: Result<(), Refusal>,
+    pub session: S,
 }
 
-// Bytes consumed and ink of one call, or its refusal.
+// Bytes consumed and ink of one call, and what ended the session where it is at its end.
 #[derive(Clone, Copy)]
-pub enum Answer {
-    More {
-        consumed: usize,
-        ink: usize,
-    },
-    Stopped {
-        consumed: usize,
-        ink: usize,
-    },
-    Ended {
-        consumed: usize,
-        ink: usize,
-        byte: u8,
-    },
-    Refused(Refusal),
+pub enum Answer<E> {
+    More { consumed: usize, ink: usize },
+    Stopped { consumed: usize, ink: usize },
+    Ended { consumed: usize, ink: usize, end: E },
 }
 
+// A feed's answer and the session after it.
 #[derive(Clone, Copy)]
-pub struct Fed {
-    pub answer: Answer,
-    pub session: Session,
+pub struct Fed<S, E> {
+    pub answer: Result<Answer<E>, Refusal>,
+    pub session: S,
 }
 
 // `Raster(n)` is n : 1.
 #[derive(Clone, Copy)]
 pub enum Ratio {
     Raster(u8),
-    LeftToP1(Given),
+    LeftToP1(Option<u16>),
 }
 
 #[derive(Clone, Copy)]
@@ -114,16 +92,10 @@ pub struct Report {
     pub held: u64,
 }
 
-#[derive(Clone, Copy)]
-pub enum Finishing {
-    Picture(Report),
-    Refused(Refusal),
-}
-
 // A finish's answer, and the owner's palette after it.
 #[derive(Clone, Copy)]
 pub struct Finished {
-    pub answer: Finishing,
+    pub answer: Result<Report, Refusal>,
     pub palette: Palette,
 }
 
@@ -131,10 +103,7 @@ pub struct Finished {
 pub fn no_settings() -> Settings
     ensures { result ≡ no_settings }
 {
-    Settings {
-        p1: Given::Nothing,
-        p2: Given::Nothing,
-    }
+    Settings { p1: None, p2: None }
 }
 
 // The house's limits.
@@ -168,22 +137,20 @@ pub fn open(
     settings: Settings,
     palette: Palette,
     canvas: &mut [u8],
-) -> Opened
+) -> Opened<Session>
     ensures { (result, canvas.new) ≡ opened_by limits stride settings palette canvas.old }
 {
     let own = palette.lasting();
     let colors = own.table();
     let opened = kernel::opening::open(limits, stride, settings, &colors, canvas);
-    let answer = opened.answer;
-    let life = opened.life;
     Opened {
-        answer,
-        session: session_of(opened.setup, life, opened.frame, own),
+        answer: opened.answer,
+        session: session_of(opened.setup, opened.life, opened.frame, own),
     }
 }
 
 // Reads bytes, painting on the canvas, until all are read, the payload ends, or a sixel's ink exceeds the allowance.
-pub fn feed(session: Session, canvas: &mut [u8], bytes: &[u8], allowance: usize) -> Fed
+pub fn feed(session: Session, canvas: &mut [u8], bytes: &[u8], allowance: usize) -> Fed<Session, u8>
     ensures { (result, canvas.new) ≡ fed_by session canvas.old bytes.now allowance }
 {
     let palette = palette_of(session);
@@ -199,27 +166,25 @@ pub fn feed(session: Session, canvas: &mut [u8], bytes: &[u8], allowance: usize)
         bytes,
         allowance,
     );
-    let answer = fed.answer;
-    let after = fed.life;
     Fed {
-        answer,
-        session: session_of(setup, after, fed.frame, Palette::of_table(colors)),
+        answer: fed.answer,
+        session: session_of(setup, fed.life, fed.frame, Palette::of_table(colors)),
     }
 }
 
 // A finish's answer, and the palette that is the owner's after it: the session's where there is a picture.
-pub fn hand_back(answer: Finishing, owner: Palette, after: Palette) -> Finished
+pub fn hand_back(answer: Result<Report, Refusal>, owner: Palette, after: Palette) -> Finished
     ensures { result ≡ handed_back answer owner after }
 {
-    if let Finishing::Refused(refusal) = answer {
-        return Finished {
-            answer: Finishing::Refused(refusal),
+    match answer {
+        Ok(_) => Finished {
+            answer,
+            palette: after,
+        },
+        Err(_) => Finished {
+            answer,
             palette: owner,
-        };
-    }
-    Finished {
-        answer,
-        palette: after,
+        },
     }
 }
 

@@ -113,14 +113,9 @@ pub fn numbers_of(setup: Setup, life: Life, frame: Frame) -> [u64; 48]
     ensures { (p : Palette) → result ≡ numbers_of (over setup life frame p) }
 {
     let ground = setup.ground;
-    let background = ground.background;
     let settings = setup.settings;
-    let p1 = settings.p1;
-    let p2 = settings.p2;
     let pen = frame.pen;
-    let color = pen.color;
     let command = frame.command;
-    let kind = command.kind;
     let values = parameters_numbers(command.parameters);
     [
         ground.limits.width as u64,
@@ -129,16 +124,16 @@ pub fn numbers_of(setup: Setup, life: Life, frame: Frame) -> [u64; 48]
         ground.limits.pixels as u64,
         ground.stride as u64,
         ground.rows as u64,
-        color_number(background),
+        color_number(ground.background),
         setup.length as u64,
-        given_number(p1),
-        given_number(p2),
+        given_number(settings.p1),
+        given_number(settings.p2),
         life_number(life),
         pen.column as u64,
         pen.row as u64,
         pen.repeat as u64,
         pen.register as u64,
-        color_number(color),
+        color_number(pen.color),
         frame.area.width as u64,
         frame.area.height as u64,
         frame.extent.right as u64,
@@ -146,7 +141,7 @@ pub fn numbers_of(setup: Setup, life: Life, frame: Frame) -> [u64; 48]
         frame.raster.ratio as u64,
         frame.raster.width as u64,
         frame.raster.height as u64,
-        kind_number(kind),
+        kind_number(command.kind),
         command.number,
         values[0],
         values[1],

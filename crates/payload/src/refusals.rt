@@ -8,92 +8,65 @@ use crate::Life;
 use crate::kernel::Setup;
 use frame::{Frame, Limits, Refusal};
 
-#[derive(Clone, Copy)]
-pub enum Verdict {
-    Fine,
-    Refused(Refusal),
-}
-
 const WIDEST: usize = 1_000_000;
 
 const MOST: usize = 1_000_000_000_000;
 
 // 1 to `most`.
+#[tactic(auto, unfolding(crate::specs::Refusals::in_range))]
 fn in_range(n: usize, most: usize) -> bool
     ensures { result ≡ in_range n most }
 {
-    if n < 1 {
-        return false;
-    }
-    n <= most
+    1 <= n && n <= most
 }
 
+#[tactic(auto, unfolding(crate::specs::Refusals::limits_fit))]
 fn limits_hold(limits: Limits) -> bool
     ensures { result ≡ limits_fit limits }
 {
-    if !in_range(limits.width, WIDEST) {
-        return false;
-    }
-    if !in_range(limits.height, WIDEST) {
-        return false;
-    }
-    if !in_range(limits.repeats, MOST) {
-        return false;
-    }
-    in_range(limits.pixels, MOST)
+    in_range(limits.width, WIDEST)
+        && in_range(limits.height, WIDEST)
+        && in_range(limits.repeats, MOST)
+        && in_range(limits.pixels, MOST)
 }
 
+#[tactic(auto, unfolding(crate::specs::Refusals::openable))]
 pub fn may_open(limits: Limits, stride: usize, length: usize) -> bool
     ensures { result ≡ openable limits stride length }
 {
-    if !limits_hold(limits) {
-        return false;
-    }
-    if !in_range(stride, WIDEST) {
-        return false;
-    }
-    1 <= canvas::rows(length, stride)
+    limits_hold(limits) && in_range(stride, WIDEST) && 1 <= canvas::rows(length, stride)
 }
 
 // Another length than at the opening, or a picture that does not fit.
+#[tactic(auto, unfolding(crate::specs::Refusals::misfitting, crate::specs::Refusals::fitting))]
 fn misfits(setup: Setup, life: Life, frame: Frame, length: usize) -> bool
     ensures { (p : Palette) → result ≡ misfitting (over setup life frame p) length }
 {
     let ground = setup.ground;
     let area = frame.area;
-    if length != setup.length {
-        return true;
-    }
-    if ground.rows != canvas::rows(length, ground.stride) {
-        return true;
-    }
-    if ground.stride < area.width {
-        return true;
-    }
-    ground.rows < area.height
+    length != setup.length
+        || ground.rows != canvas::rows(length, ground.stride)
+        || ground.stride < area.width
+        || ground.rows < area.height
 }
 
-fn has_failed(life: Life) -> bool
+pub fn has_failed(life: Life) -> bool
     ensures { result ≡ is_failed life }
 {
-    match life {
-        Life::Live => false,
-        Life::Ended(_) => false,
-        Life::Failed => true,
-    }
+    matches!(life, Life::Failed)
 }
 
 // 9, 12.
-pub fn finish_refusal(setup: Setup, life: Life, frame: Frame, length: usize) -> Verdict
+pub fn finish_refusal(setup: Setup, life: Life, frame: Frame, length: usize) -> Result<(), Refusal>
     ensures { (p : Palette) → result ≡ finish_judged (over setup life frame p) length }
 {
     if has_failed(life) {
-        return Verdict::Refused(Refusal::Failed);
+        return Err(Refusal::Failed);
     }
     if misfits(setup, life, frame, length) {
-        return Verdict::Refused(Refusal::Canvas);
+        return Err(Refusal::Canvas);
     }
-    Verdict::Fine
+    Ok(())
 }
 
 // 9, 12, 13. An allowance below 6W is found by division, since 6W could overflow in a damaged session.
@@ -103,15 +76,12 @@ pub fn feed_refusal(
     frame: Frame,
     length: usize,
     allowance: usize,
-) -> Verdict
+) -> Result<(), Refusal>
     ensures { (p : Palette) → result ≡ feed_judged (over setup life frame p) length allowance }
 {
-    let verdict = finish_refusal(setup, life, frame, length);
-    if let Verdict::Refused(refusal) = verdict {
-        return Verdict::Refused(refusal);
-    }
+    finish_refusal(setup, life, frame, length)?;
     if allowance / 6 < setup.ground.limits.width {
-        return Verdict::Refused(Refusal::Allowance);
+        return Err(Refusal::Allowance);
     }
-    Verdict::Fine
+    Ok(())
 }

@@ -1,4 +1,5 @@
 -- Turns of a caller that are added at the end, and what a call's answer makes of a reader.
+use Rattle.std.specs.Prelude.{Ok, Err}
 use Prim.Native.Nat.{ℕ, ◌+◌, ◌<◌}
 use native.Mathlib.Omega.{arith}
 use mathlib.Core.List.{List, [], ◌∷◌, ◌++◌, append_assoc}
@@ -6,8 +7,8 @@ use mathlib.Core.Path.{◌≡◌, refl, sym, ap, ◌∙◌}
 use lib.ListN.{length}
 use Rattle.meaning.specs.Callers.{how_told, consumed_told, ink_told}
 use Rattle.meaning.specs.Reader.{Step, stopped, Turn, fresh, again, piece_of, stream, pieces, Caller, turn, turns}
-use Rattle.dcs.specs.declared.Answer.{Answer}
-use Rattle.dcs.specs.declared.Answer.TheVariants as answers
+use Rattle.dcs.specs.Results.{Answer}
+use Rattle.payload.specs.declared.Answer.TheVariants as answers
 use Rattle.dcs.specs.declared.Ending.{Ending}
 use Rattle.dcs.specs.declared.Session.{Session}
 use Rattle.dcs.specs.Meant.{answer_meant}
@@ -56,40 +57,40 @@ held-sum n m k e = omega arith
 
 -- where it stands then
 unfoldable pub stood_at : Answer → Standing
-stood_at (answers.More c i) = standings.Reading
-stood_at (answers.Stopped c i) = standings.Reading
-stood_at (answers.Ended c i e) = standings.Ended e
-stood_at (answers.Refused n) = standings.Refused n
+stood_at (Ok (answers.More c i)) = standings.Reading
+stood_at (Ok (answers.Stopped c i)) = standings.Reading
+stood_at (Ok (answers.Ended c i e)) = standings.Ended e
+stood_at (Err n) = standings.Refused n
 
 pub answered-reader : (a : Answer) (s : Session) (r : Reader)
     → (called_as a s r).reader ≡ after_call r s (stood_at a) (consumed_told (answer_meant a)) (ink_told (answer_meant a))
 unfolding called_as stood_at consumed_told ink_told answer_meant
-answered-reader (answers.More c i) s r = refl
-answered-reader (answers.Stopped c i) s r = refl
-answered-reader (answers.Ended c i e) s r = refl
-answered-reader (answers.Refused n) s r = refl
+answered-reader (Ok (answers.More c i)) s r = refl
+answered-reader (Ok (answers.Stopped c i)) s r = refl
+answered-reader (Ok (answers.Ended c i e)) s r = refl
+answered-reader (Err n) s r = refl
 
 -- a call that is a piece's last says how it came to its end; any other is a stop, after which the rest is unread
 pub last-how : (a : Answer) (s : Session) (r : Reader) → (called_as a s r).stopped ≡ 0
     → (how_told (answer_meant a) ≡ stopped → 0 < consumed_told (answer_meant a))
     → how_told (answer_meant a) ≡ how_stood (stood_at a)
 unfolding called_as stood_at how_told consumed_told answer_meant how_stood
-last-how (answers.More c i) s r e pos = refl
-last-how (answers.Stopped c i) s r e pos = let more : 0 < c = pos refl in absurd (omega arith)
-last-how (answers.Ended c i d) s r e pos = refl
-last-how (answers.Refused n) s r e pos = refl
+last-how (Ok (answers.More c i)) s r e pos = refl
+last-how (Ok (answers.Stopped c i)) s r e pos = let more : 0 < c = pos refl in absurd (omega arith)
+last-how (Ok (answers.Ended c i d)) s r e pos = refl
+last-how (Err n) s r e pos = refl
 
 pub stop-how : (a : Answer) (s : Session) (r : Reader) → ((called_as a s r).stopped ≡ 0 → ⊥)
     → (how_told (answer_meant a) ≡ stopped) × (consumed_told (answer_meant a) ≡ (called_as a s r).stopped)
 unfolding called_as how_told consumed_told answer_meant
-stop-how (answers.More c i) s r e = absurd (e refl)
-stop-how (answers.Stopped c i) s r e = (refl, refl)
-stop-how (answers.Ended c i d) s r e = absurd (e refl)
-stop-how (answers.Refused n) s r e = absurd (e refl)
+stop-how (Ok (answers.More c i)) s r e = absurd (e refl)
+stop-how (Ok (answers.Stopped c i)) s r e = (refl, refl)
+stop-how (Ok (answers.Ended c i d)) s r e = absurd (e refl)
+stop-how (Err n) s r e = absurd (e refl)
 
-pub ended-answer : (a : Answer) {e : Ending} → stood_at a ≡ standings.Ended e → (n : ℕ) × (i : ℕ) × (a ≡ answers.Ended n i e)
+pub ended-answer : (a : Answer) {e : Ending} → stood_at a ≡ standings.Ended e → (n : ℕ) × (i : ℕ) × (a ≡ Ok (answers.Ended n i e))
 unfolding stood_at
-ended-answer (answers.More c i) h = absurd (let never : ◌≡◌ {A = ℕ} 0 1 = cc in omega arith)
-ended-answer (answers.Stopped c i) h = absurd (let never : ◌≡◌ {A = ℕ} 0 1 = cc in omega arith)
-ended-answer (answers.Ended c i d) {e} h = let same : d ≡ e = cc in (c, i, ap (answers.Ended c i) same)
-ended-answer (answers.Refused n) h = absurd (let never : ◌≡◌ {A = ℕ} 0 1 = cc in omega arith)
+ended-answer (Ok (answers.More c i)) h = absurd (let never : ◌≡◌ {A = ℕ} 0 1 = cc in omega arith)
+ended-answer (Ok (answers.Stopped c i)) h = absurd (let never : ◌≡◌ {A = ℕ} 0 1 = cc in omega arith)
+ended-answer (Ok (answers.Ended c i d)) {e} h = let same : d ≡ e = cc in (c, i, ap (λ (x : Ending). Ok (answers.Ended c i x)) same)
+ended-answer (Err n) h = absurd (let never : ◌≡◌ {A = ℕ} 0 1 = cc in omega arith)

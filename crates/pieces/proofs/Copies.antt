@@ -1,4 +1,5 @@
 -- A finish that reports leaves its picture on the canvas, and a copy of it has the picture's rows.
+use Rattle.std.specs.Prelude.{Ok, Err}
 use Prim.Native.Nat.{ℕ, ◌≤◌}
 use native.Mathlib.Omega.{arith}
 use mathlib.Core.Option.{Option, none, some}
@@ -21,7 +22,6 @@ use Rattle.meaning.specs.Payload as meant
 use Rattle.meaning.specs.Sizes.{Roomy, Fits, ReportFits}
 use Rattle.meaning.proofs.SizeHistories.{one-shot-reported}
 use Rattle.payload.specs.declared.Finished.{Finished}
-use Rattle.payload.specs.declared.Finishing.TheVariants as finishes
 use Rattle.payload.specs.declared.Report.{Report}
 use Rattle.payload.specs.History.{Finishes, pictures, declines}
 use Rattle.payload.specs.Meant.{report_meant}
@@ -30,7 +30,7 @@ use Rattle.payload.specs.Meant.{report_meant}
 pub record Declined (lent : List ℕ) (owner : Palette) (number : ℕ) (y : Finished × List ℕ) : Type 0 where
   pub refusal : Refusal
   pub numbered : number_of refusal ≡ number
-  pub answers : y ≡ (record { answer = finishes.Refused refusal; palette = owner }, lent)
+  pub answers : y ≡ (record { answer = Err refusal; palette = owner }, lent)
 
 pub declined : {picture lent : List ℕ} {owner : Palette} {y : Finished × List ℕ} {number : ℕ}
     → Finishes picture owner lent y (meant.turned_down number)
@@ -41,7 +41,7 @@ declined (declines n) = record { refusal = n; numbered = refl; answers = refl }
 pub record Reported (picture : List ℕ) (y : Finished × List ℕ) (z : meant.Finished) : Type 0 where
   pub report : Report
   pub palette : Palette
-  pub answers : y ≡ (record { answer = finishes.Picture report; palette = palette }, picture)
+  pub answers : y ≡ (record { answer = Ok report; palette = palette }, picture)
   pub means : z ≡ meant.finished (report_meant report palette)
 
 -- so is every finish where the definition reports

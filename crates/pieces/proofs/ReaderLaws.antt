@@ -1,4 +1,5 @@
 -- Laws of opening a reader, of one call and of the finish: one for each path through a function.
+use Rattle.std.specs.Prelude.{Ok, Err}
 use Prim.Native.Nat.{ℕ, ◌*◌, ◌≤◌}
 use mathlib.Core.Bool.{true}
 use mathlib.Core.List.{List, [], ◌∷◌}
@@ -11,18 +12,12 @@ use Rattle.frame.specs.declared.Refusal.{Refusal}
 use Rattle.meaning.specs.Calls.{setting_for}
 use Rattle.agreement.proofs.Finish.{opens-bounded}
 use Rattle.payload.specs.declared.Finished.{Finished}
-use Rattle.payload.specs.declared.Finishing.TheVariants as finishes
-use Rattle.payload.specs.declared.Opening.{Opening}
-use Rattle.payload.specs.declared.Opening.TheVariants as openings
+use Rattle.payload.specs.Results.{Opening}
 use Rattle.payload.specs.Meant.{limits_meant}
 use Rattle.payload.specs.Refusals.{openable}
 use Rattle.payload.specs.Session.{turned_away}
 use Rattle.payload.proofs.Openings.{opens-meant}
-use Rattle.dcs.specs.declared.Answer.{Answer}
-use Rattle.dcs.specs.declared.Answer.TheVariants as answers
-use Rattle.dcs.specs.declared.Ending.{Ending}
-use Rattle.dcs.specs.declared.Fed.{Fed}
-use Rattle.dcs.specs.declared.Opened.{Opened}
+use Rattle.dcs.specs.Results.{Fed, Opened}
 use Rattle.dcs.specs.declared.Session.{Session}
 use Rattle.dcs.specs.Session as dcs
 use Rattle.dcs.proofs.Openings.{open-ready}
@@ -32,16 +27,10 @@ use Rattle.pieces.specs.declared.Reader.{Reader}
 use Rattle.pieces.specs.declared.Standing.{Standing}
 use Rattle.pieces.specs.declared.Standing.TheVariants as standings
 use Rattle.pieces.specs.declared.Told.{Told}
-use Rattle.pieces.specs.Pieces.{began_as, opened_as, opened_by, held_sum, counted_as, after_call, told_by, called_as, called_by, finished_as, finished_by}
+use Rattle.pieces.specs.Pieces.{began_as, opened_as, opened_by, counted_as, after_call, told_by, called_as, called_by, finished_as, finished_by}
 use Rattle.pieces.specs.contracts.Standing as StandingType
 
 -- ---- counts
-
-pub counted-as : {x y z : ℕ} (c : Counts) (consumed ink : ℕ)
-    → x ≡ held_sum c.consumed consumed → y ≡ held_sum c.ink ink → z ≡ held_sum c.calls 1
-    → ◌≡◌ {A = Counts} (record { consumed = x; ink = y; calls = z }) (counted_as c consumed ink)
-unfolding counted_as
-counted-as c consumed ink x y z = rw (x, y, z) refl
 
 pub after-as : {k : Counts} (r : Reader) (s : Session) (t : Standing) (consumed ink : ℕ) → k ≡ counted_as r.counts consumed ink
     → ◌≡◌ {A = Reader} (record { session = s; standing = t; allowance = r.allowance; counts = k }) (after_call r s t consumed ink)
@@ -62,7 +51,7 @@ unfolding limits_meant setting_for
 openable-width l stride size e = (opens-bounded (limits_meant l) stride size (sym (opens-meant l stride size) ∙ e)).width
 
 module _ {o : Opened} (l : Limits) (stride : ℕ) (p : Palette) (size : ℕ) (e : o ≡ dcs.opened_by l stride p size) where
-  pub ready-width : o.answer ≡ openings.Ready → l.width ≤ 1000000
+  pub ready-width : o.answer ≡ Ok tt → l.width ≤ 1000000
   ready-width k = openable-width l stride size ((open-ready l stride p size).0 (sym (ap (λ (x : Opened). x.answer) e) ∙ k))
 
   opens_as : {a : Opening} {r : Reader} → o.answer ≡ a → r ≡ opened_as a o.session l.width → r ≡ opened_by l stride p size
@@ -73,44 +62,18 @@ module _ {o : Opened} (l : Limits) (stride : ℕ) (p : Palette) (size : ℕ) (e 
       ∙ ap (λ (x : Opened). opened_as x.answer x.session l.width) e
 
   pub opens-ready : {r : Reader}
-      → o.answer ≡ openings.Ready → r ≡ began_as o.session standings.Reading (6 * l.width) → r ≡ opened_by l stride p size
+      → o.answer ≡ Ok tt → r ≡ began_as o.session standings.Reading (6 * l.width) → r ≡ opened_by l stride p size
   unfolding opened_as
   opens-ready k h = opens_as k h
 
   pub opens-refused : {n : Refusal} {r : Reader}
-      → o.answer ≡ openings.Refused n → r ≡ began_as o.session (standings.Refused n) 0 → r ≡ opened_by l stride p size
+      → o.answer ≡ Err n → r ≡ began_as o.session (standings.Refused n) 0 → r ≡ opened_by l stride p size
   unfolding opened_as
   opens-refused k h = opens_as k h
 
 pub ruleset openings-laws = (opens-ready, opens-refused)
 
 -- ---- one call
-
--- what a standing and three counts are told as
-abbrev telling : Standing → ℕ → ℕ → ℕ → Told
-telling s consumed ink stopped = record { standing = s; consumed = consumed; ink = ink; stopped = stopped }
-
-module _ (a : Answer) {t : Told} where
-  tells_as : {b : Answer} → a ≡ b → t ≡ told_by b → t ≡ told_by a
-  tells_as k h = h ∙ ap told_by (sym k)
-
-  pub tells_more : {n i : ℕ} → a ≡ answers.More n i → t ≡ telling standings.Reading n i 0 → t ≡ told_by a
-  unfolding told_by
-  tells_more k h = tells_as k h
-
-  pub tells-stopped : {n i : ℕ} → a ≡ answers.Stopped n i → t ≡ telling standings.Reading n i n → t ≡ told_by a
-  unfolding told_by
-  tells-stopped k h = tells_as k h
-
-  pub tells-ended : {n i : ℕ} {d : Ending} → a ≡ answers.Ended n i d → t ≡ telling (standings.Ended d) n i 0 → t ≡ told_by a
-  unfolding told_by
-  tells-ended k h = tells_as k h
-
-  pub tells-refused : {n : Refusal} → a ≡ answers.Refused n → t ≡ telling (standings.Refused n) 0 0 0 → t ≡ told_by a
-  unfolding told_by
-  tells-refused k h = tells_as k h
-
-pub ruleset tells-laws = (tells_more, tells-stopped, tells-ended, tells-refused)
 
 pub calls : (r : Reader) (canvas bytes : List ℕ) {f : Fed} {after : List ℕ} {t : Told} {k : Reader}
     → (f, after) ≡ dcs.fed_by r.session canvas bytes r.allowance
@@ -135,7 +98,7 @@ not-refused r owner canvas (standings.Refused n) h = absurd (miss (0 ∷ 1 ∷ [
 
 module _ (r : Reader) (owner : Palette) (canvas : List ℕ) where
   pub finish-refused : {n : Refusal} → r.standing ≡ standings.Refused n
-      → ◌≡◌ {A = Finished × List ℕ} (record { answer = finishes.Refused n; palette = owner }, canvas) (finished_by r owner canvas)
+      → ◌≡◌ {A = Finished × List ℕ} (record { answer = Err n; palette = owner }, canvas) (finished_by r owner canvas)
   unfolding finished_by finished_as turned_away
   finish-refused e = ap (λ (t : Standing). finished_as t r owner canvas) (sym e)
 

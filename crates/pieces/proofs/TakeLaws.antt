@@ -1,4 +1,5 @@
 -- Laws of the loop over a piece, which calls again after each stop.
+use Rattle.std.specs.Prelude.{Ok, Err}
 use Prim.Native.Nat.{ℕ, zero, suc, ◌+◌, ◌-◌, ◌≤◌, ◌<◌}
 use mathlib.Core.Bool.{Bool, true, false}
 use mathlib.Core.List.{List, [], ◌∷◌}
@@ -11,9 +12,8 @@ use lib.ListN.{length, take, drop, length-drop}
 use lib.Seq.{drop-drop, take_all}
 use types.Run.{OneOf, miss}
 use Rattle.numbers.proofs.Laws.{cond_yes, cond_no}
-use Rattle.dcs.specs.declared.Answer.{Answer}
-use Rattle.dcs.specs.declared.Answer.TheVariants as answers
-use Rattle.dcs.specs.declared.Fed.{Fed}
+use Rattle.dcs.specs.Results.{Answer, Fed}
+use Rattle.payload.specs.declared.Answer.TheVariants as answers
 use Rattle.dcs.specs.declared.Session.{Session}
 use Rattle.dcs.specs.Session as dcs
 use Rattle.dcs.proofs.Counts.{Within, feed-within}
@@ -29,10 +29,10 @@ use Rattle.pieces.specs.contracts.Standing as StandingType
 
 stopped-within : (m : ℕ) (a : Answer) (s : Session) (r : Reader) → Within m a → (called_as a s r).stopped ≤ m
 unfolding called_as
-stopped-within m (answers.More c i) s r h = omega arith
-stopped-within m (answers.Stopped c i) s r h = h
-stopped-within m (answers.Ended c i e) s r h = omega arith
-stopped-within m (answers.Refused n) s r h = omega arith
+stopped-within m (Ok (answers.More c i)) s r h = omega arith
+stopped-within m (Ok (answers.Stopped c i)) s r h = h
+stopped-within m (Ok (answers.Ended c i e)) s r h = omega arith
+stopped-within m (Err n) s r h = omega arith
 
 -- a stop has consumed no more bytes than were presented
 pub call-within : (r : Reader) (canvas bytes : List ℕ) → (called_by r canvas bytes).0.stopped ≤ length bytes

@@ -11,7 +11,7 @@ use Rattle.frame.specs.declared.Limits.{Limits}
 use Rattle.frame.specs.declared.Refusal.TheVariants as refusals
 use Rattle.meaning.specs.Callers as callers
 use Rattle.meaning.specs.Reader.{read_all, Turn, fresh, piece_of, allowance_of, stream, pieces, may_call, ready}
-use Rattle.payload.specs.declared.Opening.{Opening}
+use Rattle.payload.specs.Results.{Opening}
 use Rattle.payload.specs.Refusals.{openable}
 use Rattle.payload.specs.Session.{turned_away}
 use Rattle.dcs.specs.Session as dcs

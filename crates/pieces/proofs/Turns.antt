@@ -20,9 +20,8 @@ use Rattle.meaning.specs.Sessions.{Phase, dcs_step, dcs_rested}
 use Rattle.meaning.proofs.ToldLaws.{calls-append, proper-append, proper-one}
 use Rattle.payload.specs.Meant.{setting_meant}
 use Rattle.payload.specs.Refusals.{openable}
-use Rattle.dcs.specs.declared.Answer.{Answer}
+use Rattle.dcs.specs.Results.{Answer, Fed}
 use Rattle.dcs.specs.declared.Ending.{Ending}
-use Rattle.dcs.specs.declared.Fed.{Fed}
 use Rattle.dcs.specs.declared.Session.{Session}
 use Rattle.dcs.specs.Session.{fed_by}
 use Rattle.dcs.specs.History.{Held, tell_held, calls_of, proper_calls}

@@ -1,16 +1,13 @@
 -- The whole outcome of each function over a reader that takes its stream in pieces: its answer, the reader, the palette and every byte of the
 -- canvas. What a single call does is said by the DCS session's definitions, which stay closed here.
-use Rattle.std.specs.Prelude.{ℕ, zero, suc, ◌+◌, ◌*◌, min, cond, List, eqb, length, drop}
+use Rattle.std.specs.Prelude.{ℕ, zero, suc, ◌+◌, ◌*◌, min, cond, List, eqb, length, drop, Ok, Err}
 use Rattle.colours.specs.declared.Palette.{Palette}
 use Rattle.frame.specs.declared.Limits.{Limits}
 use Rattle.payload.specs.declared.Finished.{Finished}
-use Rattle.payload.specs.declared.Opening.{Opening}
-use Rattle.payload.specs.declared.Opening.TheVariants as openings
+use Rattle.payload.specs.Results.{Opening}
 use Rattle.payload.specs.Session.{turned_away}
-use Rattle.dcs.specs.declared.Answer.{Answer}
-use Rattle.dcs.specs.declared.Answer.TheVariants as answers
-use Rattle.dcs.specs.declared.Fed.{Fed}
-use Rattle.dcs.specs.declared.Opened.{Opened}
+use Rattle.dcs.specs.Results.{Answer, Fed, Opened}
+use Rattle.payload.specs.declared.Answer.TheVariants as answers
 use Rattle.dcs.specs.declared.Session.{Session}
 use Rattle.dcs.specs.Session as dcs
 use Rattle.pieces.specs.declared.Called.{Called}
@@ -30,8 +27,8 @@ began_as s standing allowance =
 -- the smallest allowance is 6W; a refused opening reads nothing
 unfoldable pub opened_as : Opening → Session → ℕ → Reader
 unfolding began_as
-opened_as openings.Ready s w = began_as s standings.Reading (6 * w)
-opened_as (openings.Refused n) s w = began_as s (standings.Refused n) 0
+opened_as (Ok tt) s w = began_as s standings.Reading (6 * w)
+opened_as (Err n) s w = began_as s (standings.Refused n) 0
 
 -- a reader is opened as its session is
 unfoldable pub opened_by : Limits → ℕ → Palette → ℕ → Reader
@@ -63,10 +60,10 @@ after_call r s standing consumed ink =
 
 -- what an answer tells of its call; a refusal tells no counts
 unfoldable pub told_by : Answer → Told
-told_by (answers.More c i) = record { standing = standings.Reading; consumed = c; ink = i; stopped = 0 }
-told_by (answers.Stopped c i) = record { standing = standings.Reading; consumed = c; ink = i; stopped = c }
-told_by (answers.Ended c i e) = record { standing = standings.Ended e; consumed = c; ink = i; stopped = 0 }
-told_by (answers.Refused n) = record { standing = standings.Refused n; consumed = 0; ink = 0; stopped = 0 }
+told_by (Ok (answers.More c i)) = record { standing = standings.Reading; consumed = c; ink = i; stopped = 0 }
+told_by (Ok (answers.Stopped c i)) = record { standing = standings.Reading; consumed = c; ink = i; stopped = c }
+told_by (Ok (answers.Ended c i e)) = record { standing = standings.Ended e; consumed = c; ink = i; stopped = 0 }
+told_by (Err n) = record { standing = standings.Refused n; consumed = 0; ink = 0; stopped = 0 }
 
 -- what that makes of a reader
 unfoldable pub called_as : Answer → Session → Reader → Called

@@ -5,18 +5,16 @@
 ghost use Rattle.std.specs.Prelude.{◌≡◌};
 ghost use Rattle.canvas.specs.Picture.{area_of};
 ghost use Rattle.canvas.specs.Copy.{number_of, copied};
-ghost use Rattle.pieces.specs.Pieces.{held_sum, began_as, opened_by, counted_as, after_call, told_by, called_by, taken_in, taken_by, finished_by};
+ghost use Rattle.pieces.specs.Pieces.{began_as, opened_by, counted_as, after_call, told_by, called_by, taken_in, taken_by, finished_by};
 
-use canvas::{Copied, copy_picture};
+use canvas::{Uncopied, copy_picture};
 use colours::Palette;
-use dcs::{Answer, Ending, Session};
+use dcs::{Ending, Session};
 use frame::{Limits, Refusal};
-use payload::{Finished, Finishing, Opening, Report};
-
-// Where counts saturate.
-const MOST: usize = 18_446_744_073_709_551_615;
+use payload::{Answer, Finished, Report};
 
 // What a reader has come to: a sequence that goes on, its end, or a refusal.
+// Kept: a state of three, which a reader has for good; no call of a reader fails by it, and none could hand it on.
 #[derive(Clone, Copy)]
 pub enum Standing {
     Reading,
@@ -46,6 +44,7 @@ struct Told {
     standing: Standing,
     consumed: usize,
     ink: usize,
+    // Kept: a stop that consumed nothing ends the loop as an answer without a stop does, and one number says both (`taken_for`).
     stopped: usize,
 }
 
@@ -54,15 +53,6 @@ struct Told {
 struct Called {
     reader: Reader,
     stopped: usize,
-}
-
-fn add(count: usize, more: usize) -> usize
-    ensures { result ≡ held_sum count more }
-{
-    if MOST - count < more {
-        return MOST;
-    }
-    count + more
 }
 
 fn begin(session: Session, standing: Standing, allowance: usize) -> Reader
@@ -86,11 +76,10 @@ pub fn open(limits: Limits, stride: usize, palette: Palette, length: usize) -> R
     ensures { result ≡ opened_by limits stride palette length }
 {
     let opened = dcs::open(limits, stride, palette, length);
-    let answer = opened.answer;
     let session = opened.session;
-    match answer {
-        Opening::Ready => begin(session, Standing::Reading, 6 * limits.width),
-        Opening::Refused(refusal) => begin(session, Standing::Refused(refusal), 0),
+    match opened.answer {
+        Ok(()) => begin(session, Standing::Reading, 6 * limits.width),
+        Err(refusal) => begin(session, Standing::Refused(refusal), 0),
     }
 }
 
@@ -107,13 +96,14 @@ pub fn counts_of(reader: Reader) -> Counts
 }
 
 // The counts with one call more.
+#[tactic(auto, unfolding(crate::specs::Pieces::counted_as, crate::specs::Pieces::held_sum))]
 fn count(counts: Counts, consumed: usize, ink: usize) -> Counts
     ensures { result ≡ counted_as counts consumed ink }
 {
     Counts {
-        consumed: add(counts.consumed, consumed),
-        ink: add(counts.ink, ink),
-        calls: add(counts.calls, 1),
+        consumed: counts.consumed.saturating_add(consumed),
+        ink: counts.ink.saturating_add(ink),
+        calls: counts.calls.saturating_add(1),
     }
 }
 
@@ -146,18 +136,21 @@ fn tell(standing: Standing, consumed: usize, ink: usize, stopped: usize) -> Told
 }
 
 // A refusal tells no counts.
-fn told_by(answer: Answer) -> Told
+#[tactic(auto, unfolding(crate::specs::Pieces::told_by))]
+fn told_by(answer: Result<Answer<Ending>, Refusal>) -> Told
     ensures { result ≡ told_by answer }
 {
     match answer {
-        Answer::More { consumed, ink } => tell(Standing::Reading, consumed, ink, 0),
-        Answer::Stopped { consumed, ink } => tell(Standing::Reading, consumed, ink, consumed),
-        Answer::Ended {
-            consumed,
-            ink,
-            ending,
-        } => tell(Standing::Ended(ending), consumed, ink, 0),
-        Answer::Refused(refusal) => tell(Standing::Refused(refusal), 0, 0, 0),
+        Ok(Answer::More { consumed, ink }) => tell(Standing::Reading, consumed, ink, 0),
+        Ok(Answer::Stopped { consumed, ink }) => tell(Standing::Reading, consumed, ink, consumed),
+        Ok(
+            Answer::Ended {
+                consumed,
+                ink,
+                end: ending,
+            },
+        ) => tell(Standing::Ended(ending), consumed, ink, 0),
+        Err(refusal) => tell(Standing::Refused(refusal), 0, 0, 0),
     }
 }
 
@@ -166,11 +159,9 @@ fn call(reader: Reader, canvas: &mut [u8], bytes: &[u8]) -> Called
     ensures { (result, canvas.new) ≡ called_by reader canvas.old bytes.now }
 {
     let fed = dcs::feed(reader.session, canvas, bytes, reader.allowance);
-    let answer = fed.answer;
-    let told = told_by(answer);
-    let standing = told.standing;
+    let told = told_by(fed.answer);
     Called {
-        reader: after(reader, fed.session, standing, told.consumed, told.ink),
+        reader: after(reader, fed.session, told.standing, told.consumed, told.ink),
         stopped: told.stopped,
     }
 }
@@ -181,6 +172,7 @@ fn take_all(reader: Reader, canvas: &mut [u8], piece: &[u8]) -> Reader
 {
     let mut now = reader;
     let mut at = 0;
+    // Kept: the place moves as far as a call has read, so that there is nothing to go over.
     loop {
         let call = call(now, canvas, &piece[at..]);
         now = call.reader;
@@ -195,8 +187,7 @@ fn take_all(reader: Reader, canvas: &mut [u8], piece: &[u8]) -> Reader
 pub fn take(reader: Reader, canvas: &mut [u8], piece: &[u8]) -> Reader
     ensures { (result, canvas.new) ≡ taken_by reader canvas.old piece.now }
 {
-    let standing = reader.standing;
-    if let Standing::Reading = standing {
+    if let Standing::Reading = reader.standing {
         return take_all(reader, canvas, piece);
     }
     reader
@@ -206,10 +197,9 @@ pub fn take(reader: Reader, canvas: &mut [u8], piece: &[u8]) -> Reader
 pub fn finish(reader: Reader, owner: Palette, canvas: &mut [u8]) -> Finished
     ensures { (result, canvas.new) ≡ finished_by reader owner canvas.old }
 {
-    let standing = reader.standing;
-    if let Standing::Refused(refusal) = standing {
+    if let Standing::Refused(refusal) = reader.standing {
         return Finished {
-            answer: Finishing::Refused(refusal),
+            answer: Err(refusal),
             palette: owner,
         };
     }
@@ -217,7 +207,7 @@ pub fn finish(reader: Reader, owner: Palette, canvas: &mut [u8]) -> Finished
 }
 
 // Copies the rows of the picture that a finish reported to the front of `out`, without gaps.
-pub fn copy(report: Report, canvas: &[u8], stride: usize, out: &mut [u8]) -> Copied
+pub fn copy(report: Report, canvas: &[u8], stride: usize, out: &mut [u8]) -> Result<(), Uncopied>
     ensures { (number_of result, out.new)
         ≡ copied stride (area_of report.width report.height) canvas.now out.old }
 {

@@ -1,5 +1,6 @@
 -- What any session can be refused with, whatever it holds: one of a history, and one that a caller has damaged in memory. A finish is refused
 -- by 9, 12, 8 and the pending command's 4 to 7 alone, in this order.
+use Rattle.std.specs.Prelude.{Ok, Err}
 use Prim.Native.Nat.{ℕ, ◌+◌, ◌-◌, ◌*◌, max}
 use mathlib.Core.Bool.{Bool, true, false, cond, ◌&&◌}
 use mathlib.Core.List.{List, [], ◌∷◌}
@@ -23,14 +24,13 @@ use Rattle.frame.specs.declared.Refusal.TheVariants as refusals
 use Rattle.frame.specs.declared.VisibleArea.{VisibleArea}
 use Rattle.frame.specs.declared.Pen.{Pen}
 use Rattle.frame.specs.declared.Progress.{Progress}
-use Rattle.frame.specs.declared.sizes.Needed.{Needed}
-use Rattle.frame.specs.declared.sizes.Needed.TheVariants.{Area, Refused}
+use Rattle.frame.specs.declared.Refusal.{Refusal}
+use Rattle.std.specs.Prelude.{Result, Ok, Err}
 use Rattle.reference.specs.Step.{Reached, painted_on, drawn_in, drawn_by, data_step, takes_semicolon, settled_step, argument_step, step_in, step_of}
 use Rattle.reference.specs.Feed.{then_data, byte_step, reached_as, go_on, feed_from}
 use Rattle.meaning.specs.Calls.{first_of}
 use Rattle.meaning.proofs.Cases.{cond-case}
 use Rattle.payload.specs.declared.Session.{Session}
-use Rattle.payload.specs.declared.refusals.Verdict.TheVariants as judged
 use Rattle.payload.specs.Refusals.{is_failed, misfitting, finish_judged}
 use Rattle.payload.specs.Session.{turned_away, pictured, finished_in, finished_live, finished_as, finished_by}
 use Rattle.dcs.specs.declared.Phase.{Phase}
@@ -45,9 +45,9 @@ abbrev Low : Outcome → Type 0
 Low o = Only command_numbers (outcome_number o)
 
 -- an area that is needed is refused by 5, 6 or 7
-abbrev NeededLow : Needed → Type 0
-NeededLow (Area w h) = Unit {0}
-NeededLow (Refused n) = one_of (number_of n) command_numbers ≡ true
+abbrev NeededLow : Result VisibleArea Refusal → Type 0
+NeededLow (Ok a) = Unit {0}
+NeededLow (Err n) = one_of (number_of n) command_numbers ≡ true
 
 room-low : (g : Ground) (w h : ℕ) → NeededLow (room_for g w h)
 unfolding room_for number_of one_of
@@ -69,10 +69,10 @@ sixel-low p a g =
     (λ _. room-low g (max a.width (p.column + p.repeat)) (max a.height (p.row + 6))) (λ _. refl)
 
 module _ (f : Frame) (g : Ground) (p : Palette) where
-  grown-low : (r : Raster) (n : Needed) → NeededLow n → Low (raster_grown f r n).outcome
+  grown-low : (r : Raster) (n : Result VisibleArea Refusal) → NeededLow n → Low (raster_grown f r n).outcome
   unfolding raster_grown outcome_number
-  grown-low r (Area w h) k = tt
-  grown-low r (Refused n) k = k
+  grown-low r (Ok a) k = tt
+  grown-low r (Err n) k = k
 
   kind-low : (k : Kind) → Low (ended_in k f g p).progress.outcome
   unfolding ended_in repeat_ended raster_ended_by outcome_number number_of one_of
@@ -95,10 +95,10 @@ abbrev StepLow : Reached → Type 0
 StepLow t = Low t.progress.outcome
 
 module _ (g : Ground) (b left : ℕ) where
-  drawn-low : (n : Needed) → NeededLow n → (f : Frame) (bits : ℕ) (p : Palette) (l : List ℕ) → StepLow (drawn_in n f g bits left p l)
+  drawn-low : (n : Result VisibleArea Refusal) → NeededLow n → (f : Frame) (bits : ℕ) (p : Palette) (l : List ℕ) → StepLow (drawn_in n f g bits left p l)
   unfolding drawn_in painted_on outcome_number
-  drawn-low (Area w h) k f bits p l = cond-case StepLow (ltb left (ones bits * f.pen.repeat)) (λ _. tt) (λ _. tt)
-  drawn-low (Refused n) k f bits p l = k
+  drawn-low (Ok a) k f bits p l = cond-case StepLow (ltb left (ones bits * f.pen.repeat)) (λ _. tt) (λ _. tt)
+  drawn-low (Err n) k f bits p l = k
 
   data-low : (f : Frame) (p : Palette) (l : List ℕ) → StepLow (data_step f g b left p l)
   unfolding data_step drawn_by outcome_number
@@ -172,7 +172,7 @@ module _ (s : Session) (owner : Palette) (canvas : List ℕ) where
   payload-finish-order = go (is_failed s.life) (misfitting s (length canvas))
     where
       go : (t m : Bool)
-          → finish_number (finished_as (cond t (judged.Refused refusals.Failed) (cond m (judged.Refused refusals.Canvas) judged.Fine)) s owner canvas).0.answer
+          → finish_number (finished_as (cond t (Err refusals.Failed) (cond m (Err refusals.Canvas) (Ok tt))) s owner canvas).0.answer
           ≡ first_or (record { holds = t; number = 9 } ∷ record { holds = m; number = 12 } ∷ []) (pending_number s)
       go true m = refl
       go false true = refl
@@ -202,7 +202,7 @@ module _ (s : dcs_session.Session) (owner : Palette) (canvas : List ℕ) where
     where
       go : (t : Bool) → is_failed s.payload.life ≡ t → (m : Bool) → misfitting s.payload (length canvas) ≡ m
           → finish_number
-          (dcs.finished_as (cond t (judged.Refused refusals.Failed) (cond m (judged.Refused refusals.Canvas) judged.Fine)) s owner canvas).0.answer
+          (dcs.finished_as (cond t (Err refusals.Failed) (cond m (Err refusals.Canvas) (Ok tt))) s owner canvas).0.answer
           ≡ first_or
           (record { holds = t; number = 9 } ∷ record { holds = m; number = 12 } ∷ record { holds = is_early s.phase; number = 8 } ∷ [])
           (pending_number s.payload)

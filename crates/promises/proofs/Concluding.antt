@@ -1,4 +1,5 @@
 -- What a finish of the code leaves, as the demands say it: one equation for its answer, the owner's palette and every byte of the canvas.
+use Rattle.std.specs.Prelude.{Ok, Err}
 use Prim.Native.Nat.{ℕ}
 use mathlib.Core.List.{List}
 use mathlib.Core.Path.{◌≡◌, refl}
@@ -7,8 +8,7 @@ use Rattle.colours.specs.declared.Palette.{Palette}
 use Rattle.meaning.specs.Demands.{concluded}
 use Rattle.meaning.specs.Payload as meant
 use Rattle.payload.specs.declared.Finished.{Finished}
-use Rattle.payload.specs.declared.Finishing.{Finishing}
-use Rattle.payload.specs.declared.Finishing.TheVariants as finishings
+use Rattle.payload.specs.Results.{Finishing}
 use Rattle.payload.specs.History.{Finishes, pictures, declines}
 use Rattle.payload.specs.Meant.{report_meant, finish_meant}
 use Rattle.promises.specs.Readers.{concluded_by}
@@ -27,5 +27,5 @@ unfolding concluded_by finish_meant
 concluded-keeps {owner} {lent} y keeps n = go y.0.answer refl
   where
     go : (a : Finishing) → y.0.answer ≡ a → finish_meant a y.0.palette ≡ meant.turned_down n → (y.0.palette ≡ owner) × (y.1 ≡ lent)
-    go (finishings.Picture r) e z = let never : ◌≡◌ {A = ℕ} 0 1 = cc in absurd (omega arith)
-    go (finishings.Refused x) e z = keeps x e
+    go (Ok r) e z = let never : ◌≡◌ {A = ℕ} 0 1 = cc in absurd (omega arith)
+    go (Err x) e z = keeps x e

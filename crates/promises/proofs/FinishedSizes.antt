@@ -1,6 +1,7 @@
 -- No finish has a size to judge: after any calls of an accepted opening the size that it reports is at least one pixel and keeps within W, H, M,
 -- the stride and the rows, and the extent that it reports lies inside the size. Of the four readers (promises/Readers) and of a reading all at
 -- once. The area that a session holds keeps within them too.
+use Rattle.std.specs.Prelude.{Ok, Err}
 use Prim.Native.Nat.{ℕ, ◌≤◌}
 use mathlib.Core.Bool.{true}
 use mathlib.Core.List.{List, [], ◌∷◌}
@@ -30,13 +31,10 @@ use Rattle.reference.specs.Step as step
 use Rattle.reference.proofs.StepLaws.{settle-room}
 use Rattle.agreement.specs.Same as same
 use Rattle.agreement.proofs.Settle.{same-fact}
-use Rattle.payload.specs.declared.Finishing.{Finishing}
-use Rattle.payload.specs.declared.Finishing.TheVariants as finishes
+use Rattle.payload.specs.Results.{Finishing, Verdict}
 use Rattle.payload.specs.declared.Life.TheVariants as lives
 use Rattle.payload.specs.declared.Session as session
 use Rattle.payload.specs.declared.Settings.{Settings}
-use Rattle.payload.specs.declared.refusals.Verdict.{Verdict}
-use Rattle.payload.specs.declared.refusals.Verdict.TheVariants as judged
 use Rattle.payload.specs.History as payload
 use Rattle.payload.specs.Deferred.{no_settings}
 use Rattle.payload.specs.Refusals.{is_failed, fitting, misfitting, finish_judged}
@@ -179,8 +177,8 @@ read_fits l stride p canvas bytes =
 
 -- a size that is reported has room on a canvas of so many bytes
 abbrev pub OnCanvas : ℕ → ℕ → Finishing → Type 0
-OnCanvas stride size (finishes.Picture r) = (r.width ≤ stride) × (r.height ≤ rows_of size stride)
-OnCanvas stride size (finishes.Refused n) = Unit {0}
+OnCanvas stride size (Ok r) = (r.width ≤ stride) × (r.height ≤ rows_of size stride)
+OnCanvas stride size (Err n) = Unit {0}
 
 module _ (s : session.Session) (owner : Palette) (canvas : List ℕ) where
   outcome-on-canvas : (o : Outcome) (last : Frame) (p : Palette)
@@ -193,11 +191,11 @@ module _ (s : session.Session) (owner : Palette) (canvas : List ℕ) where
   outcome-on-canvas (outcomes.Refused n) last p room = tt
 
   -- what is not refused has room for its area
-  judged-fits : finish_judged s (length canvas) ≡ judged.Fine → step.Fits s.frame s.ground (length canvas)
+  judged-fits : finish_judged s (length canvas) ≡ Ok tt → step.Fits s.frame s.ground (length canvas)
   unfolding finish_judged
   judged-fits e =
       fitting-fits s (length canvas)
-      (passes refusals.Canvas (misfitting s (length canvas)) judged.Fine (passes refusals.Failed (is_failed s.life) _ e).1).0
+      (passes refusals.Canvas (misfitting s (length canvas)) (Ok tt) (passes refusals.Failed (is_failed s.life) _ e).1).0
 
   -- A damaged session too reports a size that lies on the canvas, since 12 is judged before, and 7 of what the pending command asks.
   pub payload-reports-on-canvas : OnCanvas s.ground.stride (length canvas) (payload_coded.finished_by s owner canvas).0.answer
@@ -209,10 +207,10 @@ module _ (s : session.Session) (owner : Palette) (canvas : List ℕ) where
 
       go : (j : Verdict) → finish_judged s (length canvas) ≡ j
           → OnCanvas s.ground.stride (length canvas) (payload_coded.finished_as j s owner canvas).0.answer
-      go judged.Fine e =
+      go (Ok tt) e =
           let room = settle-room {s = last.progress} {q = last.palette} s.frame s.ground s.palette (length canvas) (judged-fits e) refl in
           outcome-on-canvas last.progress.outcome last.progress.frame last.palette (room.1, room.3)
-      go (judged.Refused n) e = tt
+      go (Err n) e = tt
 
   -- A DCS session's finish is its payload's, or refused.
   pub dcs-reports-on-canvas : (header : Parameters) (phase : coded_phase.Phase)
@@ -228,8 +226,8 @@ module _ (s : session.Session) (owner : Palette) (canvas : List ℕ) where
       at (phases.Over e) = payload-reports-on-canvas
 
       go : (j : Verdict) → OnCanvas s.ground.stride (length canvas) (dcs_coded.finished_as j (dcs_coded.session_of s header phase) owner canvas).0.answer
-      go judged.Fine = at phase
-      go (judged.Refused n) = tt
+      go (Ok tt) = at phase
+      go (Err n) = tt
 
 -- The smallest such session: eight columns have been read under W 8, and in memory W is then lowered to 4.
 pub lowered : session.Session
@@ -259,8 +257,8 @@ lowered =
 
 -- the size that a finish reports
 pub size_told : Finishing → Option Area
-size_told (finishes.Picture r) = some (area_of r.width r.height)
-size_told (finishes.Refused n) = none
+size_told (Ok r) = some (area_of r.width r.height)
+size_told (Err n) = none
 
 -- Its finish reports all eight.
 pub lowered-limit : (owner : Palette) → size_told (payload_coded.finished_by lowered owner (replicate 384 0)).0.answer ≡ some (area_of 8 6)

@@ -1,4 +1,5 @@
 -- The five hollow readers (docs/PROMISES.md) are rejected: no function that behaves so keeps the promise of a feed.
+use Rattle.std.specs.Prelude.{Some, None, Ok, Err}
 use Prim.Native.Nat.{ℕ, ◌*◌, ◌≤◌}
 use mathlib.Core.Bool.{false}
 use mathlib.Core.List.{List, [], ◌∷◌}
@@ -20,8 +21,7 @@ use Rattle.meaning.specs.Sessions.{Reading, opened, rested, payload_step}
 use Rattle.meaning.proofs.FeedingLaws.{fed-as}
 use Rattle.meaning.proofs.Trials.{computed}
 use Rattle.payload.specs.declared.Answer.TheVariants as answers
-use Rattle.payload.specs.declared.Fed.{Fed}
-use Rattle.payload.specs.declared.Given.TheVariants as givens
+use Rattle.payload.specs.Results.{Fed}
 use Rattle.payload.specs.declared.Life.TheVariants as lives
 use Rattle.payload.specs.declared.Session.{Session}
 use Rattle.payload.specs.declared.Settings.{Settings}
@@ -72,7 +72,7 @@ module _ (f : Reader) (meets : Meets f) {opening : List ℕ} {s : Session} {l : 
   ink-fixed = ap ink_told (meets opening s l m k bs a).answer
 
   -- A stopped call has read a byte, and its ink is at least A - 6W + 1.
-  pub stop-fixed : (n i : ℕ) → (f s l bs a).0.answer ≡ answers.Stopped n i → Worked a (6 * m.setting.limits.width) n i
+  pub stop-fixed : (n i : ℕ) → (f s l bs a).0.answer ≡ Ok (answers.Stopped n i) → Worked a (6 * m.setting.limits.width) n i
   unfolding answer_meant
   stop-fixed n i e = payload-stop-works m (length l) a bs n i (sym (meets opening s l m k bs a).answer ∙ ap answer_meant e)
 
@@ -82,7 +82,7 @@ abbrev pub house : Limits
 house = limits_coded house_limits
 
 unfoldable pub clear : Settings
-clear = record { p1 = givens.Nothing; p2 = givens.Number 1 }
+clear = record { p1 = None; p2 = Some 1 }
 
 unfoldable pub fresh : List ℕ
 fresh = 1 ∷ 1 ∷ 1 ∷ 1 ∷ 1 ∷ 1 ∷ 1 ∷ 1 ∷ 1 ∷ 1 ∷ 1 ∷ 1 ∷ 1 ∷ 1 ∷ 1 ∷ 1 ∷ 1 ∷ 1 ∷ 1 ∷ 1 ∷ 1 ∷ 1 ∷ 1 ∷ 1 ∷ []
@@ -150,7 +150,7 @@ module _ (f : Reader) (meets : Meets f) where
       ∙ ap (λ (x : calls.Fed Reading ℕ). get_or (calls.payload_shown x.session fresh) 7 0) (at₀ bs)
 
   -- Refusing everything: the table says "exactly when".
-  pub no-refuser : ((s : Session) (l bs : List ℕ) (a : ℕ) → (x : Refusal) × ((f s l bs a).0.answer ≡ answers.Refused x)) → ⊥
+  pub no-refuser : ((s : Session) (l bs : List ℕ) (a : ℕ) → (x : Refusal) × ((f s l bs a).0.answer ≡ Err x)) → ⊥
   unfolding answer_meant
   no-refuser refuses =
       let h = refuses s₀ l₀ [] 6144 in
@@ -167,7 +167,7 @@ module _ (f : Reader) (meets : Meets f) where
 
   -- Consuming nothing and stopping: the stop rule. No call does it, of whichever session.
   pub no-idler : {opening : List ℕ} {s : Session} {l : List ℕ} {m : calls.Session Reading} → Stands opening s l m → (bs : List ℕ) (a i : ℕ)
-      → ¬ ((f s l bs a).0.answer ≡ answers.Stopped 0 i)
+      → ¬ ((f s l bs a).0.answer ≡ Ok (answers.Stopped 0 i))
   no-idler k bs a i e = let none_read : 1 ≤ 0 = (stop-fixed f meets k bs a 0 i e).reads in omega arith
 
   -- All painting in one call, pretence in the rest: each call's canvas is fixed. No call reads a sixel and leaves it to another to paint,

@@ -20,7 +20,7 @@ use Rattle.payload.proofs.Openings as payload_openings
 use Rattle.payload.proofs.Feedings as payload_feedings
 use Rattle.payload.proofs.Finishings as payload_finishings
 use Rattle.payload.proofs.Judgements as payload_standing
-use Rattle.dcs.specs.declared.Fed as dcs_fed
+use Rattle.dcs.specs.Results as dcs_fed
 use Rattle.dcs.specs.History as dcs
 use Rattle.dcs.specs.Meant as dcs_meant
 use Rattle.dcs.specs.Session as dcs_calls

@@ -1,4 +1,5 @@
 -- The five hollow readers (docs/PROMISES.md) are rejected of DCS sessions too.
+use Rattle.std.specs.Prelude.{Ok, Err}
 use Prim.Native.Nat.{ℕ, ◌*◌, ◌≤◌}
 use mathlib.Core.Bool.{false}
 use mathlib.Core.List.{List, [], ◌∷◌}
@@ -22,8 +23,8 @@ use Rattle.payload.specs.Deferred.{no_settings}
 use Rattle.payload.specs.Refusals.{in_range, limits_fit, openable}
 use Rattle.payload.specs.Session.{session_for}
 use Rattle.payload.specs.Meant.{limits_meant, setting_meant}
-use Rattle.dcs.specs.declared.Answer.TheVariants as answers
-use Rattle.dcs.specs.declared.Fed.{Fed}
+use Rattle.payload.specs.declared.Answer.TheVariants as answers
+use Rattle.dcs.specs.Results.{Fed}
 use Rattle.dcs.specs.declared.Phase.TheVariants as phases
 use Rattle.dcs.specs.declared.Session.{Session}
 use Rattle.header.specs.declared.Place.TheVariants as places
@@ -60,12 +61,12 @@ module _ (f : Reader) (meets : Meets f) (l : Limits) (stride : ℕ) (p : Palette
   dcs-ink-fixed = ap ink_told (meets l stride p opening s c m k bs a).answer
 
   -- A stopped call has read a byte, and its ink is at least A - 6W + 1.
-  pub dcs-stop-fixed : (n i : ℕ) → (f s c bs a).0.answer ≡ answers.Stopped n i → Worked a (6 * m.setting.limits.width) n i
+  pub dcs-stop-fixed : (n i : ℕ) → (f s c bs a).0.answer ≡ Ok (answers.Stopped n i) → Worked a (6 * m.setting.limits.width) n i
   unfolding answer_meant
   dcs-stop-fixed n i e = dcs-stop-works p m (length c) a bs n i (sym (meets l stride p opening s c m k bs a).answer ∙ ap answer_meant e)
 
   -- Consuming nothing and stopping: the stop rule. No call does it, of whichever session.
-  pub dcs-no-idler : (i : ℕ) → ¬ ((f s c bs a).0.answer ≡ answers.Stopped 0 i)
+  pub dcs-no-idler : (i : ℕ) → ¬ ((f s c bs a).0.answer ≡ Ok (answers.Stopped 0 i))
   dcs-no-idler i e = let none_read : 1 ≤ 0 = (dcs-stop-fixed 0 i e).reads in omega arith
 
 -- ---- the smallest example: house limits, a canvas of 1 x 6 pixels whose bytes are 1, the standard palette; the bytes are 90 `q~`
@@ -118,7 +119,7 @@ module _ (f : Reader) (meets : Meets f) where
   canvas₀ bs = ap (λ (c : List ℕ). get_or c 7 0) (dcs-canvas-fixed f meets house 1 standard fresh k₀ bs 6144)
 
   -- Refusing everything: the table says "exactly when".
-  pub dcs-no-refuser : ((s : Session) (l bs : List ℕ) (a : ℕ) → (x : Refusal) × ((f s l bs a).0.answer ≡ answers.Refused x)) → ⊥
+  pub dcs-no-refuser : ((s : Session) (l bs : List ℕ) (a : ℕ) → (x : Refusal) × ((f s l bs a).0.answer ≡ Err x)) → ⊥
   unfolding answer_meant
   dcs-no-refuser refuses =
       let h = refuses s₀ fresh [] 6144 in

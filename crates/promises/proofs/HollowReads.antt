@@ -1,4 +1,5 @@
 -- Hollow readings all at once are rejected too: one that refuses everything, and one of a fixed picture (docs/PROMISES.md).
+use Rattle.std.specs.Prelude.{Err}
 use Prim.Native.Nat.{ℕ}
 use mathlib.Core.Bool.{Bool, true, false, true≢false}
 use mathlib.Core.List.{List, [], ◌∷◌}
@@ -14,7 +15,6 @@ use Rattle.meaning.specs.Drawing.{Limits, house_limits}
 use Rattle.meaning.specs.Payload as meant
 use Rattle.meaning.proofs.Trials.{computed}
 use Rattle.payload.specs.declared.Finished.{Finished}
-use Rattle.payload.specs.declared.Finishing.TheVariants as finishes
 use Rattle.oneshot.specs.OneShot.{Read, read_whole, read_meant}
 use Rattle.payload.specs.Meant.{finish_meant}
 use Rattle.promises.proofs.Hollow.{fresh}
@@ -54,7 +54,7 @@ sixel-alpha = refl
 module _ (f : Reader) (meets : Meets f) where
   -- Refusing everything: the table says "exactly when".
   pub no-refusing-read : ((l : Limits) (stride : ℕ) (p : Palette) (canvas bs : List ℕ)
-      → (x : Refusal) × ((f l stride p canvas bs).0.answer ≡ finishes.Refused x))
+      → (x : Refusal) × ((f l stride p canvas bs).0.answer ≡ Err x))
       → ⊥
   unfolding read_meant finish_meant is_down read₀
   no-refusing-read refuses =

@@ -1,4 +1,5 @@
 -- What a call answers does not hang on the canvas's bytes, but on its length alone; so whatever canvas is lent, the answer is the definition's.
+use Rattle.std.specs.Prelude.{Ok, Err}
 use Prim.Native.Nat.{ℕ, ◌+◌, ◌-◌}
 use mathlib.Core.Bool.{Bool, true, false, cond, not, ◌&&◌, ◌||◌, true≢false}
 use mathlib.Core.List.{List, [], ◌∷◌}
@@ -23,8 +24,8 @@ use Rattle.frame.specs.declared.Outcome.TheVariants as outcomes
 use Rattle.frame.specs.declared.Progress.{Progress}
 use Rattle.frame.specs.declared.Refusal.{Refusal}
 use Rattle.frame.specs.declared.Progress.{Progress}
-use Rattle.frame.specs.declared.sizes.Needed.{Needed}
-use Rattle.frame.specs.declared.sizes.Needed.TheVariants as needs
+use Rattle.frame.specs.declared.VisibleArea.{VisibleArea}
+use Rattle.std.specs.Prelude.{Result, Ok, Err}
 use Rattle.frame.specs.Sizes.{sixel_area}
 use Rattle.frame.specs.Commands.{Ended, ended}
 use Rattle.frame.specs.Numbers.{number_of}
@@ -34,14 +35,12 @@ use Rattle.meaning.specs.Calls as calls
 use Rattle.meaning.specs.Payload as meant
 use Rattle.meaning.specs.Sessions.{Reading, payload_step, rested, finish_reading, End, Phase, dcs_step, dcs_rested, finish_dcs}
 use Rattle.meaning.proofs.FeedingLaws.{fed-as, finished_as_lem}
-use Rattle.payload.specs.declared.Fed.{Fed}
+use Rattle.payload.specs.Results.{Fed, Verdict}
 use Rattle.payload.specs.declared.Finished.{Finished}
 use Rattle.payload.specs.declared.Life.{Life}
 use Rattle.payload.specs.declared.Life.TheVariants as lives
 use Rattle.payload.specs.declared.Session as payload_session
 use Rattle.payload.specs.declared.Settings.{Settings}
-use Rattle.payload.specs.declared.refusals.Verdict.{Verdict}
-use Rattle.payload.specs.declared.refusals.Verdict.TheVariants as judged
 use Rattle.payload.specs.Deferred.{begun_by}
 use Rattle.payload.specs.Refusals.{feed_judged, finish_judged}
 use Rattle.payload.specs.Session as payload
@@ -51,12 +50,12 @@ use Rattle.payload.specs.History.{Stands, Finishes, pictures, declines}
 use Rattle.payload.proofs.Judgements.{judged_meant, misfit, feed-judged, finish-judged, stands-long, stands-fit}
 use Rattle.payload.proofs.Feedings.{feed-stands}
 use Rattle.payload.proofs.Finishings.{finish-stands}
-use Rattle.dcs.specs.declared.Fed as dcs_fed
+use Rattle.dcs.specs.Results as dcs_fed
 use Rattle.dcs.specs.declared.Phase as phase
 use Rattle.dcs.specs.declared.Phase.TheVariants as phases
 use Rattle.dcs.specs.declared.Session as dcs_session
 use Rattle.header.specs.declared.Lead.{Lead}
-use Rattle.header.specs.declared.Led.{Led}
+use Rattle.header.specs.Results.{Led}
 use Rattle.header.specs.declared.Led.TheVariants as leds
 use Rattle.header.specs.Lead.{lead_from}
 use Rattle.header.specs.Settings.{settings_from}
@@ -83,10 +82,10 @@ both-cases f false e k = k
 
 module _ (g : Ground) (b left : ℕ) where
   module _ (f : Frame) (p : Palette) (l m : List ℕ) where
-    drawn-alike : (n : Needed) (bits : ℕ) → blind (drawn_in n f g bits left p l) ≡ blind (drawn_in n f g bits left p m)
+    drawn-alike : (n : Result VisibleArea Refusal) (bits : ℕ) → blind (drawn_in n f g bits left p l) ≡ blind (drawn_in n f g bits left p m)
     unfolding drawn_in painted_on blind
-    drawn-alike (needs.Area w h) bits = both-cases blind (ltb left _) refl refl
-    drawn-alike (needs.Refused r) bits = refl
+    drawn-alike (Ok a) bits = both-cases blind (ltb left _) refl refl
+    drawn-alike (Err r) bits = refl
 
     data-alike : blind (data_step f g b left p l) ≡ blind (data_step f g b left p m)
     unfolding data_step drawn_by blind
@@ -175,8 +174,8 @@ module _ (s : payload_session.Session) (bs : List ℕ) (a : ℕ) (l m : List ℕ
 
   judged-alike : (j : Verdict) → (payload.fed_as j s l bs a).0 ≡ (payload.fed_as j s m bs a).0
   unfolding payload.fed_as
-  judged-alike judged.Fine = life-alike s.life
-  judged-alike (judged.Refused n) = refl
+  judged-alike (Ok tt) = life-alike s.life
+  judged-alike (Err n) = refl
 
   -- A feed has the same answer and leaves the same session.
   pub payload-fed-alike : length l ≡ length m → (payload.fed_by s l bs a).0 ≡ (payload.fed_by s m bs a).0
@@ -194,9 +193,9 @@ module _ (s : payload_session.Session) (owner : Palette) (l m : List ℕ) where
 
   end-alike : (j : Verdict) → (payload.finished_as j s owner l).0 ≡ (payload.finished_as j s owner m).0
   unfolding payload.finished_as payload.finished_live payload.turned_away
-  end-alike judged.Fine =
+  end-alike (Ok tt) =
       let e : Ended = ended s.frame s.ground s.palette in outcome-alike e.progress.outcome e.progress.frame e.palette
-  end-alike (judged.Refused n) = refl
+  end-alike (Err n) = refl
 
   -- A finish has the same answer and palette.
   pub payload-finished-alike : length l ≡ length m → (payload.finished_by s owner l).0 ≡ (payload.finished_by s owner m).0
@@ -224,12 +223,12 @@ begun-long s o l = go (leb 4 (length l))
 module _ (s : dcs_session.Session) (bs : List ℕ) (a : ℕ) (l m : List ℕ) (long : length l ≡ length m) where
   led-alike : (x : Led) (y : Lead) → (dcs.led_to x y s l bs a).0 ≡ (dcs.led_to x y s m bs a).0
   unfolding dcs.led_to begun_by
-  led-alike leds.On y = refl
-  led-alike leds.Begins y =
+  led-alike (Ok leds.On) y = refl
+  led-alike (Ok leds.Begins) y =
       let o : Settings = settings_from y.header in
       passed-alike (dcs.session_of (begun_by s.payload o l).0 y.header phases.Within) (drop y.consumed bs) y.consumed a
       (begun_by s.payload o l).1 (begun_by s.payload o m).1 (begun-long s.payload o l ∙ long ∙ sym (begun-long s.payload o m))
-  led-alike (leds.Refused r) y = refl
+  led-alike (Err r) y = refl
 
   phase-alike : (t : phase.Phase) → (dcs.fed_in t s l bs a).0 ≡ (dcs.fed_in t s m bs a).0
   unfolding dcs.fed_in dcs.fed_lead
@@ -240,8 +239,8 @@ module _ (s : dcs_session.Session) (bs : List ℕ) (a : ℕ) (l m : List ℕ) (l
 
   dcs-judged-alike : (j : Verdict) → (dcs.fed_as j s l bs a).0 ≡ (dcs.fed_as j s m bs a).0
   unfolding dcs.fed_as
-  dcs-judged-alike judged.Fine = phase-alike s.phase
-  dcs-judged-alike (judged.Refused n) = refl
+  dcs-judged-alike (Ok tt) = phase-alike s.phase
+  dcs-judged-alike (Err n) = refl
 
   -- A feed has the same answer and leaves the same session.
   pub dcs-fed-alike : (dcs.fed_by s l bs a).0 ≡ (dcs.fed_by s m bs a).0
@@ -259,8 +258,8 @@ module _ (s : dcs_session.Session) (owner : Palette) (l m : List ℕ) (long : le
 
   dcs-end-alike : (j : Verdict) → (dcs.finished_as j s owner l).0 ≡ (dcs.finished_as j s owner m).0
   unfolding dcs.finished_as payload.turned_away
-  dcs-end-alike judged.Fine = ending-alike s.phase
-  dcs-end-alike (judged.Refused n) = refl
+  dcs-end-alike (Ok tt) = ending-alike s.phase
+  dcs-end-alike (Err n) = refl
 
   -- A finish has the same answer and palette.
   pub dcs-finished-alike : (dcs.finished_by s owner l).0 ≡ (dcs.finished_by s owner m).0
@@ -294,11 +293,11 @@ passes-twelve false true o e = none-some (sym e)
 passes-twelve false false o e = refl
 
 -- by the judgement before the bytes: a refusal, or none
-by-judged : {A : Type 0} (j : Verdict) (x : Verdict → A) {z : A} → ((r : Refusal) → judged_meant j ≡ some (number_of r) → x (judged.Refused r) ≡ z)
+by-judged : {A : Type 0} (j : Verdict) (x : Verdict → A) {z : A} → ((r : Refusal) → judged_meant j ≡ some (number_of r) → x (Err r) ≡ z)
     → (judged_meant j ≡ none → x j ≡ z) → x j ≡ z
 unfolding judged_meant
-by-judged judged.Fine x refused fine = fine refl
-by-judged (judged.Refused r) x refused fine = refused r refl
+by-judged (Ok tt) x refused fine = fine refl
+by-judged (Err r) x refused fine = refused r refl
 
 -- what a finish answers, in the definition's terms
 abbrev pub answer_of : Finished → meant.Finished

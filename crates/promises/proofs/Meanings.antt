@@ -1,4 +1,5 @@
 -- The definitions that give an answer's number and values are injective: each has a left inverse, so equal meanings are equal answers.
+use Rattle.std.specs.Prelude.{Ok, Err, Some, None}
 use Prim.Native.Nat.{ℕ}
 use mathlib.Core.Bool.{Bool, cond}
 use mathlib.Core.Option.{Option, none, some}
@@ -8,17 +9,15 @@ use lib.Dec.{eqb}
 use Rattle.colours.specs.declared.Palette.{Palette}
 use Rattle.colours.specs.Palette.{of_table}
 use Rattle.canvas.specs.Copy as copying
-use Rattle.canvas.specs.declared.Copied.{Copied}
-use Rattle.canvas.specs.declared.Copied.TheVariants.{Done, Misfit, Short}
+use Rattle.std.specs.Prelude.{Result, Ok, Err}
+use Rattle.canvas.specs.declared.Uncopied.{Uncopied}
+use Rattle.canvas.specs.declared.Uncopied.TheVariants.{Misfit, Short}
 use Rattle.frame.specs.Numbers.{number_of}
 use Rattle.frame.specs.declared.Refusal.{Refusal}
 use Rattle.frame.specs.declared.Refusal.TheVariants.{Introducer, HeaderEnded, HeaderByte, Repeat, Size, Pixels, Room, Unfinished, Failed, FinalSize, Opening, Canvas, Allowance, Buffer}
 use Rattle.meaning.specs.Payload as meant
 use Rattle.payload.specs.declared.Finished.{Finished}
-use Rattle.payload.specs.declared.Finishing.{Finishing}
-use Rattle.payload.specs.declared.Finishing.TheVariants as finishes
-use Rattle.payload.specs.declared.Given.{Given}
-use Rattle.payload.specs.declared.Given.TheVariants as givens
+use Rattle.payload.specs.Results.{Finishing, Given}
 use Rattle.payload.specs.declared.Ratio.{Ratio}
 use Rattle.payload.specs.declared.Ratio.TheVariants as ratios
 use Rattle.payload.specs.declared.Report.{Report}
@@ -65,18 +64,18 @@ refusal-known = known refusal_at refusal-back
 
 -- ---- the answer of a copy
 
-copied_at : ℕ → Copied
-copied_at n = cond (eqb n 0) Done (cond (eqb n 12) Misfit Short)
+copied_at : ℕ → Result (Unit {0}) Uncopied
+copied_at n = cond (eqb n 0) (Ok tt) (cond (eqb n 12) (Err Misfit) (Err Short))
 
-copied-back : (c : Copied) → copied_at (copying.number_of c) ≡ c
+copied-back : (c : Result (Unit {0}) Uncopied) → copied_at (copying.number_of c) ≡ c
 unfolding copying.number_of copied_at
-copied-back Done = refl
-copied-back Misfit = refl
-copied-back Short = refl
+copied-back (Ok _) = refl
+copied-back (Err Misfit) = refl
+copied-back (Err Short) = refl
 
 -- The number of a copy's answer and the bytes after it say which answer it was.
-pub copied-known : {x y : Copied} {l m : List ℕ} → let a : ℕ × List ℕ = (copying.number_of x, l) in let b : ℕ × List ℕ = (copying.number_of y, m) in a ≡ b
-    → let c : Copied × List ℕ = (x, l) in let d : Copied × List ℕ = (y, m) in c ≡ d
+pub copied-known : {x y : Result (Unit {0}) Uncopied} {l m : List ℕ} → let a : ℕ × List ℕ = (copying.number_of x, l) in let b : ℕ × List ℕ = (copying.number_of y, m) in a ≡ b
+    → let c : Result (Unit {0}) Uncopied × List ℕ = (x, l) in let d : Result (Unit {0}) Uncopied × List ℕ = (y, m) in c ≡ d
 copied-known {x} {y} {l} {m} e = pair (known copied_at copied-back (ap (λ (a : ℕ × List ℕ). a.0) e)) (ap (λ (a : ℕ × List ℕ). a.1) e)
 
 -- ---- a palette by its table
@@ -95,13 +94,13 @@ told-table-known e = ap (λ (z : Bool × Palette). (z.0, z.1.colors)) e
 -- ---- a finish
 
 given_at : Option ℕ → Given
-given_at none = givens.Nothing
-given_at (some n) = givens.Number n
+given_at none = None
+given_at (some n) = Some n
 
 given_back : (g : Given) → given_at (given_meant g) ≡ g
 unfolding given_meant given_at
-given_back givens.Nothing = refl
-given_back (givens.Number n) = refl
+given_back None = refl
+given_back (Some n) = refl
 
 ratio_at : meant.Ratio → Ratio
 ratio_at (meant.by_raster n) = ratios.Raster n
@@ -147,13 +146,13 @@ report-back p r =
     (ratio-back r.ratio)
 
 finishing_at : meant.Finished → Finishing
-finishing_at (meant.finished r) = finishes.Picture (report_at r)
-finishing_at (meant.turned_down n) = finishes.Refused (refusal_at n)
+finishing_at (meant.finished r) = Ok (report_at r)
+finishing_at (meant.turned_down n) = Err (refusal_at n)
 
 finishing-back : (p : Palette) (x : Finishing) → finishing_at (finish_meant x p) ≡ x
 unfolding finish_meant finishing_at
-finishing-back p (finishes.Picture r) = ap finishes.Picture (report-back p r)
-finishing-back p (finishes.Refused n) = ap finishes.Refused (refusal-back n)
+finishing-back p (Ok r) = ap Ok (report-back p r)
+finishing-back p (Err n) = ap Err (refusal-back n)
 
 -- ---- a reading all at once
 

@@ -1,4 +1,5 @@
 -- A reader over the caller's memory is alike the reader by value: the numbers that it answers say the same, and the memory holds the session.
+use Rattle.std.specs.Prelude.{Ok, Err, Some, None}
 use Prim.Native.Nat.{ℕ, zero, suc}
 use mathlib.Core.Bool.{Bool, true, false, cond}
 use mathlib.Core.List.{List, [], ◌∷◌, ◌++◌}
@@ -16,23 +17,18 @@ use Rattle.meaning.specs.Calls as calls
 use Rattle.meaning.specs.Callers.{Feed}
 use Rattle.meaning.specs.Demands.{Concluded}
 use Rattle.meaning.specs.Payload as meant
-use Rattle.payload.specs.declared.Answer as payload_answer
+use Rattle.payload.specs.Results as payload_answer
 use Rattle.payload.specs.declared.Answer.TheVariants as payload_answers
-use Rattle.payload.specs.declared.Fed as payload_fed_record
 use Rattle.payload.specs.declared.Finished.{Finished}
-use Rattle.payload.specs.declared.Finishing.{Finishing}
-use Rattle.payload.specs.declared.Finishing.TheVariants as finishes
-use Rattle.payload.specs.declared.Given.TheVariants as givens
+use Rattle.payload.specs.Results.{Finishing}
 use Rattle.payload.specs.declared.Ratio.{Ratio}
 use Rattle.payload.specs.declared.Ratio.TheVariants as ratios
 use Rattle.payload.specs.declared.Session as payload_session
 use Rattle.payload.specs.History as payload
 use Rattle.payload.specs.Meant as payload_meant
 use Rattle.payload.specs.Session as payload_calls
-use Rattle.dcs.specs.declared.Answer as dcs_answer
-use Rattle.dcs.specs.declared.Answer.TheVariants as dcs_answers
+use Rattle.dcs.specs.Results as dcs_answer
 use Rattle.dcs.specs.declared.Ending.TheVariants as endings
-use Rattle.dcs.specs.declared.Fed as dcs_fed_record
 use Rattle.dcs.specs.declared.Session as dcs_session
 use Rattle.dcs.specs.History as dcs
 use Rattle.dcs.specs.Meant as dcs_meant
@@ -40,7 +36,7 @@ use Rattle.dcs.specs.Session as dcs_calls
 use Rattle.dcs.proofs.SessionRanges.{Bytes}
 use Rattle.payload.specs.Meant.{finish_meant}
 use Rattle.owlgantry.specs.Reading.{given_kind, given_number, ratio_kind, ratio_number, report_numbers, refusal_number}
-use Rattle.owlgantry.specs.Sessions.{payload_number, payload_report, ending_kind, ending_byte, dcs_number, dcs_report, finish_report, payload_fed_as, payload_fed, finished_as, payload_finished, dcs_fed_as, dcs_fed, dcs_finished}
+use Rattle.owlgantry.specs.Sessions.{number_or_zero, payload_report, ending_kind, ending_byte, dcs_report, finish_report, payload_fed_as, payload_fed, finished_as, payload_finished, dcs_fed_as, dcs_fed, dcs_finished}
 use Rattle.owlgantry.proofs.SessionLaws.{PayloadHeld, payload-feeds, payload-feeds-on, payload-finishes, DcsHeld, dcs-feeds, dcs-feeds-on, dcs-finishes}
 use Rattle.promises.specs.Readers.{concluded_by, payload_feed, payload_canvas, payload_finish, payload_lend, dcs_feed, dcs_canvas, dcs_finish, dcs_lend, Memory, status_from, payload_end_from, dcs_end_from, answer_from, ratio_from, finished_from, Told, memory_after, memory_concluded, payload_memory_feed, payload_memory_finish, dcs_memory_feed, dcs_memory_finish, memory_canvas, memory_lend}
 use Rattle.promises.proofs.Alike.{AlikeReaders, AlikeLent}
@@ -66,28 +62,28 @@ refusal-some Allowance = refl
 refusal-some Buffer = refl
 
 -- the numbers of a feed's answer say what it means
-pub payload-told : (x : payload_answer.Answer) → answer_from payload_end_from (payload_number x) (payload_report x) ≡ payload_meant.answer_meant x
-unfolding answer_from status_from payload_end_from payload_number payload_report payload_meant.answer_meant
-payload-told (payload_answers.More n i) = refl
-payload-told (payload_answers.Stopped n i) = refl
-payload-told (payload_answers.Ended n i b) = refl
-payload-told (payload_answers.Refused r) = cond_no _ _ (refusal-some r)
+pub payload-told : (x : payload_answer.Answer) → answer_from payload_end_from (number_or_zero x) (payload_report x) ≡ payload_meant.answer_meant x
+unfolding answer_from status_from payload_end_from number_or_zero payload_report payload_meant.answer_meant
+payload-told (Ok (payload_answers.More n i)) = refl
+payload-told (Ok (payload_answers.Stopped n i)) = refl
+payload-told (Ok (payload_answers.Ended n i b)) = refl
+payload-told (Err r) = cond_no _ _ (refusal-some r)
 
-pub dcs-told : (x : dcs_answer.Answer) → answer_from dcs_end_from (dcs_number x) (dcs_report x) ≡ dcs_meant.answer_meant x
-unfolding answer_from status_from dcs_end_from dcs_number dcs_report ending_kind ending_byte dcs_meant.answer_meant dcs_meant.end_meant
-dcs-told (dcs_answers.More n i) = refl
-dcs-told (dcs_answers.Stopped n i) = refl
-dcs-told (dcs_answers.Ended n i endings.Complete) = refl
-dcs-told (dcs_answers.Ended n i (endings.Cancelled b)) = refl
-dcs-told (dcs_answers.Ended n i (endings.Interrupted b)) = refl
-dcs-told (dcs_answers.Refused r) = cond_no _ _ (refusal-some r)
+pub dcs-told : (x : dcs_answer.Answer) → answer_from dcs_end_from (number_or_zero x) (dcs_report x) ≡ dcs_meant.answer_meant x
+unfolding answer_from status_from dcs_end_from number_or_zero dcs_report ending_kind ending_byte dcs_meant.answer_meant dcs_meant.end_meant
+dcs-told (Ok (payload_answers.More n i)) = refl
+dcs-told (Ok (payload_answers.Stopped n i)) = refl
+dcs-told (Ok (payload_answers.Ended n i endings.Complete)) = refl
+dcs-told (Ok (payload_answers.Ended n i (endings.Cancelled b))) = refl
+dcs-told (Ok (payload_answers.Ended n i (endings.Interrupted b))) = refl
+dcs-told (Err r) = cond_no _ _ (refusal-some r)
 
 -- so do a ratio's
 ratio-told : (r : Ratio) → ratio_from (ratio_kind (payload_meant.ratio_meant r)) (ratio_number (payload_meant.ratio_meant r)) ≡ payload_meant.ratio_meant r
 unfolding ratio_from ratio_kind ratio_number given_kind given_number payload_meant.ratio_meant payload_meant.given_meant
 ratio-told (ratios.Raster n) = refl
-ratio-told (ratios.LeftToP1 givens.Nothing) = refl
-ratio-told (ratios.LeftToP1 (givens.Number n)) = refl
+ratio-told (ratios.LeftToP1 None) = refl
+ratio-told (ratios.LeftToP1 (Some n)) = refl
 
 -- a background's
 clear_told : (b : Bool) → eqb (cond b 1 0) 1 ≡ b
@@ -98,7 +94,7 @@ clear_told false = refl
 pub finish-told : (y : Finishing) (p : Palette)
     → finished_from (refusal_number (finish_meant y p)) (finish_report (finish_meant y p)) p ≡ finish_meant y p
 unfolding finished_from refusal_number finish_report report_numbers finish_meant payload_meant.report_meant
-finish-told (finishes.Picture r) p =
+finish-told (Ok r) p =
     ap₂
     (λ (ratio : meant.Ratio) (clear : Bool).
     meant.finished
@@ -113,7 +109,7 @@ finish-told (finishes.Picture r) p =
       palette = p;
     }))
     (ratio-told r.ratio) (clear_told r.transparent)
-finish-told (finishes.Refused n) p = cond_no _ _ (refusal-some n)
+finish-told (Err n) p = cond_no _ _ (refusal-some n)
 
 concluded-told : (x : Finished × List ℕ) → memory_concluded (finished_as x) ≡ concluded_by x
 unfolding memory_concluded finished_as concluded_by of_table
@@ -193,7 +189,7 @@ payload-fed : (s : payload_session.Session) (ns ts : List ℕ) → PayloadHeld s
     → FedAlike PayloadHeld payload_end_from (payload_fed ns ts canvas bs a) (payload_feed (s, canvas) bs a)
 unfolding payload_fed_as
 payload-fed s ns ts k canvas bs good a =
-    let y : payload_fed_record.Fed × List ℕ = payload_calls.fed_by s canvas bs a in
+    let y : payload_answer.Fed × List ℕ = payload_calls.fed_by s canvas bs a in
     let e : payload_fed ns ts canvas bs a ≡ payload_fed_as y = payload-feeds s ns ts k canvas bs a in
     record {
       answer = ap (λ (x : Told). answer_from payload_end_from x.0 x.4) e ∙ payload-told y.0.answer;
@@ -224,7 +220,7 @@ dcs-fed : (s : dcs_session.Session) (ns ts : List ℕ) → DcsHeld s ns ts → (
     → FedAlike DcsHeld dcs_end_from (dcs_fed ns ts canvas bs a) (dcs_feed (s, canvas) bs a)
 unfolding dcs_fed_as
 dcs-fed s ns ts k canvas bs good a =
-    let y : dcs_fed_record.Fed × List ℕ = dcs_calls.fed_by s canvas bs a in
+    let y : dcs_answer.Fed × List ℕ = dcs_calls.fed_by s canvas bs a in
     let e : dcs_fed ns ts canvas bs a ≡ dcs_fed_as y = dcs-feeds s ns ts k canvas bs a in
     record {
       answer = ap (λ (x : Told). answer_from dcs_end_from x.0 x.4) e ∙ dcs-told y.0.answer;

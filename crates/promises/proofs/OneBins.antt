@@ -6,14 +6,11 @@ use mathlib.Core.Path.{◌≡◌, refl}
 use lib.Dec.{eqb}
 use Rattle.bins.specs.declared.Refusal.{Refusal}
 use Rattle.bins.specs.declared.Refusal.TheVariants.{Misfit, Range, Outside}
-use Rattle.bins.specs.declared.BinAnswer.{BinAnswer}
-use Rattle.bins.specs.declared.BinAnswer.TheVariants as bins
-use Rattle.bins.specs.declared.ColumnsAnswer.{ColumnsAnswer}
-use Rattle.bins.specs.declared.ColumnsAnswer.TheVariants as columns_of
-use Rattle.bins.specs.declared.TopAnswer.{TopAnswer}
-use Rattle.bins.specs.declared.TopAnswer.TheVariants as tops
+use Rattle.bins.specs.declared.ColumnSpan.{ColumnSpan}
+use Rattle.std.specs.Prelude as rust
+use Rattle.std.specs.Prelude.{Result, Ok, Err, Some, None}
 use Rattle.bins.specs.Bins.{number_of, Answer, told, refused}
-use Rattle.bins.specs.Told.{bin_told, columns_told, top_told}
+use Rattle.bins.specs.Told.{bin_told, columns_told, row_told, top_told}
 use Rattle.bins.proofs.number.Reads as number
 use Rattle.bins.proofs.number.Kinds as number'
 use Rattle.bins.proofs.bin.Reads as bin
@@ -36,37 +33,32 @@ refusal-back Misfit = refl
 refusal-back Range = refl
 refusal-back Outside = refl
 
-bin_from : Answer ℕ → BinAnswer
-bin_from (told n) = bins.Bin n
-bin_from (refused n) = bins.Refused (refusal_at n)
+answer_from : {A B : Type 0} → (A → B) → Answer A → Result B Refusal
+answer_from f (told a) = Ok (f a)
+answer_from f (refused n) = Err (refusal_at n)
 
-bin-back : (x : BinAnswer) → bin_from (bin_told x) ≡ x
-unfolding bin_from bin_told
-bin-back (bins.Bin n) = refl
-bin-back (bins.Refused r) = rw (refusal-back r) refl
+bin-back : (x : Result ℕ Refusal) → answer_from (λ n. n) (bin_told x) ≡ x
+unfolding answer_from bin_told
+bin-back (Ok n) = refl
+bin-back (Err r) = rw (refusal-back r) refl
 
-columns_from : Answer (ℕ × ℕ) → ColumnsAnswer
-columns_from (told x) = columns_of.Columns x.0 x.1
-columns_from (refused n) = columns_of.Refused (refusal_at n)
+columns_from : ℕ × ℕ → ColumnSpan
+columns_from x = record { first = x.0; last = x.1 }
 
-columns-back : (x : ColumnsAnswer) → columns_from (columns_told x) ≡ x
-unfolding columns_from columns_told
-columns-back (columns_of.Columns first last) = refl
-columns-back (columns_of.Refused r) = rw (refusal-back r) refl
+columns-back : (x : Result ColumnSpan Refusal) → answer_from columns_from (columns_told x) ≡ x
+unfolding answer_from columns_from columns_told
+columns-back (Ok c) = refl
+columns-back (Err r) = rw (refusal-back r) refl
 
-row_from : Option ℕ → TopAnswer
-row_from none = tops.Nowhere
-row_from (some y) = tops.Row y
+row_from : Option ℕ → rust.Option ℕ
+row_from none = None
+row_from (some y) = Some y
 
-top_from : Answer (Option ℕ) → TopAnswer
-top_from (told row) = row_from row
-top_from (refused n) = tops.Refused (refusal_at n)
-
-top_back : (x : TopAnswer) → top_from (top_told x) ≡ x
-unfolding top_from row_from top_told
-top_back (tops.Row y) = refl
-top_back tops.Nowhere = refl
-top_back (tops.Refused r) = rw (refusal-back r) refl
+top_back : (x : Result (rust.Option ℕ) Refusal) → answer_from row_from (top_told x) ≡ x
+unfolding answer_from row_from top_told row_told
+top_back (Ok (Some y)) = refl
+top_back (Ok None) = refl
+top_back (Err r) = rw (refusal-back r) refl
 
 -- ---- the lines
 
@@ -74,10 +66,10 @@ pub number-one : One number'.ps number'.r number.Learnt
 number-one κs a z z' e e' p q = only p q
 
 pub bin-one : One bin'.ps bin'.r bin.Learnt
-bin-one κs a z z' e e' p q = known bin_from bin-back (only p q)
+bin-one κs a z z' e e' p q = known (answer_from (λ n. n)) bin-back (only p q)
 
 pub columns-one : One columns'.ps columns'.r columns.Learnt
-columns-one κs a z z' e e' p q = known columns_from columns-back (only p q)
+columns-one κs a z z' e e' p q = known (answer_from columns_from) columns-back (only p q)
 
 pub top-one : One top'.ps top'.r top.Learnt
-top-one κs a z z' e e' p q = known top_from top_back (only p q)
+top-one κs a z z' e e' p q = known (answer_from row_from) top_back (only p q)

@@ -11,6 +11,8 @@ use Rattle.canvas.proofs.first_pixel.Reads as first-pixel
 use Rattle.canvas.proofs.first_pixel.Kinds as first-pixel'
 use Rattle.canvas.proofs.has_picture.Reads as has-picture
 use Rattle.canvas.proofs.has_picture.Kinds as has-picture'
+use Rattle.canvas.proofs.copy_rows.Reads as copy-rows
+use Rattle.canvas.proofs.copy_rows.Kinds as copy-rows'
 use Rattle.canvas.proofs.copy_picture.Reads as copy-picture
 use Rattle.canvas.proofs.copy_picture.Kinds as copy-picture'
 use Rattle.promises.proofs.Meanings.{copied-known}
@@ -33,6 +35,9 @@ first-pixel-one κs a z z' e e' p q = only p q
 
 pub has-picture-one : One has-picture'.ps has-picture'.r has-picture.Learnt
 has-picture-one κs a z z' e e' p q = only p q
+
+pub copy-rows-one : OneLent copy-rows'.ps copy-rows'.r copy-rows.Learnt (λ κs e. e.1.1.1.1.0.now)
+copy-rows-one κs a z z' e e' p q = only p q
 
 pub copy-picture-one : OneWith copy-picture'.ps copy-picture'.r copy-picture.Learnt (λ κs e. e.1.1.1.1.0.now)
 copy-picture-one κs a z z' e e' p q = copied-known (only p q)

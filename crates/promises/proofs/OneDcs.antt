@@ -5,12 +5,10 @@ use mathlib.Core.Path.{ap}
 use Rattle.numbers.specs.Step.{opened}
 use Rattle.colours.specs.Palette.{of_table, standard}
 use Rattle.payload.specs.declared.Finished.{Finished}
-use Rattle.payload.specs.declared.Finishing.{Finishing}
+use Rattle.payload.specs.Results.{Finishing}
 use Rattle.dcs.specs.Core.{core_of}
-use Rattle.dcs.specs.declared.Fed as whole
-use Rattle.dcs.specs.declared.Opened as begun
-use Rattle.dcs.specs.declared.kernel.feeding.Fed.{Fed}
-use Rattle.dcs.specs.declared.kernel.opening.Opened.{Opened}
+use Rattle.dcs.specs.Results as whole
+use Rattle.dcs.specs.Results.{OpenedCore, FedCore}
 use Rattle.dcs.proofs.kernel.core_of.Reads as core-of
 use Rattle.dcs.proofs.kernel.core_of.Kinds as core-of'
 use Rattle.dcs.proofs.kernel.palette_of.Reads as palette-of
@@ -40,12 +38,12 @@ use Rattle.dcs.proofs.memory.core_from.Kinds as core-from'
 use Rattle.promises.proofs.One.{only, Seen, One, OneWith}
 
 -- the parts that a session was opened in
-abbrev opened_parts : begun.Opened → Opened
-opened_parts o = record { answer = o.answer; core = core_of o.session }
+abbrev opened_parts : whole.Opened → OpenedCore
+opened_parts o = record { answer = o.answer; session = core_of o.session }
 
 -- the parts of a session after a call
-abbrev fed_parts : whole.Fed → Fed
-fed_parts o = record { answer = o.answer; core = core_of o.session }
+abbrev fed_parts : whole.Fed → FedCore
+fed_parts o = record { answer = o.answer; session = core_of o.session }
 
 pub core-of-one : One core-of'.ps core-of'.r core-of.Learnt
 core-of-one κs a z z' e e' p q = only p q
@@ -60,7 +58,7 @@ pub core-open-one : One core-open'.ps core-open'.r core-open.Learnt
 core-open-one κs a z z' e e' p q = ap opened_parts (only p q)
 
 -- the answer with the parts, the registers and the canvas
-pub core-feed-one : Seen core-feed'.ps core-feed'.r core-feed.Learnt (λ κs. Fed × List ℕ × List ℕ)
+pub core-feed-one : Seen core-feed'.ps core-feed'.r core-feed.Learnt (λ κs. FedCore × List ℕ × List ℕ)
     (λ κs z e. (z, e.1.0.now, e.1.1.0.now))
 unfolding of_table
 core-feed-one κs a z z' e e' p q =

@@ -38,8 +38,6 @@ use Rattle.reading.proofs.renew.renewed.Reads as renewed
 use Rattle.reading.proofs.renew.renewed.Kinds as renewed'
 use Rattle.reading.proofs.renew.renewed_pen.Reads as renewed-pen
 use Rattle.reading.proofs.renew.renewed_pen.Kinds as renewed-pen'
-use Rattle.frame.proofs.sizes.larger.Reads as larger
-use Rattle.frame.proofs.sizes.larger.Kinds as larger'
 use Rattle.frame.proofs.sizes.exceeds.Reads as exceeds
 use Rattle.frame.proofs.sizes.exceeds.Kinds as exceeds'
 use Rattle.frame.proofs.sizes.reaches.Reads as reaches
@@ -104,9 +102,6 @@ number-one κs a z z' e e' p q = only p q
 pub process-one : Seen process'.ps process'.r process.Learnt (λ κs. Reached)
     (λ κs z e. record { progress = z; palette = of_table e.1.1.0.now; canvas = e.1.1.1.0.now })
 process-one κs a z z' e e' p q = only p q
-
-pub larger-one : One larger'.ps larger'.r larger.Learnt
-larger-one κs a z z' e e' p q = only p q
 
 pub exceeds-one : One exceeds'.ps exceeds'.r exceeds.Learnt
 exceeds-one κs a z z' e e' p q = only p q

@@ -3,10 +3,10 @@
 use Prim.Native.Nat.{ℕ}
 use mathlib.Core.List.{List}
 use mathlib.Core.Path.{◌≡◌}
-use Rattle.payload.specs.declared.Fed as payload_fed
+use Rattle.payload.specs.Results as payload_fed
 use Rattle.payload.specs.declared.Session as payload_session
 use Rattle.payload.specs.Session as payload
-use Rattle.dcs.specs.declared.Fed as dcs_fed
+use Rattle.dcs.specs.Results as dcs_fed
 use Rattle.dcs.specs.declared.Session as dcs_session
 use Rattle.dcs.specs.Session as dcs
 use Rattle.inplace.proofs.place_and_feed_payload.Reads as place-and-feed-payload

@@ -5,11 +5,10 @@ use mathlib.Core.Path.{ap}
 use Rattle.colours.specs.Palette.{of_table, standard}
 use Rattle.payload.specs.Core.{setup_of}
 use Rattle.payload.specs.Session.{blank_frame}
-use Rattle.payload.specs.declared.Fed as whole
+use Rattle.payload.specs.Results as whole
 use Rattle.payload.specs.declared.Finished.{Finished}
-use Rattle.payload.specs.declared.Finishing.{Finishing}
+use Rattle.payload.specs.Results.{Finishing}
 use Rattle.payload.specs.declared.Life.TheVariants as lives
-use Rattle.payload.specs.declared.Opened as begun
 use Rattle.payload.specs.declared.Session.{Session}
 use Rattle.payload.specs.declared.kernel.feeding.Fed.{Fed}
 use Rattle.payload.specs.declared.kernel.opening.Opened.{Opened}
@@ -35,6 +34,8 @@ use Rattle.payload.proofs.deferred.reserve.Reads as reserve
 use Rattle.payload.proofs.deferred.reserve.Kinds as reserve'
 use Rattle.payload.proofs.deferred.start.Reads as start
 use Rattle.payload.proofs.deferred.start.Kinds as start'
+use Rattle.payload.proofs.refusals.has_failed.Reads as has-failed
+use Rattle.payload.proofs.refusals.has_failed.Kinds as has-failed'
 use Rattle.payload.proofs.refusals.may_open.Reads as may-open
 use Rattle.payload.proofs.refusals.may_open.Kinds as may-open'
 use Rattle.payload.proofs.refusals.finish_refusal.Reads as finish-refusal
@@ -82,7 +83,7 @@ use Rattle.payload.proofs.memory.frame_from.Kinds as frame-from'
 use Rattle.promises.proofs.One.{only, Seen, One, OneWith}
 
 -- the parts that a session was opened in
-abbrev opened_parts : begun.Opened → Opened
+abbrev opened_parts : whole.Opened → Opened
 opened_parts o = record { answer = o.answer; setup = setup_of o.session; life = o.session.life; frame = o.session.frame }
 
 -- the parts of a session after a call
@@ -108,7 +109,7 @@ pub blank-frame-one : One blank-frame'.ps blank-frame'.r blank-frame.Learnt
 blank-frame-one κs a z z' e e' p q = only p q
 
 pub core-open-one : OneWith core-open'.ps core-open'.r core-open.Learnt (λ κs e. e.1.1.1.1.0.now)
-core-open-one κs a z z' e e' p q = ap (λ (o : begun.Opened × List ℕ). (opened_parts o.0, o.1)) (only p q)
+core-open-one κs a z z' e e' p q = ap (λ (o : whole.Opened × List ℕ). (opened_parts o.0, o.1)) (only p q)
 
 -- the answer with the parts, the registers and the canvas
 pub core-feed-one : Seen core-feed'.ps core-feed'.r core-feed.Learnt (λ κs. Fed × List ℕ × List ℕ)
@@ -124,6 +125,9 @@ core-finish-one κs a z z' e e' p q = ap (λ (o : Finished × List ℕ). (o.0.an
 
 pub reserve-one : One reserve'.ps reserve'.r reserve.Learnt
 reserve-one κs a z z' e e' p q = ap opened_parts (only p q)
+
+pub has-failed-one : One has-failed'.ps has-failed'.r has-failed.Learnt
+has-failed-one κs a z z' e e' p q = only p q
 
 pub start-one : OneWith start'.ps start'.r start.Learnt (λ κs e. e.1.1.1.0.now)
 start-one κs a z z' e e' p q =

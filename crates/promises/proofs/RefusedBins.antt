@@ -10,14 +10,11 @@ use Rattle.canvas.specs.Picture.{area_of, span}
 use Rattle.bins.specs.declared.Shape.{Shape}
 use Rattle.bins.specs.declared.Setting.{Setting}
 use Rattle.bins.specs.declared.Refusal.{Refusal}
-use Rattle.bins.specs.declared.BinAnswer.{BinAnswer}
-use Rattle.bins.specs.declared.BinAnswer.TheVariants as bins
-use Rattle.bins.specs.declared.ColumnsAnswer.{ColumnsAnswer}
-use Rattle.bins.specs.declared.ColumnsAnswer.TheVariants as columns
-use Rattle.bins.specs.declared.TopAnswer.{TopAnswer}
-use Rattle.bins.specs.declared.TopAnswer.TheVariants as tops
+use Rattle.bins.specs.declared.ColumnSpan.{ColumnSpan}
+use Rattle.std.specs.Prelude as rust
+use Rattle.std.specs.Prelude.{Result, Ok, Err}
 use Rattle.bins.specs.Bins.{number_of, covered, Answer, told, refused, picture_fits, setting_fits, answered, asked_bin, asked_columns, asked_top}
-use Rattle.bins.specs.Told.{bin_told, columns_told, top_told}
+use Rattle.bins.specs.Told.{bin_told, columns_told, row_told, top_told}
 use Rattle.promises.proofs.Choices.{Tells, tells-less, tells-most, tells-and, later-case, only-case}
 use Rattle.promises.proofs.RefusedCopies.{HasPicture, tells-picture}
 
@@ -131,10 +128,10 @@ top-exactly p canvas s bin colour = answered-exactly p (length canvas) s (tells-
 
 -- ---- of the code
 
--- its answer is the refusal of a number; `refusing` makes an answer of a refusal
-pub record Gives {X : Type 0} (refusing : Refusal → X) (x : X) (n : ℕ) : Type 0 where
+-- its answer is the refusal of a number
+pub record Gives {A : Type 0} (x : Result A Refusal) (n : ℕ) : Type 0 where
   pub refusal : Refusal
-  pub answer : x ≡ refusing refusal
+  pub answer : x ≡ Err refusal
   pub number : number_of refusal ≡ n
 
 -- said in other words
@@ -148,46 +145,37 @@ exactly-as k e =
       only = λ n o. e.only n ((k n).0 o);
     }
 
-bin_gives : (x : BinAnswer) (n : ℕ) → Gives bins.Refused x n ↔ (bin_told x ≡ refused n)
-unfolding bin_told
-bin_gives x n = (λ g. ap bin_told g.answer ∙ ap refused g.number, go x)
+-- so is what it tells, however a value is told
+gives : {A B : Type 0} (tell : Result A Refusal → Answer B) (f : A → B) → ((a : A) → tell (Ok a) ≡ told (f a))
+    → ((r : Refusal) → tell (Err r) ≡ refused (number_of r)) → (x : Result A Refusal) (n : ℕ) → Gives x n ↔ (tell x ≡ refused n)
+gives {A} tell f tells refuses x n = (λ g. ap tell g.answer ∙ refuses g.refusal ∙ ap refused g.number, go x)
   where
-    go : (y : BinAnswer) → bin_told y ≡ refused n → Gives bins.Refused y n
-    go (bins.Bin b) e = absurd (told-refused e)
-    go (bins.Refused r) e = record { refusal = r; answer = refl; number = cc }
-
-columns-gives : (x : ColumnsAnswer) (n : ℕ) → Gives columns.Refused x n ↔ (columns_told x ≡ refused n)
-unfolding columns_told
-columns-gives x n = (λ g. ap columns_told g.answer ∙ ap refused g.number, go x)
-  where
-    go : (y : ColumnsAnswer) → columns_told y ≡ refused n → Gives columns.Refused y n
-    go (columns.Columns first last) e = absurd (told-refused e)
-    go (columns.Refused r) e = record { refusal = r; answer = refl; number = cc }
-
-top-gives : (x : TopAnswer) (n : ℕ) → Gives tops.Refused x n ↔ (top_told x ≡ refused n)
-unfolding top_told
-top-gives x n = (λ g. ap top_told g.answer ∙ ap refused g.number, go x)
-  where
-    go : (y : TopAnswer) → top_told y ≡ refused n → Gives tops.Refused y n
-    go (tops.Row y) e = absurd (told-refused e)
-    go tops.Nowhere e = absurd (told-refused e)
-    go (tops.Refused r) e = record { refusal = r; answer = refl; number = cc }
+    go : (y : Result A Refusal) → tell y ≡ refused n → Gives y n
+    go (Ok a) e = absurd (told-refused (sym (tells a) ∙ e))
+    go (Err r) e = let k = sym (refuses r) ∙ e in record { refusal = r; answer = refl; number = cc }
 
 module _ (p : Shape) (size : ℕ) (s : Setting) where
   -- `bins::bin`
-  pub bin-refused : (column : ℕ) (x : BinAnswer) → bin_told x ≡ asked_bin p size s column
-      → RefusedExactly p size s (ColumnInside s column) (Gives bins.Refused x)
-  bin-refused column x e = exactly-as (λ n. (λ g. sym e ∙ (bin_gives x n).0 g, λ q. (bin_gives x n).1 (e ∙ q))) (bin-exactly p size s column)
+  pub bin-refused : (column : ℕ) (x : Result ℕ Refusal) → bin_told x ≡ asked_bin p size s column
+      → RefusedExactly p size s (ColumnInside s column) (Gives x)
+  unfolding bin_told
+  bin-refused column x e =
+      let g = gives bin_told (λ n. n) (λ a. refl) (λ r. refl) x in
+      exactly-as (λ n. (λ h. sym e ∙ (g n).0 h, λ q. (g n).1 (e ∙ q))) (bin-exactly p size s column)
 
   -- `bins::columns`
-  pub columns-refused : (bin : ℕ) (x : ColumnsAnswer) → columns_told x ≡ asked_columns p size s bin
-      → RefusedExactly p size s (bin < s.count) (Gives columns.Refused x)
+  pub columns-refused : (bin : ℕ) (x : Result ColumnSpan Refusal) → columns_told x ≡ asked_columns p size s bin
+      → RefusedExactly p size s (bin < s.count) (Gives x)
+  unfolding columns_told
   columns-refused bin x e =
-      exactly-as (λ n. (λ g. sym e ∙ (columns-gives x n).0 g, λ q. (columns-gives x n).1 (e ∙ q))) (columns-exactly p size s bin)
+      let g = gives columns_told (λ c. (c.first, c.last)) (λ a. refl) (λ r. refl) x in
+      exactly-as (λ n. (λ h. sym e ∙ (g n).0 h, λ q. (g n).1 (e ∙ q))) (columns-exactly p size s bin)
 
 -- `bins::top`
-pub top-refused : (p : Shape) (canvas : List ℕ) (s : Setting) (bin : ℕ) (colour : List ℕ) (x : TopAnswer)
+pub top-refused : (p : Shape) (canvas : List ℕ) (s : Setting) (bin : ℕ) (colour : List ℕ) (x : Result (rust.Option ℕ) Refusal)
     → top_told x ≡ asked_top p canvas s bin colour
-    → RefusedExactly p (length canvas) s (bin < s.count) (Gives tops.Refused x)
+    → RefusedExactly p (length canvas) s (bin < s.count) (Gives x)
+unfolding top_told
 top-refused p canvas s bin colour x e =
-    exactly-as (λ n. (λ g. sym e ∙ (top-gives x n).0 g, λ q. (top-gives x n).1 (e ∙ q))) (top-exactly p canvas s bin colour)
+    let g = gives top_told row_told (λ a. refl) (λ r. refl) x in
+    exactly-as (λ n. (λ h. sym e ∙ (g n).0 h, λ q. (g n).1 (e ∙ q))) (top-exactly p canvas s bin colour)

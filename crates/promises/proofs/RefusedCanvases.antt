@@ -1,4 +1,5 @@
 -- After a refusal in a feed the canvas holds what came before the refused byte or command (rule 5.6).
+use Rattle.std.specs.Prelude.{Err}
 use Prim.Native.Nat.{ℕ, ◌≤◌}
 use mathlib.Core.List.{List}
 use mathlib.Core.Logic.{inl, inr}
@@ -18,7 +19,6 @@ use Rattle.payload.specs.declared.Answer.TheVariants as answers
 use Rattle.payload.specs.declared.Session.{Session}
 use Rattle.payload.specs.Session.{fed_by}
 use Rattle.payload.specs.History.{Stands}
-use Rattle.dcs.specs.declared.Answer.TheVariants as dcs_answers
 use Rattle.dcs.specs.declared.Session as dcs_session
 use Rattle.dcs.specs.Session as dcs_coded
 use Rattle.dcs.specs.History as dcs
@@ -32,7 +32,7 @@ use Rattle.promises.proofs.RefusedSessions.{payload_ran, dcs_ran}
 
 -- A payload feed that 4 to 7 refuse: a byte ends or is a refused command, and the canvas shows the drawing of the bytes and commands before it.
 pub payload-feed-before : {opening : List ℕ} {s : Session} {l : List ℕ} {m : calls.Session Reading} → Stands opening s l m → (bs : List ℕ) (a : ℕ) (x : Refusal)
-    → number_of x ≤ 7 → (fed_by s l bs a).0.answer ≡ answers.Refused x
+    → number_of x ≤ 7 → (fed_by s l bs a).0.answer ≡ Err x
     → (f : Drawing)
     × MeetsByte (payload_step m.setting) a m.state bs (λ r b. RefusedAt m.setting (commands_at r b) r.drawing f (number_of x))
     × ((fed_by s l bs a).1 ≡ calls.shown m.setting.stride (some f) opening)
@@ -73,7 +73,7 @@ module _ (s : Setting) (b : ℕ) (u : Phase) (n : ℕ) where
 
 module _ (l : Limits) (stride : ℕ) (p : Palette) (opening : List ℕ) {s : dcs_session.Session} {c : List ℕ} {m : calls.Session Phase}
     (k : dcs.Stands l stride p opening s c m)
-    (bs : List ℕ) (a : ℕ) (x : Refusal) (e : (dcs_coded.fed_by s c bs a).0.answer ≡ dcs_answers.Refused x) where
+    (bs : List ℕ) (a : ℕ) (x : Refusal) (e : (dcs_coded.fed_by s c bs a).0.answer ≡ Err x) where
   left : number_of x ≤ 7 → RunRefused (dcs_step m.setting p) a m.state bs (dcs_ran p m (length c) a bs).state (number_of x)
   left low = (dcs-feed-shows l stride p opening k bs a x low e).0
 

@@ -9,8 +9,9 @@ use lib.Dec.{leb}
 use lib.ListN.{length, drop}
 use Rattle.canvas.specs.Copy.{number_of, has_picture, packed, size_of, copied}
 use Rattle.canvas.specs.Picture.{Area, rows_of, fits}
-use Rattle.canvas.specs.declared.Copied.{Copied}
-use Rattle.canvas.specs.declared.Copied.TheVariants.{Done, Misfit, Short}
+use Rattle.std.specs.Prelude.{Result, Ok, Err}
+use Rattle.canvas.specs.declared.Uncopied.{Uncopied}
+use Rattle.canvas.specs.declared.Uncopied.TheVariants.{Misfit, Short}
 use Rattle.promises.proofs.Choices.{Tells, tells-less, tells-most, tells-and, later-case, only-case}
 
 -- neither the stride nor the size is 0, and the canvas has room for the size
@@ -80,34 +81,34 @@ module _ (stride : ℕ) (area : Area) (canvas out : List ℕ) where
 
   -- ---- of the code: its answer and what the buffer holds then are the definition's
 
-  module _ (x : Copied) (l : List ℕ) (e : let a : ℕ × List ℕ = (number_of x, l) in a ≡ copied stride area canvas out) where
+  module _ (x : Result (Unit {0}) Uncopied) (l : List ℕ) (e : let a : ℕ × List ℕ = (number_of x, l) in a ≡ copied stride area canvas out) where
     named : number_of x ≡ (copied stride area canvas out).0
     named = ap (λ (a : ℕ × List ℕ). a.0) e
 
-    misfit-number : (y : Copied) → (y ≡ Misfit) ↔ (number_of y ≡ 12)
+    misfit-number : (y : Result (Unit {0}) Uncopied) → (y ≡ Err Misfit) ↔ (number_of y ≡ 12)
     unfolding number_of
-    misfit-number Done = (λ q. let never : ◌≡◌ {A = ℕ} 0 1 = cc in absurd (omega arith), λ q. absurd (omega arith))
-    misfit-number Misfit = (λ q. refl, λ q. refl)
-    misfit-number Short = (λ q. let never : ◌≡◌ {A = ℕ} 0 1 = cc in absurd (omega arith), λ q. absurd (omega arith))
+    misfit-number (Ok _) = (λ q. let never : ◌≡◌ {A = ℕ} 0 1 = cc in absurd (omega arith), λ q. absurd (omega arith))
+    misfit-number (Err Misfit) = (λ q. refl, λ q. refl)
+    misfit-number (Err Short) = (λ q. let never : ◌≡◌ {A = ℕ} 0 1 = cc in absurd (omega arith), λ q. absurd (omega arith))
 
-    short-number : (y : Copied) → (y ≡ Short) ↔ (number_of y ≡ 14)
+    short-number : (y : Result (Unit {0}) Uncopied) → (y ≡ Err Short) ↔ (number_of y ≡ 14)
     unfolding number_of
-    short-number Done = (λ q. let never : ◌≡◌ {A = ℕ} 0 1 = cc in absurd (omega arith), λ q. absurd (omega arith))
-    short-number Misfit = (λ q. let never : ◌≡◌ {A = ℕ} 0 1 = cc in absurd (omega arith), λ q. absurd (omega arith))
-    short-number Short = (λ q. refl, λ q. refl)
+    short-number (Ok _) = (λ q. let never : ◌≡◌ {A = ℕ} 0 1 = cc in absurd (omega arith), λ q. absurd (omega arith))
+    short-number (Err Misfit) = (λ q. let never : ◌≡◌ {A = ℕ} 0 1 = cc in absurd (omega arith), λ q. absurd (omega arith))
+    short-number (Err Short) = (λ q. refl, λ q. refl)
 
-    done-number : (y : Copied) → number_of y ≡ 0 → y ≡ Done
+    done-number : (y : Result (Unit {0}) Uncopied) → number_of y ≡ 0 → y ≡ Ok tt
     unfolding number_of
-    done-number Done q = refl
-    done-number Misfit q = absurd (omega arith)
-    done-number Short q = absurd (omega arith)
+    done-number (Ok _) q = refl
+    done-number (Err Misfit) q = absurd (omega arith)
+    done-number (Err Short) q = absurd (omega arith)
 
     -- 12 and 14 of the code, and the buffer after them
-    pub copy-misfit : (x ≡ Misfit) ↔ (¬ HasPicture stride (length canvas) area)
+    pub copy-misfit : (x ≡ Err Misfit) ↔ (¬ HasPicture stride (length canvas) area)
     copy-misfit = (λ q. copy-twelve.0 (sym named ∙ (misfit-number x).0 q), λ h. (misfit-number x).1 (named ∙ copy-twelve.1 h))
 
-    pub copy-short : (x ≡ Short) ↔ (HasPicture stride (length canvas) area × (length out < 4 * (area.width * area.height)))
+    pub copy-short : (x ≡ Err Short) ↔ (HasPicture stride (length canvas) area × (length out < 4 * (area.width * area.height)))
     copy-short = (λ q. copy-fourteen.0 (sym named ∙ (short-number x).0 q), λ h. (short-number x).1 (named ∙ copy-fourteen.1 h))
 
-    pub copy-unwritten : ¬ (x ≡ Done) → l ≡ out
+    pub copy-unwritten : ¬ (x ≡ Ok tt) → l ≡ out
     copy-unwritten other = ap (λ (a : ℕ × List ℕ). a.1) e ∙ copy-keeps (λ q. other (done-number x (named ∙ q)))

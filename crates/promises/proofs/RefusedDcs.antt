@@ -1,4 +1,5 @@
 -- The refusals of the code's DCS sessions are the definition's, and leave what rules 5.6 and 5.7 say.
+use Rattle.std.specs.Prelude.{Ok, Err}
 use Prim.Native.Nat.{ℕ, ◌*◌, ◌≤◌}
 use mathlib.Core.Bool.{Bool, true, false}
 use mathlib.Core.List.{List, [], ◌∷◌}
@@ -20,10 +21,7 @@ use Rattle.frame.specs.declared.Refusal.TheVariants.{Failed, Opening, Canvas}
 use Rattle.meaning.specs.Calls as calls
 use Rattle.meaning.specs.Payload as meant
 use Rattle.meaning.specs.Sessions.{Reading, opened, Phase, dcs_step}
-use Rattle.payload.specs.declared.Opening.TheVariants as openings
-use Rattle.payload.specs.declared.Finishing.TheVariants as finishes
-use Rattle.payload.specs.declared.refusals.Verdict.{Verdict}
-use Rattle.payload.specs.declared.refusals.Verdict.TheVariants as judged
+use Rattle.payload.specs.Results.{Verdict}
 use Rattle.payload.specs.Deferred.{no_settings}
 use Rattle.payload.specs.Refusals.{openable, is_failed, feed_judged, finish_judged}
 use Rattle.payload.specs.Session as coded
@@ -31,8 +29,8 @@ use Rattle.payload.specs.History as payload
 use Rattle.payload.specs.Meant as payload_meant
 use Rattle.payload.proofs.Openings.{ready-stands}
 use Rattle.payload.proofs.Judgements as judgements
-use Rattle.dcs.specs.declared.Answer.{Answer}
-use Rattle.dcs.specs.declared.Answer.TheVariants as answers
+use Rattle.dcs.specs.Results.{Answer}
+use Rattle.payload.specs.declared.Answer.TheVariants as answers
 use Rattle.dcs.specs.declared.Phase as phase
 use Rattle.dcs.specs.declared.Phase.TheVariants as phases
 use Rattle.dcs.specs.declared.Session.{Session}
@@ -49,12 +47,12 @@ use Rattle.promises.proofs.RefusedPayload.{judged-known, finishes-exactly, Untou
 use Rattle.promises.proofs.RefusedRuns.{RunRefused}
 use Rattle.promises.proofs.RefusedSessions.{payload_area, dcs_area, Openable, dcs_ran, dcs-nine, dcs-twelve, dcs-first, dcs-bytes, dcs-fails}
 
-answer-known : (y : Answer) (x : Refusal) → answer_meant y ≡ calls.refused (number_of x) → y ≡ answers.Refused x
+answer-known : (y : Answer) (x : Refusal) → answer_meant y ≡ calls.refused (number_of x) → y ≡ Err x
 unfolding answer_meant
-answer-known (answers.More n i) x e = let never : ◌≡◌ {A = ℕ} 0 1 = cc in absurd (omega arith)
-answer-known (answers.Stopped n i) x e = let never : ◌≡◌ {A = ℕ} 0 1 = cc in absurd (omega arith)
-answer-known (answers.Ended n i b) x e = let never : ◌≡◌ {A = ℕ} 0 1 = cc in absurd (omega arith)
-answer-known (answers.Refused y) x e = ap answers.Refused (refusal-known (cc))
+answer-known (Ok (answers.More n i)) x e = let never : ◌≡◌ {A = ℕ} 0 1 = cc in absurd (omega arith)
+answer-known (Ok (answers.Stopped n i)) x e = let never : ◌≡◌ {A = ℕ} 0 1 = cc in absurd (omega arith)
+answer-known (Ok (answers.Ended n i b)) x e = let never : ◌≡◌ {A = ℕ} 0 1 = cc in absurd (omega arith)
+answer-known (Err y) x e = ap Err (refusal-known (cc))
 
 module _ (l : Limits) (stride : ℕ) (p : Palette) (opening : List ℕ) where
   -- before the payload the picture fits every canvas of the opening's length, begun or not
@@ -98,7 +96,7 @@ module _ (l : Limits) (stride : ℕ) (p : Palette) (opening : List ℕ) where
 
     -- The code's feed is refused with a number exactly when the definition's is.
     pub dcs-feed-exactly : (x : Refusal)
-        → ((fed_by s c bs a).0.answer ≡ answers.Refused x) ↔ ((calls.feed_dcs p m (length c) a bs).answer ≡ calls.refused (number_of x))
+        → ((fed_by s c bs a).0.answer ≡ Err x) ↔ ((calls.feed_dcs p m (length c) a bs).answer ≡ calls.refused (number_of x))
     unfolding answer_meant
     dcs-feed-exactly x = (
       λ e. sym (feed-stands l stride p opening k bs a).answer ∙ ap answer_meant e,
@@ -107,30 +105,30 @@ module _ (l : Limits) (stride : ℕ) (p : Palette) (opening : List ℕ) where
 
     -- refused before a byte is read, whichever canvas is lent
     refused-before : (lent : List ℕ) (x : Refusal) → calls.feed_refusal dcs_area m (length lent) a ≡ some (number_of x)
-        → fed_by s lent bs a ≡ (record { answer = answers.Refused x; session = s }, lent)
+        → fed_by s lent bs a ≡ (record { answer = Err x; session = s }, lent)
     unfolding fed_by fed_as
     refused-before lent x e =
         ap (λ (j : Verdict). fed_as j s lent bs a) (judged-known (feed_judged s.payload (length lent) a) x (judged-meant k (length lent) a ∙ e))
 
     -- 9, 12 and 13 leave the session and every byte of the canvas as they were.
-    pub dcs-feed-keeps : (x : Refusal) → 8 ≤ number_of x → (fed_by s c bs a).0.answer ≡ answers.Refused x
-        → fed_by s c bs a ≡ (record { answer = answers.Refused x; session = s }, c)
+    pub dcs-feed-keeps : (x : Refusal) → 8 ≤ number_of x → (fed_by s c bs a).0.answer ≡ Err x
+        → fed_by s c bs a ≡ (record { answer = Err x; session = s }, c)
     dcs-feed-keeps x high e = refused-before c x (dcs-first p m (length c) a bs (number_of x) high ((dcs-feed-exactly x).0 e))
 
     -- A failed session is 9, whichever canvas is lent, and all stays as it was.
-    pub dcs-nine-keeps : (lent : List ℕ) → m.failed ≡ true → fed_by s lent bs a ≡ (record { answer = answers.Refused Failed; session = s }, lent)
+    pub dcs-nine-keeps : (lent : List ℕ) → m.failed ≡ true → fed_by s lent bs a ≡ (record { answer = Err Failed; session = s }, lent)
     unfolding number_of
     dcs-nine-keeps lent h = refused-before lent Failed (dcs-first p m (length lent) a bs 9 (omega arith) ((dcs-nine p m (length lent) a bs).1 h))
 
     -- Another is 12 on a canvas that does not fit, and all stays as it was.
     pub dcs-twelve-keeps : (lent : List ℕ) → ¬ (m.failed ≡ true) → any.Misfits dcs_area m (length lent)
-        → fed_by s lent bs a ≡ (record { answer = answers.Refused Canvas; session = s }, lent)
+        → fed_by s lent bs a ≡ (record { answer = Err Canvas; session = s }, lent)
     unfolding number_of
     dcs-twelve-keeps lent h misfit =
         refused-before lent Canvas (dcs-first p m (length lent) a bs 12 (omega arith) ((dcs-twelve p m (length lent) a bs).1 (h, misfit)))
 
     -- 1 to 7 leave the canvas showing what came before the refused byte or command; before `q` nothing is written.
-    pub dcs-feed-shows : (x : Refusal) → number_of x ≤ 7 → (fed_by s c bs a).0.answer ≡ answers.Refused x
+    pub dcs-feed-shows : (x : Refusal) → number_of x ≤ 7 → (fed_by s c bs a).0.answer ≡ Err x
         → RunRefused (dcs_step m.setting p) a m.state bs (dcs_ran p m (length c) a bs).state (number_of x)
         × ((fed_by s c bs a).1 ≡ calls.shown m.setting.stride (calls.drawing_of (dcs_ran p m (length c) a bs).state) opening)
     unfolding calls.dcs_shown calls.session_after
@@ -145,7 +143,7 @@ module _ (l : Limits) (stride : ℕ) (p : Palette) (opening : List ℕ) where
 
   -- The code's finish is refused with a number exactly when the definition's is.
   pub dcs-finish-exactly : {s : Session} {c : List ℕ} {m : calls.Session Phase} → Stands l stride p opening s c m → (owner : Palette) (x : Refusal)
-      → ((finished_by s owner c).0.answer ≡ finishes.Refused x) ↔ (calls.finish_dcs_session m (length c) ≡ meant.turned_down (number_of x))
+      → ((finished_by s owner c).0.answer ≡ Err x) ↔ (calls.finish_dcs_session m (length c) ≡ meant.turned_down (number_of x))
   dcs-finish-exactly k owner = finishes-exactly (finish-stands l stride p opening owner k)
 
   pub finish-meant : {s : Session} {c : List ℕ} {m : calls.Session Phase} → Stands l stride p opening s c m → (size : ℕ)
@@ -166,19 +164,19 @@ module _ (l : Limits) (stride : ℕ) (p : Palette) (opening : List ℕ) where
     ended-before : (x : Refusal)
         → calls.first_of (record { holds = m.failed; number = 9 } ∷ record { holds = calls.misfits dcs_area m (length lent); number = 12 } ∷ [])
         ≡ some (number_of x)
-        → finished_by s owner lent ≡ (record { answer = finishes.Refused x; palette = owner }, lent)
+        → finished_by s owner lent ≡ (record { answer = Err x; palette = owner }, lent)
     unfolding finished_by finished_as coded.turned_away
     ended-before x e =
         ap (λ (j : Verdict). finished_as j s owner lent) (judged-known (finish_judged s.payload (length lent)) x (finish-meant k (length lent) ∙ e))
 
     -- A finish of a failed session is 9, whichever canvas is lent.
-    pub dcs-finish-nine-keeps : m.failed ≡ true → finished_by s owner lent ≡ (record { answer = finishes.Refused Failed; palette = owner }, lent)
+    pub dcs-finish-nine-keeps : m.failed ≡ true → finished_by s owner lent ≡ (record { answer = Err Failed; palette = owner }, lent)
     unfolding number_of calls.first_of
     dcs-finish-nine-keeps h = ended-before Failed (rw h refl)
 
     -- One of another is 12 on a canvas that does not fit.
     pub dcs-finish-twelve-keeps : ¬ (m.failed ≡ true) → any.Misfits dcs_area m (length lent)
-        → finished_by s owner lent ≡ (record { answer = finishes.Refused Canvas; palette = owner }, lent)
+        → finished_by s owner lent ≡ (record { answer = Err Canvas; palette = owner }, lent)
     unfolding number_of calls.first_of calls.misfits
     dcs-finish-twelve-keeps live misfits =
         ended-before Canvas (rw ((tells-fails tells-itself).1 live, (any.tells-misfits dcs_area m (length lent)).1 misfits) refl)
@@ -186,7 +184,7 @@ module _ (l : Limits) (stride : ℕ) (p : Palette) (opening : List ℕ) where
   -- ---- opening
 
   -- The code's opening is 11 exactly when a number is out of its range or there is no whole row; it is lent no canvas, and writes nothing.
-  pub dcs-open-exactly : ((opened_by l stride p (length opening)).answer ≡ openings.Refused Opening)
+  pub dcs-open-exactly : ((opened_by l stride p (length opening)).answer ≡ Err Opening)
       ↔ (¬ Openable (payload_meant.limits_meant l) stride (length opening))
   dcs-open-exactly = Iff.trans (open-refused l stride p (length opening)) (tells-fails (tells-openable l stride (length opening)))
 
@@ -200,8 +198,8 @@ module _ (s : Session) (owner : Palette) (canvas : List ℕ) where
 
   finish-keeps : (j : Verdict) → Untouched owner canvas (finished_as j s owner canvas)
   unfolding finished_as coded.turned_away
-  finish-keeps judged.Fine = phase-keeps s.phase
-  finish-keeps (judged.Refused n) = λ x e. (refl, refl)
+  finish-keeps (Ok tt) = phase-keeps s.phase
+  finish-keeps (Err n) = λ x e. (refl, refl)
 
   -- Every refused finish, of whichever session and canvas, hands back the owner's palette and writes nothing.
   pub dcs-finish-keeps : Untouched owner canvas (finished_by s owner canvas)

@@ -1,4 +1,5 @@
 -- The refusals of the code's DCS feed, each in one sentence (rules 5.1, 5.2).
+use Rattle.std.specs.Prelude.{Err}
 use Prim.Native.Nat.{ℕ, ◌*◌, ◌≤◌, ◌<◌}
 use mathlib.Core.Bool.{true}
 use mathlib.Core.List.{List}
@@ -17,7 +18,7 @@ use Rattle.meaning.specs.Commands.{Command}
 use Rattle.meaning.specs.Drawing.{Drawing, refused, draw_command}
 use Rattle.meaning.specs.Reader.{refuse}
 use Rattle.meaning.specs.Sessions.{Phase, dcs_step, dcs_rested}
-use Rattle.dcs.specs.declared.Answer.TheVariants as answers
+use Rattle.payload.specs.declared.Answer.TheVariants as answers
 use Rattle.dcs.specs.declared.Session.{Session}
 use Rattle.dcs.specs.Session.{fed_by}
 use Rattle.dcs.specs.History.{Stands}
@@ -41,7 +42,7 @@ module _ (l : Limits) (stride : ℕ) (p : Palette) (opening : List ℕ) {s : Ses
       × ((¬ any.Misfits dcs_area m (length c)) × ((¬ (a < 6 * m.setting.limits.width)) × MeetsByte (dcs_step m.setting p) a m.state bs P))
 
   comes : (x : Refusal) (P : Phase → ℕ → Type 0) → number_of x ≤ 7 → ((t : Phase) (b : ℕ) → ((u : Phase) × DcsRefused m.setting t b u (number_of x)) ↔ P t b)
-      → ((fed_by s c bs a).0.answer ≡ answers.Refused x) ↔ Comes P
+      → ((fed_by s c bs a).0.answer ≡ Err x) ↔ Comes P
   comes x P low f =
       Iff.trans (dcs-feed-exactly l stride p opening k bs a x)
       (Iff.trans (dcs-bytes p m (length c) a bs (number_of x) low)
@@ -58,17 +59,17 @@ module _ (l : Limits) (stride : ℕ) (p : Palette) (opening : List ℕ) {s : Ses
       run = meets-exactly (dcs_step m.setting p) (dcs_rested m.setting) a m.state bs (number_of x) P byte
 
   -- 1 is given exactly when the first byte is not 1B or 90, or the byte after 1B is not `P`.
-  pub dcs-feed-one : ((fed_by s c bs a).0.answer ≡ answers.Refused Introducer) ↔ Comes NotIntroducing
+  pub dcs-feed-one : ((fed_by s c bs a).0.answer ≡ Err Introducer) ↔ Comes NotIntroducing
   unfolding number_of
   dcs-feed-one = comes Introducer NotIntroducing (omega arith) (λ t b. one_byte m.setting b t)
 
   -- 2 is given exactly when a header byte is 18, 1A, 1B or 80-9F.
-  pub dcs-feed-two : ((fed_by s c bs a).0.answer ≡ answers.Refused HeaderEnded) ↔ Comes (λ t b. InHeader t (Cuts b))
+  pub dcs-feed-two : ((fed_by s c bs a).0.answer ≡ Err HeaderEnded) ↔ Comes (λ t b. InHeader t (Cuts b))
   unfolding number_of
   dcs-feed-two = comes HeaderEnded (λ t b. InHeader t (Cuts b)) (omega arith) (λ t b. two-byte m.setting b t)
 
   -- 3 is given exactly when a header byte is any other than a digit, `;`, `q` or a skipped one.
-  pub dcs-feed-three : ((fed_by s c bs a).0.answer ≡ answers.Refused HeaderByte) ↔ Comes (λ t b. InHeader t (Strange b × (¬ Cuts b)))
+  pub dcs-feed-three : ((fed_by s c bs a).0.answer ≡ Err HeaderByte) ↔ Comes (λ t b. InHeader t (Strange b × (¬ Cuts b)))
   unfolding number_of
   dcs-feed-three = comes HeaderByte (λ t b. InHeader t (Strange b × (¬ Cuts b))) (omega arith) (λ t b. three-byte m.setting b t)
 
@@ -78,26 +79,26 @@ module _ (l : Limits) (stride : ℕ) (p : Palette) (opening : List ℕ) {s : Ses
 
   comes-to : (x : Refusal) (P : Command → Drawing → Type 0) → 4 ≤ number_of x → number_of x ≤ 7
       → ((d : Command) (e : Drawing) → (draw_command m.setting d e ≡ refused (number_of x)) ↔ P d e)
-      → ((fed_by s c bs a).0.answer ≡ answers.Refused x) ↔ ComesTo P
+      → ((fed_by s c bs a).0.answer ≡ Err x) ↔ ComesTo P
   comes-to x P high low f =
       comes x (λ t b. InPayload t (λ r. Strikes m.setting r b P)) low (λ t b. payload-byte m.setting b (number_of x) high P f t)
 
   -- 4 is given exactly when a repeat command ends with a value above R.
-  pub dcs-feed-four : ((fed_by s c bs a).0.answer ≡ answers.Refused Repeat) ↔ ComesTo (λ d e. AboveRepeats m.setting d)
+  pub dcs-feed-four : ((fed_by s c bs a).0.answer ≡ Err Repeat) ↔ ComesTo (λ d e. AboveRepeats m.setting d)
   unfolding number_of
   dcs-feed-four = comes-to Repeat (λ d e. AboveRepeats m.setting d) (omega arith) (omega arith) (four-exactly m.setting)
 
   -- 5 is given exactly when a sixel or raster size exceeds W or H.
-  pub dcs-feed-five : ((fed_by s c bs a).0.answer ≡ answers.Refused Size) ↔ ComesTo (λ d e. Asks (asked_size d e) (AboveLimits m.setting))
+  pub dcs-feed-five : ((fed_by s c bs a).0.answer ≡ Err Size) ↔ ComesTo (λ d e. Asks (asked_size d e) (AboveLimits m.setting))
   unfolding number_of
   dcs-feed-five = comes-to Size (λ d e. Asks (asked_size d e) (AboveLimits m.setting)) (omega arith) (omega arith) (five-exactly m.setting)
 
   -- 6 is given exactly when it does not, and the visible area, or the raster size, would exceed M pixels.
-  pub dcs-feed-six : ((fed_by s c bs a).0.answer ≡ answers.Refused Pixels) ↔ ComesTo (λ d e. Asks (asked_size d e) (SixNotFive m.setting e.area))
+  pub dcs-feed-six : ((fed_by s c bs a).0.answer ≡ Err Pixels) ↔ ComesTo (λ d e. Asks (asked_size d e) (SixNotFive m.setting e.area))
   unfolding number_of
   dcs-feed-six = comes-to Pixels (λ d e. Asks (asked_size d e) (SixNotFive m.setting e.area)) (omega arith) (omega arith) (six-exactly m.setting)
 
   -- 7 is given exactly when neither holds, and the width is above the stride or the height above the rows.
-  pub dcs-feed-seven : ((fed_by s c bs a).0.answer ≡ answers.Refused Room) ↔ ComesTo (λ d e. Asks (asked_size d e) (SevenNotSix m.setting e.area))
+  pub dcs-feed-seven : ((fed_by s c bs a).0.answer ≡ Err Room) ↔ ComesTo (λ d e. Asks (asked_size d e) (SevenNotSix m.setting e.area))
   unfolding number_of
   dcs-feed-seven = comes-to Room (λ d e. Asks (asked_size d e) (SevenNotSix m.setting e.area)) (omega arith) (omega arith) (seven-exactly m.setting)

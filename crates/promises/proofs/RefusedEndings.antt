@@ -1,4 +1,5 @@
 -- A DCS session's finish is refused by 8, 9 and 12 alone: what its end has carried out is not judged again.
+use Rattle.std.specs.Prelude.{Err}
 use Prim.Native.Nat.{ℕ}
 use mathlib.Core.Bool.{true}
 use mathlib.Core.List.{List}
@@ -12,7 +13,6 @@ use Rattle.frame.specs.declared.Refusal.{Refusal}
 use Rattle.meaning.specs.Callers.{Ask, fed_all}
 use Rattle.meaning.specs.Sessions.{over}
 use Rattle.meaning.proofs.DcsEnds.{Settled, calls-settled, end-reports}
-use Rattle.payload.specs.declared.Finishing.TheVariants as finishes
 use Rattle.payload.specs.Refusals.{openable}
 use Rattle.dcs.specs.Session.{finished_by}
 use Rattle.dcs.specs.History.{fed_all_meant}
@@ -30,7 +30,7 @@ past l stride p opening = coded.fed_all (demands.held l stride p opening).0 open
 pub dcs-end-few : (l : Limits) (stride : ℕ) (p : Palette) (opening : List ℕ) (opens : openable l stride (length opening) ≡ true)
     (cs : List Ask) (owner : Palette)
     (x : Refusal) → ¬ (number_of x ≡ 8) → ¬ (number_of x ≡ 9) → ¬ (number_of x ≡ 12)
-    → ¬ ((finished_by (past l stride p opening cs).state.0 owner (past l stride p opening cs).state.1).0.answer ≡ finishes.Refused x)
+    → ¬ ((finished_by (past l stride p opening cs).state.0 owner (past l stride p opening cs).state.1).0.answer ≡ Err x)
 dcs-end-few l stride p opening opens cs owner x a b c e =
     let k = (history.history-stands l stride p opening (opened-stands l stride p opening opens) cs).state in
     let h = ((dcs-end-pending l stride p opening k owner x a b c).0 e).1.1 in

@@ -1,4 +1,5 @@
 -- The refusals of the code's finish, each in one sentence (rules 5.1, 5.3).
+use Rattle.std.specs.Prelude.{Err}
 use Prim.Native.Nat.{ℕ, ◌≤◌}
 use mathlib.Core.Bool.{true}
 use mathlib.Core.List.{List, [], ◌∷◌}
@@ -18,7 +19,6 @@ use Rattle.meaning.specs.Commands.{Command, argued, Placed, Begun, closed}
 use Rattle.meaning.specs.Drawing.{Setting, Drawing, Drawn, drawn, refused, draw_command, Outcome, and_then, draw_all}
 use Rattle.meaning.specs.Payload.{turned_down}
 use Rattle.meaning.specs.Sessions.{Reading, finish_reading, Phase}
-use Rattle.payload.specs.declared.Finishing.TheVariants as finishes
 use Rattle.payload.specs.declared.Session.{Session}
 use Rattle.payload.specs.Session.{finished_by}
 use Rattle.payload.specs.History.{Stands}
@@ -73,7 +73,7 @@ module _ {opening : List ℕ} {s : Session} {l : List ℕ} {m : calls.Session Re
 
   ends : (x : Refusal) (P : Command → Drawing → Type 0) → number_of x ≤ 7
       → ((c : Command) (e : Drawing) → (draw_command m.setting c e ≡ refused (number_of x)) ↔ P c e)
-      → ((finished_by s owner l).0.answer ≡ finishes.Refused x) ↔ Ends P
+      → ((finished_by s owner l).0.answer ≡ Err x) ↔ Ends P
   ends x P low f =
       let p = pending-refused m.setting m.state.drawing (number_of x) P f m.state.begun in
       Iff.trans (payload-finish-exactly k owner x)
@@ -81,19 +81,19 @@ module _ {opening : List ℕ} {s : Session} {l : List ℕ} {m : calls.Session Re
       (λ h. (h.0, (h.1.0, p.0 h.1.1)), λ h. (h.0, (h.1.0, p.1 h.1.1))))
 
   -- 4 to 7 are given exactly when the pending command is refused so.
-  pub payload-end-four : ((finished_by s owner l).0.answer ≡ finishes.Refused Repeat) ↔ Ends (λ c d. AboveRepeats m.setting c)
+  pub payload-end-four : ((finished_by s owner l).0.answer ≡ Err Repeat) ↔ Ends (λ c d. AboveRepeats m.setting c)
   unfolding number_of
   payload-end-four = ends Repeat (λ c d. AboveRepeats m.setting c) (omega arith) (four-exactly m.setting)
 
-  pub payload-end-five : ((finished_by s owner l).0.answer ≡ finishes.Refused Size) ↔ Ends (λ c d. Asks (asked_size c d) (AboveLimits m.setting))
+  pub payload-end-five : ((finished_by s owner l).0.answer ≡ Err Size) ↔ Ends (λ c d. Asks (asked_size c d) (AboveLimits m.setting))
   unfolding number_of
   payload-end-five = ends Size (λ c d. Asks (asked_size c d) (AboveLimits m.setting)) (omega arith) (five-exactly m.setting)
 
-  pub payload-end-six : ((finished_by s owner l).0.answer ≡ finishes.Refused Pixels) ↔ Ends (λ c d. Asks (asked_size c d) (SixNotFive m.setting d.area))
+  pub payload-end-six : ((finished_by s owner l).0.answer ≡ Err Pixels) ↔ Ends (λ c d. Asks (asked_size c d) (SixNotFive m.setting d.area))
   unfolding number_of
   payload-end-six = ends Pixels (λ c d. Asks (asked_size c d) (SixNotFive m.setting d.area)) (omega arith) (six-exactly m.setting)
 
-  pub payload-end-seven : ((finished_by s owner l).0.answer ≡ finishes.Refused Room) ↔ Ends (λ c d. Asks (asked_size c d) (SevenNotSix m.setting d.area))
+  pub payload-end-seven : ((finished_by s owner l).0.answer ≡ Err Room) ↔ Ends (λ c d. Asks (asked_size c d) (SevenNotSix m.setting d.area))
   unfolding number_of
   payload-end-seven = ends Room (λ c d. Asks (asked_size c d) (SevenNotSix m.setting d.area)) (omega arith) (seven-exactly m.setting)
 
@@ -104,6 +104,6 @@ module _ (l : Limits) (stride : ℕ) (p : Palette) (opening : List ℕ) {s : dcs
     (owner : Palette) where
   -- Any other number is given exactly when, at the end, the payload is turned down so.
   pub dcs-end-pending : (x : Refusal) → ¬ (number_of x ≡ 8) → ¬ (number_of x ≡ 9) → ¬ (number_of x ≡ 12)
-      → ((dcs_coded.finished_by s owner c).0.answer ≡ finishes.Refused x)
+      → ((dcs_coded.finished_by s owner c).0.answer ≡ Err x)
       ↔ ((¬ (m.failed ≡ true)) × ((¬ any.Misfits dcs_area m (length c)) × AtEnd m.state (λ r. finish_reading m.setting r ≡ turned_down (number_of x))))
   dcs-end-pending x a b d = Iff.trans (dcs-finish-exactly l stride p opening k owner x) (dcs-finish-pending m (length c) (number_of x) a b d)

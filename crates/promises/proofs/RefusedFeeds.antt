@@ -1,4 +1,5 @@
 -- The refusals of the code's payload feed, each in one sentence (rules 5.1, 5.2).
+use Rattle.std.specs.Prelude.{Err}
 use Prim.Native.Nat.{ℕ, ◌*◌, ◌≤◌, ◌<◌}
 use mathlib.Core.Bool.{true}
 use mathlib.Core.List.{List, ◌∷◌, ◌++◌}
@@ -83,7 +84,7 @@ module _ {opening : List ℕ} {s : Session} {l : List ℕ} {m : calls.Session Re
 
   comes : (x : Refusal) (P : Command → Drawing → Type 0) → number_of x ≤ 7
       → ((c : Command) (d : Drawing) → (draw_command m.setting c d ≡ refused (number_of x)) ↔ P c d)
-      → ((fed_by s l bs a).0.answer ≡ answers.Refused x) ↔ Comes P
+      → ((fed_by s l bs a).0.answer ≡ Err x) ↔ Comes P
   comes x P low f =
       Iff.trans (payload-feed-exactly k bs a x)
       (Iff.trans (payload-bytes m (length l) a bs (number_of x) low)
@@ -96,21 +97,21 @@ module _ {opening : List ℕ} {s : Session} {l : List ℕ} {m : calls.Session Re
           (λ r b. strikes-exactly m.setting r b (number_of x) P f)
 
   -- 4 is given exactly when a repeat command ends with a value above R.
-  pub payload-feed-four : ((fed_by s l bs a).0.answer ≡ answers.Refused Repeat) ↔ Comes (λ c d. AboveRepeats m.setting c)
+  pub payload-feed-four : ((fed_by s l bs a).0.answer ≡ Err Repeat) ↔ Comes (λ c d. AboveRepeats m.setting c)
   unfolding number_of
   payload-feed-four = comes Repeat (λ c d. AboveRepeats m.setting c) (omega arith) (four-exactly m.setting)
 
   -- 5 is given exactly when a sixel or raster size exceeds W or H.
-  pub payload-feed-five : ((fed_by s l bs a).0.answer ≡ answers.Refused Size) ↔ Comes (λ c d. Asks (asked_size c d) (AboveLimits m.setting))
+  pub payload-feed-five : ((fed_by s l bs a).0.answer ≡ Err Size) ↔ Comes (λ c d. Asks (asked_size c d) (AboveLimits m.setting))
   unfolding number_of
   payload-feed-five = comes Size (λ c d. Asks (asked_size c d) (AboveLimits m.setting)) (omega arith) (five-exactly m.setting)
 
   -- 6 is given exactly when it does not, and the visible area, or the raster size, would exceed M pixels.
-  pub payload-feed-six : ((fed_by s l bs a).0.answer ≡ answers.Refused Pixels) ↔ Comes (λ c d. Asks (asked_size c d) (SixNotFive m.setting d.area))
+  pub payload-feed-six : ((fed_by s l bs a).0.answer ≡ Err Pixels) ↔ Comes (λ c d. Asks (asked_size c d) (SixNotFive m.setting d.area))
   unfolding number_of
   payload-feed-six = comes Pixels (λ c d. Asks (asked_size c d) (SixNotFive m.setting d.area)) (omega arith) (six-exactly m.setting)
 
   -- 7 is given exactly when neither holds, and the width is above the stride or the height above the rows.
-  pub payload-feed-seven : ((fed_by s l bs a).0.answer ≡ answers.Refused Room) ↔ Comes (λ c d. Asks (asked_size c d) (SevenNotSix m.setting d.area))
+  pub payload-feed-seven : ((fed_by s l bs a).0.answer ≡ Err Room) ↔ Comes (λ c d. Asks (asked_size c d) (SevenNotSix m.setting d.area))
   unfolding number_of
   payload-feed-seven = comes Room (λ c d. Asks (asked_size c d) (SevenNotSix m.setting d.area)) (omega arith) (seven-exactly m.setting)

@@ -1,4 +1,5 @@
 -- The refusals that openings, feeds, finishes and readings can answer at all (promises/Refusals), whatever session and canvas they are lent.
+use Rattle.std.specs.Prelude.{Ok, Err}
 use Prim.Native.Nat.{ℕ, ◌+◌, ◌*◌, ◌≤◌}
 use mathlib.Core.Bool.{Bool, true, false, ◌||◌}
 use mathlib.Core.List.{List, [], ◌∷◌, ◌++◌}
@@ -24,24 +25,22 @@ use Rattle.meaning.specs.Drawing as drawing
 use Rattle.meaning.specs.OneShot.{Found, found, lacking, refused_with, find_payload, answer_of, one_shot}
 use Rattle.meaning.specs.Payload as meant
 use Rattle.meaning.proofs.Cases.{cond-case}
-use Rattle.payload.specs.declared.Answer as payload_answer
+use Rattle.payload.specs.Results as payload_answer
 use Rattle.payload.specs.declared.Answer.TheVariants as answers
-use Rattle.payload.specs.declared.Fed.{Fed}
+use Rattle.payload.specs.Results.{Fed, Opened, Verdict}
 use Rattle.payload.specs.declared.Life.{Life}
 use Rattle.payload.specs.declared.Life.TheVariants as lives
-use Rattle.payload.specs.declared.Opened.{Opened}
 use Rattle.payload.specs.declared.Session.{Session}
 use Rattle.payload.specs.declared.Settings.{Settings}
-use Rattle.payload.specs.declared.refusals.Verdict.{Verdict}
 use Rattle.payload.specs.Deferred.{reserved_by, begun_by}
 use Rattle.payload.specs.Refusals.{openable, is_failed, misfitting, feed_judged}
 use Rattle.payload.specs.Session as payload
-use Rattle.dcs.specs.declared.Fed as dcs_fed
+use Rattle.dcs.specs.Results as dcs_fed
 use Rattle.dcs.specs.declared.Phase.{Phase}
 use Rattle.dcs.specs.declared.Phase.TheVariants as phases
 use Rattle.dcs.specs.declared.Session as dcs_session
 use Rattle.header.specs.declared.Lead.{Lead}
-use Rattle.header.specs.declared.Led.{Led}
+use Rattle.header.specs.Results.{Led}
 use Rattle.header.specs.declared.Led.TheVariants as leds
 use Rattle.header.specs.declared.Place.{Place}
 use Rattle.header.specs.declared.Place.TheVariants as places
@@ -143,9 +142,9 @@ module _ (owner : Palette) (canvas : List ℕ) where
 -- ---- a DCS session's feed
 
 abbrev LedOnly : Led → Type 0
-LedOnly leds.On = Unit {0}
-LedOnly leds.Begins = Unit {0}
-LedOnly (leds.Refused r) = Only dcs_feed_numbers (some (number_of r))
+LedOnly (Ok leds.On) = Unit {0}
+LedOnly (Ok leds.Begins) = Unit {0}
+LedOnly (Err r) = Only dcs_feed_numbers (some (number_of r))
 
 -- introducer and header are refused by 1, 2 and 3
 byte-led : (t : Place) (h : Parameters) (b : ℕ) → LedOnly (lead_byte t h b).led
@@ -163,9 +162,9 @@ byte-led places.Header h b =
 on-led : (x : Led) (s : Step) (n : ℕ) (later : ℕ → Place → Parameters → Lead) → LedOnly x
     → ((n' : ℕ) (t : Place) (h : Parameters) → LedOnly (later n' t h).led) → LedOnly (lead_on x s n later).led
 unfolding lead_on
-on-led leds.On s n later h k = k (n + 1) s.place s.header
-on-led leds.Begins s n later h k = tt
-on-led (leds.Refused r) s n later h k = h
+on-led (Ok leds.On) s n later h k = k (n + 1) s.place s.header
+on-led (Ok leds.Begins) s n later h k = tt
+on-led (Err r) s n later h k = h
 
 lead-led : (bs : List ℕ) (n : ℕ) (t : Place) (h : Parameters) → LedOnly (lead_from bs n t h).led
 unfolding lead_from
@@ -202,10 +201,10 @@ feed-numbers n h =
 passed-only : (a : payload_answer.Answer) → Only payload_feed_numbers (payload_number a) → (s : dcs_session.Session) (bs : List ℕ) (n : ℕ)
     → ToldOnly (dcs.passed_on a s bs n)
 unfolding dcs.passed_on dcs_number payload_number
-passed-only (answers.More c i) h s bs n = tt
-passed-only (answers.Stopped c i) h s bs n = tt
-passed-only (answers.Ended c i b) h s bs n = closed-only s (drop c bs) (n + c) i
-passed-only (answers.Refused r) h s bs n = feed-numbers (number_of r) h
+passed-only (Ok (answers.More c i)) h s bs n = tt
+passed-only (Ok (answers.Stopped c i)) h s bs n = tt
+passed-only (Ok (answers.Ended c i b)) h s bs n = closed-only s (drop c bs) (n + c) i
+passed-only (Err r) h s bs n = feed-numbers (number_of r) h
 
 module _ (canvas bytes : List ℕ) (allowance : ℕ) where
   within-only : (s : dcs_session.Session) (lent bs : List ℕ) (n : ℕ) → ToldOnly (dcs.fed_payload s lent bs n allowance).0
@@ -216,11 +215,11 @@ module _ (canvas bytes : List ℕ) (allowance : ℕ) where
 
   led-only : (x : Led) → LedOnly x → (l : Lead) (s : dcs_session.Session) → ToldOnly (dcs.led_to x l s canvas bytes allowance).0
   unfolding dcs.led_to dcs_number
-  led-only leds.On h l s = tt
-  led-only leds.Begins h l s =
+  led-only (Ok leds.On) h l s = tt
+  led-only (Ok leds.Begins) h l s =
       let b : Session × List ℕ = begun_by s.payload (settings_from l.header) canvas in
       within-only (dcs.session_of b.0 l.header phases.Within) b.1 (drop l.consumed bytes) l.consumed
-  led-only (leds.Refused r) h l s = h
+  led-only (Err r) h l s = h
 
   phase-only : (t : Phase) (s : dcs_session.Session) → ToldOnly (dcs.fed_in t s canvas bytes allowance).0
   unfolding dcs.fed_in dcs.fed_lead dcs.over_as dcs_number

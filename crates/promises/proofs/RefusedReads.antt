@@ -1,4 +1,5 @@
 -- The refusals of the code's reading all at once, each in one sentence (rules 5.1, 8.3).
+use Rattle.std.specs.Prelude.{Err}
 use Prim.Native.Nat.{ℕ, ◌≤◌}
 use mathlib.Core.List.{List, [], ◌∷◌, ◌++◌}
 use mathlib.Core.Logic.Iff
@@ -16,7 +17,6 @@ use Rattle.meaning.specs.Commands.{Command, Placed, commands}
 use Rattle.meaning.specs.Drawing.{Limits, Setting, Drawing, blank, refused, draw_command, draw_all}
 use Rattle.meaning.specs.OneShot.{Found, after_introducer, header_from}
 use Rattle.payload.specs.declared.Finished.{Finished}
-use Rattle.payload.specs.declared.Finishing.TheVariants as finishes
 use Rattle.oneshot.specs.OneShot.{read_whole, read_meant}
 use Rattle.promises.proofs.RefusedCommands.{AboveRepeats, asked_size, Asks, RefusedAt, four-exactly, five-exactly, six-exactly, seven-exactly}
 use Rattle.promises.proofs.RefusedHeaders.{Cuts, Other, first_other, two-exactly, three-exactly, eight-exactly, shot-exactly, Unfound, short, turned, unfound-none}
@@ -72,12 +72,12 @@ module _ (l : Limits) (stride : ℕ) (p : Palette) (canvas bs : List ℕ) (r : F
   Introduced P = (later : List ℕ) × (after_introducer bs ≡ some later) × P later
 
   -- 11 is given exactly when an opening number is out of its range, or there is no whole row.
-  pub read-eleven : (r.answer ≡ finishes.Refused Opening) ↔ (¬ Openable l stride (length canvas))
+  pub read-eleven : (r.answer ≡ Err Opening) ↔ (¬ Openable l stride (length canvas))
   unfolding number_of
   read-eleven = Iff.trans (read-exactly l stride p canvas bs r after e Opening) (shot-eleven l stride p canvas bs)
 
   headed : (x : Refusal) (P : List ℕ → Type 0) {g : Found} → Unfound g (number_of x) → ((later : List ℕ) → (header_from [] later ≡ g) ↔ P later)
-      → (r.answer ≡ finishes.Refused x) ↔ Opens (Introduced P)
+      → (r.answer ≡ Err x) ↔ Opens (Introduced P)
   headed x P {g} unfound f =
       let k = shot-exactly bs g (unfound-none unfound) in
       Iff.trans (read-exactly l stride p canvas bs r after e x)
@@ -87,17 +87,17 @@ module _ (l : Limits) (stride : ℕ) (p : Palette) (canvas bs : List ℕ) (r : F
       ))
 
   -- 2 is given exactly when the first byte of the header that is neither skipped nor a digit nor `;` is 18, 1A, 1B or 80-9F.
-  pub read-two : (r.answer ≡ finishes.Refused HeaderEnded) ↔ Opens (Introduced (λ later. Other later Cuts))
+  pub read-two : (r.answer ≡ Err HeaderEnded) ↔ Opens (Introduced (λ later. Other later Cuts))
   unfolding number_of
   read-two = headed HeaderEnded (λ later. Other later Cuts) (turned (omega arith)) (two-exactly [])
 
   -- 3 is given exactly when that byte is any other than `q`.
-  pub read-three : (r.answer ≡ finishes.Refused HeaderByte) ↔ Opens (Introduced (λ later. Other later (λ b. (¬ (b ≡ 0x71)) × (¬ Cuts b))))
+  pub read-three : (r.answer ≡ Err HeaderByte) ↔ Opens (Introduced (λ later. Other later (λ b. (¬ (b ≡ 0x71)) × (¬ Cuts b))))
   unfolding number_of
   read-three = headed HeaderByte (λ later. Other later (λ b. (¬ (b ≡ 0x71)) × (¬ Cuts b))) (turned (omega arith)) (three-exactly [])
 
   -- 8 is given exactly when there is an introducer, and no such byte.
-  pub read-eight : (r.answer ≡ finishes.Refused Unfinished) ↔ Opens (Introduced (λ later. first_other later ≡ none))
+  pub read-eight : (r.answer ≡ Err Unfinished) ↔ Opens (Introduced (λ later. first_other later ≡ none))
   unfolding number_of
   read-eight = headed Unfinished (λ later. first_other later ≡ none) short (eight-exactly [])
 
@@ -107,7 +107,7 @@ module _ (l : Limits) (stride : ℕ) (p : Palette) (canvas bs : List ℕ) (r : F
 
   struck : (x : Refusal) (P : Command → Drawing → Type 0) → (4 ≤ number_of x) × (number_of x ≤ 7)
       → ((c : Command) (d : Drawing) → (draw_command (setting_for l stride (length canvas)) c d ≡ refused (number_of x)) ↔ P c d)
-      → (r.answer ≡ finishes.Refused x) ↔ Opens (Draws P)
+      → (r.answer ≡ Err x) ↔ Opens (Draws P)
   struck x P range f =
       Iff.trans (read-exactly l stride p canvas bs r after e x)
       (Iff.trans (shot-bytes l stride p canvas bs (number_of x) range) (
@@ -119,21 +119,21 @@ module _ (l : Limits) (stride : ℕ) (p : Palette) (canvas bs : List ℕ) (r : F
       s = setting_for l stride (length canvas)
 
   -- 4 is given exactly when a repeat command ends with a value above R.
-  pub read-four : (r.answer ≡ finishes.Refused Repeat) ↔ Opens (Draws (λ c d. AboveRepeats (setting_for l stride (length canvas)) c))
+  pub read-four : (r.answer ≡ Err Repeat) ↔ Opens (Draws (λ c d. AboveRepeats (setting_for l stride (length canvas)) c))
   unfolding number_of
   read-four =
       struck Repeat (λ c d. AboveRepeats (setting_for l stride (length canvas)) c) (omega arith, omega arith)
       (four-exactly (setting_for l stride (length canvas)))
 
   -- 5 is given exactly when a sixel or raster size exceeds W or H.
-  pub read-five : (r.answer ≡ finishes.Refused Size) ↔ Opens (Draws (λ c d. Asks (asked_size c d) (AboveLimits (setting_for l stride (length canvas)))))
+  pub read-five : (r.answer ≡ Err Size) ↔ Opens (Draws (λ c d. Asks (asked_size c d) (AboveLimits (setting_for l stride (length canvas)))))
   unfolding number_of
   read-five =
       struck Size (λ c d. Asks (asked_size c d) (AboveLimits (setting_for l stride (length canvas)))) (omega arith, omega arith)
       (five-exactly (setting_for l stride (length canvas)))
 
   -- 6 is given exactly when it does not, and the visible area, or the raster size, would exceed M pixels.
-  pub read-six : (r.answer ≡ finishes.Refused Pixels)
+  pub read-six : (r.answer ≡ Err Pixels)
       ↔ Opens (Draws (λ c d. Asks (asked_size c d) (SixNotFive (setting_for l stride (length canvas)) d.area)))
   unfolding number_of
   read-six =
@@ -141,7 +141,7 @@ module _ (l : Limits) (stride : ℕ) (p : Palette) (canvas bs : List ℕ) (r : F
       (six-exactly (setting_for l stride (length canvas)))
 
   -- 7 is given exactly when neither holds, and the width is above the stride or the height above the rows.
-  pub read-seven : (r.answer ≡ finishes.Refused Room)
+  pub read-seven : (r.answer ≡ Err Room)
       ↔ Opens (Draws (λ c d. Asks (asked_size c d) (SevenNotSix (setting_for l stride (length canvas)) d.area)))
   unfolding number_of
   read-seven =

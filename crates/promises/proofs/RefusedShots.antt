@@ -1,5 +1,6 @@
 -- The refusals of a reading all at once, in their order: 11, then 2, 3 or 8, then the payload's; and what each leaves (rules 8.2 to
 -- 8.4).
+use Rattle.std.specs.Prelude.{Ok, Err}
 use Prim.Native.Nat.{ℕ, ◌≤◌}
 use mathlib.Core.List.{List, []}
 use mathlib.Core.Logic.{◌↔◌, ◌⊎◌, inl, inr}
@@ -16,8 +17,7 @@ use Rattle.meaning.specs.OneShot.{Found, found, lacking, refused_with, find_payl
 use Rattle.meaning.specs.Payload.{Parameters, payload, Finished, turned_down}
 use Rattle.meaning.specs.Calls.{setting_for, shown, read_one_shot, part_handed_back}
 use Rattle.payload.specs.declared.Finished as coded
-use Rattle.payload.specs.declared.Finishing.{Finishing}
-use Rattle.payload.specs.declared.Finishing.TheVariants as finishes
+use Rattle.payload.specs.Results.{Finishing}
 use Rattle.oneshot.specs.OneShot.{Read, palette_after, read_whole, read_part, read_outcome, read_meant}
 use Rattle.payload.specs.Meant.{finish_meant}
 use Rattle.oneshot.proofs.WholeLaws.{part-read, part-lacking, part-missing, part-unopened}
@@ -190,20 +190,20 @@ module _ (l : Limits) (stride : ℕ) (p : Palette) (canvas bs : List ℕ) (r : c
   unfolding read_meant read_whole
   meant-answer = ap (λ (x : Read). x.answer) e
 
-  down-exactly : (y : Finishing) (q : Palette) (x : Refusal) → (y ≡ finishes.Refused x) ↔ (finish_meant y q ≡ turned_down (number_of x))
+  down-exactly : (y : Finishing) (q : Palette) (x : Refusal) → (y ≡ Err x) ↔ (finish_meant y q ≡ turned_down (number_of x))
   unfolding finish_meant
-  down-exactly (finishes.Picture z) q x =
+  down-exactly (Ok z) q x =
       (λ e. let never : ◌≡◌ {A = ℕ} 0 1 = cc in absurd (omega arith), λ e. let never : ◌≡◌ {A = ℕ} 0 1 = cc in absurd (omega arith))
-  down-exactly (finishes.Refused y) q x =
-      (λ e. let same : y ≡ x = cc in ap (λ (z : Refusal). turned_down (number_of z)) same, λ e. ap finishes.Refused (refusal-known (cc)))
+  down-exactly (Err y) q x =
+      (λ e. let same : y ≡ x = cc in ap (λ (z : Refusal). turned_down (number_of z)) same, λ e. ap Err (refusal-known (cc)))
 
   -- The code's reading is refused with a number exactly when the definition's is.
-  pub read-exactly : (x : Refusal) → (r.answer ≡ finishes.Refused x) ↔ (answer l stride p canvas bs ≡ turned_down (number_of x))
+  pub read-exactly : (x : Refusal) → (r.answer ≡ Err x) ↔ (answer l stride p canvas bs ≡ turned_down (number_of x))
   read-exactly x =
       let k = down-exactly r.answer r.palette x in (λ q. sym meant-answer ∙ k.0 q, λ q. k.1 (meant-answer ∙ q))
 
   -- Then the palette handed back is the owner's.
-  pub read-palette : (x : Refusal) → r.answer ≡ finishes.Refused x → r.palette ≡ p
+  pub read-palette : (x : Refusal) → r.answer ≡ Err x → r.palette ≡ p
   unfolding read_meant
   read-palette x q = ap (λ (z : Read). z.palette) e ∙ shot-palette l stride p canvas bs (number_of x) ((read-exactly x).0 q)
 

@@ -1,4 +1,5 @@
 -- Refusal 10 is retired: no opening, feed, finish, reading, copy or export answers it, whatever session, canvas or memory it is lent.
+use Rattle.std.specs.Prelude.{Ok, Err}
 use Prim.Native.Nat.{ℕ, zero, suc, ◌≤◌}
 use mathlib.Core.Bool.{false, true≢false}
 use mathlib.Core.List.{List, [], ◌∷◌}
@@ -21,21 +22,17 @@ use Rattle.meaning.specs.Payload as meant
 use Rattle.meaning.specs.Payload.{no_parameters}
 use Rattle.meaning.specs.Sizes.{ReportFits}
 use Rattle.meaning.proofs.AreaLaws.{cond-case, opens-roomy, payload-sound, outcome_fits}
-use Rattle.payload.specs.declared.Answer as payload_answer
+use Rattle.payload.specs.Results as payload_answer
 use Rattle.payload.specs.declared.Answer.TheVariants as answers
 use Rattle.payload.specs.declared.Finished.{Finished}
-use Rattle.payload.specs.declared.Finishing.{Finishing}
-use Rattle.payload.specs.declared.Finishing.TheVariants as finishes
-use Rattle.payload.specs.declared.Opening.{Opening}
-use Rattle.payload.specs.declared.Opening.TheVariants as openings
+use Rattle.payload.specs.Results.{Finishing, Opening}
 use Rattle.payload.specs.declared.Session.{Session}
 use Rattle.payload.specs.declared.Settings.{Settings}
 use Rattle.payload.specs.Codes.{given_from}
 use Rattle.payload.specs.Meant.{finish_meant}
 use Rattle.payload.specs.Memory as payload_memory
 use Rattle.payload.specs.Session as payload
-use Rattle.dcs.specs.declared.Answer as dcs_answer
-use Rattle.dcs.specs.declared.Answer.TheVariants as dcs_answers
+use Rattle.dcs.specs.Results as dcs_answer
 use Rattle.dcs.specs.declared.Session as dcs_session
 use Rattle.dcs.specs.Memory as dcs_memory
 use Rattle.dcs.specs.Session as dcs
@@ -60,29 +57,29 @@ never ms out h e = true≢false (sym (subst (Only ms) e h) ∙ out)
 -- ---- openings, feeds, finishes, of whichever session and canvas
 
 module _ (l : Limits) (stride : ℕ) (p : Palette) where
-  pub payload-open-retired : (o : Settings) (canvas : List ℕ) → ¬ ((payload.opened_by l stride o p canvas).0.answer ≡ openings.Refused FinalSize)
+  pub payload-open-retired : (o : Settings) (canvas : List ℕ) → ¬ ((payload.opened_by l stride o p canvas).0.answer ≡ Err FinalSize)
   unfolding one_of opening_number number_of
   payload-open-retired o canvas e = never opening_numbers refl (payload-opens-only l stride p o canvas) (ap opening_number e)
 
-  pub dcs-open-retired : (size : ℕ) → ¬ ((dcs.opened_by l stride p size).answer ≡ openings.Refused FinalSize)
+  pub dcs-open-retired : (size : ℕ) → ¬ ((dcs.opened_by l stride p size).answer ≡ Err FinalSize)
   unfolding one_of opening_number number_of
   dcs-open-retired size e = never opening_numbers refl (dcs-opens-only l stride p size) (ap opening_number e)
 
 module _ (canvas : List ℕ) where
-  pub payload-feed-retired : (s : Session) (bytes : List ℕ) (allowance : ℕ) → ¬ ((payload.fed_by s canvas bytes allowance).0.answer ≡ answers.Refused FinalSize)
+  pub payload-feed-retired : (s : Session) (bytes : List ℕ) (allowance : ℕ) → ¬ ((payload.fed_by s canvas bytes allowance).0.answer ≡ Err FinalSize)
   unfolding one_of payload_number number_of
   payload-feed-retired s bytes allowance e = never payload_feed_numbers refl (payload-feeds-only s canvas bytes allowance) (ap payload_number e)
 
   pub dcs-feed-retired : (s : dcs_session.Session) (bytes : List ℕ) (allowance : ℕ)
-      → ¬ ((dcs.fed_by s canvas bytes allowance).0.answer ≡ dcs_answers.Refused FinalSize)
+      → ¬ ((dcs.fed_by s canvas bytes allowance).0.answer ≡ Err FinalSize)
   unfolding one_of dcs_number number_of
   dcs-feed-retired s bytes allowance e = never dcs_feed_numbers refl (dcs-feeds-only canvas bytes allowance s) (ap dcs_number e)
 
-  pub payload-finish-retired : (s : Session) (owner : Palette) → ¬ ((payload.finished_by s owner canvas).0.answer ≡ finishes.Refused FinalSize)
+  pub payload-finish-retired : (s : Session) (owner : Palette) → ¬ ((payload.finished_by s owner canvas).0.answer ≡ Err FinalSize)
   unfolding one_of finish_number number_of
   payload-finish-retired s owner e = never payload_finish_numbers refl (payload-finishes-only owner canvas s) (ap finish_number e)
 
-  pub dcs-finish-retired : (s : dcs_session.Session) (owner : Palette) → ¬ ((dcs.finished_by s owner canvas).0.answer ≡ finishes.Refused FinalSize)
+  pub dcs-finish-retired : (s : dcs_session.Session) (owner : Palette) → ¬ ((dcs.finished_by s owner canvas).0.answer ≡ Err FinalSize)
   unfolding one_of finish_number number_of
   dcs-finish-retired s owner e = never dcs_finish_numbers refl (dcs-finishes-only owner canvas s) (ap finish_number e)
 
@@ -106,12 +103,12 @@ copy-retired stride area canvas out =
 abbrev Kept : Reader → Type 0
 Kept r = ¬ (r.standing ≡ standings.Refused FinalSize)
 
-told-kept : (a : dcs_answer.Answer) → ¬ (a ≡ dcs_answers.Refused FinalSize) → ¬ ((pieces.told_by a).standing ≡ standings.Refused FinalSize)
+told-kept : (a : dcs_answer.Answer) → ¬ (a ≡ Err FinalSize) → ¬ ((pieces.told_by a).standing ≡ standings.Refused FinalSize)
 unfolding pieces.told_by
-told-kept (dcs_answers.More c i) h e = let zero_one : ◌≡◌ {A = ℕ} 0 1 = cc in omega arith
-told-kept (dcs_answers.Stopped c i) h e = let zero_one : ◌≡◌ {A = ℕ} 0 1 = cc in omega arith
-told-kept (dcs_answers.Ended c i x) h e = let zero_one : ◌≡◌ {A = ℕ} 0 1 = cc in omega arith
-told-kept (dcs_answers.Refused n) h e = let same : n ≡ FinalSize = cc in h (ap (λ m. dcs_answers.Refused m) same)
+told-kept (Ok (answers.More c i)) h e = let zero_one : ◌≡◌ {A = ℕ} 0 1 = cc in omega arith
+told-kept (Ok (answers.Stopped c i)) h e = let zero_one : ◌≡◌ {A = ℕ} 0 1 = cc in omega arith
+told-kept (Ok (answers.Ended c i x)) h e = let zero_one : ◌≡◌ {A = ℕ} 0 1 = cc in omega arith
+told-kept (Err n) h e = let same : n ≡ FinalSize = cc in h (ap (λ m. Err m) same)
 
 called-kept : (r : Reader) (canvas bytes : List ℕ) → Kept (pieces.called_by r canvas bytes).0.reader
 unfolding pieces.called_by pieces.called_as pieces.after_call
@@ -141,10 +138,10 @@ unfolding taken_all
 all-kept r canvas [] h = h
 all-kept r canvas (z ∷ zs) h = all-kept (pieces.taken_by r canvas z).0 (pieces.taken_by r canvas z).1 zs (taken-kept r canvas z h)
 
-opened-kept : (a : Opening) (s : dcs_session.Session) (w : ℕ) → ¬ (a ≡ openings.Refused FinalSize) → Kept (pieces.opened_as a s w)
+opened-kept : (a : Opening) (s : dcs_session.Session) (w : ℕ) → ¬ (a ≡ Err FinalSize) → Kept (pieces.opened_as a s w)
 unfolding pieces.opened_as pieces.began_as
-opened-kept openings.Ready s w h e = let zero_one : ◌≡◌ {A = ℕ} 0 1 = cc in omega arith
-opened-kept (openings.Refused n) s w h e = let same : n ≡ FinalSize = cc in h (ap (λ m. openings.Refused m) same)
+opened-kept (Ok tt) s w h e = let zero_one : ◌≡◌ {A = ℕ} 0 1 = cc in omega arith
+opened-kept (Err n) s w h e = let same : n ≡ FinalSize = cc in h (ap (λ m. Err m) same)
 
 module _ (l : Limits) (stride : ℕ) (p : Palette) (size : ℕ) (canvas : List ℕ) (zs : List (List ℕ)) where
   abbrev reader : Reader
@@ -158,11 +155,11 @@ module _ (l : Limits) (stride : ℕ) (p : Palette) (size : ℕ) (canvas : List �
       (opened-kept (dcs.opened_by l stride p size).answer (dcs.opened_by l stride p size).session l.width (dcs-open-retired l stride p size))
 
   -- nor is its finish, on any canvas.
-  pub pieces-finish-retired : (owner : Palette) (lent : List ℕ) → ¬ ((pieces.finished_by reader owner lent).0.answer ≡ finishes.Refused FinalSize)
+  pub pieces-finish-retired : (owner : Palette) (lent : List ℕ) → ¬ ((pieces.finished_by reader owner lent).0.answer ≡ Err FinalSize)
   unfolding pieces.finished_by pieces.finished_as payload.turned_away
   pieces-finish-retired owner lent = go reader.standing pieces-take-retired
     where
-      go : (t : Standing) → ¬ (t ≡ standings.Refused FinalSize) → ¬ ((pieces.finished_as t reader owner lent).0.answer ≡ finishes.Refused FinalSize)
+      go : (t : Standing) → ¬ (t ≡ standings.Refused FinalSize) → ¬ ((pieces.finished_as t reader owner lent).0.answer ≡ Err FinalSize)
       go standings.Reading h = dcs-finish-retired lent reader.session owner
       go (standings.Ended e) h = dcs-finish-retired lent reader.session owner
       go (standings.Refused n) h = λ e. let same : n ≡ FinalSize = cc in h (ap (λ m. standings.Refused m) same)
@@ -174,29 +171,29 @@ unfolding or_zero
 never-exported ms none out h e = omega arith
 never-exported ms (some n) out h e = never ms out h (ap some e)
 
-opening-exported : (a : Opening) → exported.opening_number a ≡ or_zero (opening_number a)
-unfolding exported.opening_number opening_number or_zero
-opening-exported openings.Ready = refl
-opening-exported (openings.Refused n) = refl
+opening-exported : (a : Opening) → exported.number_or_zero a ≡ or_zero (opening_number a)
+unfolding exported.number_or_zero opening_number or_zero
+opening-exported (Ok tt) = refl
+opening-exported (Err n) = refl
 
-payload-exported : (a : payload_answer.Answer) → exported.payload_number a ≡ or_zero (payload_number a)
-unfolding exported.payload_number payload_number or_zero
-payload-exported (answers.More n i) = refl
-payload-exported (answers.Stopped n i) = refl
-payload-exported (answers.Ended n i b) = refl
-payload-exported (answers.Refused r) = refl
+payload-exported : (a : payload_answer.Answer) → exported.number_or_zero a ≡ or_zero (payload_number a)
+unfolding exported.number_or_zero payload_number or_zero
+payload-exported (Ok (answers.More n i)) = refl
+payload-exported (Ok (answers.Stopped n i)) = refl
+payload-exported (Ok (answers.Ended n i b)) = refl
+payload-exported (Err r) = refl
 
-dcs-exported : (a : dcs_answer.Answer) → exported.dcs_number a ≡ or_zero (dcs_number a)
-unfolding exported.dcs_number dcs_number or_zero
-dcs-exported (dcs_answers.More n i) = refl
-dcs-exported (dcs_answers.Stopped n i) = refl
-dcs-exported (dcs_answers.Ended n i e) = refl
-dcs-exported (dcs_answers.Refused r) = refl
+dcs-exported : (a : dcs_answer.Answer) → exported.number_or_zero a ≡ or_zero (dcs_number a)
+unfolding exported.number_or_zero dcs_number or_zero
+dcs-exported (Ok (answers.More n i)) = refl
+dcs-exported (Ok (answers.Stopped n i)) = refl
+dcs-exported (Ok (answers.Ended n i e)) = refl
+dcs-exported (Err r) = refl
 
 finish-exported : (a : Finishing) (p : Palette) → refusal_number (finish_meant a p) ≡ or_zero (finish_number a)
 unfolding refusal_number finish_meant finish_number or_zero
-finish-exported (finishes.Picture r) p = refl
-finish-exported (finishes.Refused n) p = refl
+finish-exported (Ok r) p = refl
+finish-exported (Err n) p = refl
 
 read-exported : (x : meant.Finished) → refusal_number x ≡ or_zero (read_number x)
 unfolding refusal_number read_number or_zero

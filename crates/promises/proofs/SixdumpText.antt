@@ -1,4 +1,5 @@
 -- What the program `sixdump` prints is the text of its input (`specs/Sixdump`), however the input arrives in pieces.
+use Rattle.std.specs.Prelude.{Ok, Err, Some, None}
 use Prim.Native.Nat.{ℕ, ◌*◌, ◌≤◌}
 use native.Mathlib.Omega.{arith}
 use mathlib.Core.Bool.{true, false, true≢false}
@@ -33,8 +34,6 @@ use Rattle.meaning.proofs.RunLaws.{ended-prefix}
 use Rattle.meaning.proofs.SequenceLaws.{sequence-ended, sequence-consumed, sequence-refusal, ended-found}
 use Rattle.meaning.proofs.ToldLaws.{end_told, told_more, told-refusal}
 use Rattle.payload.specs.declared.Finished.{Finished}
-use Rattle.payload.specs.declared.Finishing.TheVariants as finishings
-use Rattle.payload.specs.declared.Given.TheVariants as givens
 use Rattle.payload.specs.declared.Ratio.{Ratio}
 use Rattle.payload.specs.declared.Ratio.TheVariants as ratios
 use Rattle.payload.specs.declared.Report.{Report}
@@ -71,8 +70,8 @@ status-same (endings.Interrupted byte) n = refl
 ratio-same : (r : Ratio) → dump.ratio_line r ≡ ratio_line (ratio_meant r)
 unfolding dump.ratio_line ratio_line ratio_meant given_meant
 ratio-same (ratios.Raster n) = refl
-ratio-same (ratios.LeftToP1 givens.Nothing) = refl
-ratio-same (ratios.LeftToP1 (givens.Number n)) = refl
+ratio-same (ratios.LeftToP1 None) = refl
+ratio-same (ratios.LeftToP1 (Some n)) = refl
 
 -- where the canvas has the picture, the whole text of a report is
 report-same : (e : Ending) (consumed ink : ℕ) (r : Report) (p : Palette) (stride : ℕ) (canvas : List ℕ)
@@ -241,7 +240,7 @@ module _ (l : Limits) (stride : ℕ) (p : Palette) (opening : List ℕ) (opens :
         ap (λ (o : Option End). elim o as (λ _. meant.Finished) [ none ↦ meant.turned_down 8 | some d ↦ answer_of setting p (sequence_payload bytes) ]) ends
         ∙ sym (ap (answer_of setting p) (ended-found bytes ends)) ∙ k.means in
         ap (λ (x : Finished × List ℕ). finish_text x.0.answer (ending_of reader.standing) reader.counts stride x.1) k.answers
-        ∙ ap (λ (t : Standing). finish_text (finishings.Picture r) (ending_of t) reader.counts stride (promise.picture l stride p opening opens zs ended))
+        ∙ ap (λ (t : Standing). finish_text (Ok r) (ending_of t) reader.counts stride (promise.picture l stride p opening opens zs ended))
         ended
         ∙ ap (λ (shown : List ℕ). dump.picture_text e reader.counts.consumed reader.counts.ink r stride shown) picture-same
         ∙ ap₂ (λ (n i : ℕ). dump.picture_text e n i r stride whole.settled) consumed ink
@@ -265,15 +264,15 @@ module _ (l : Limits) (stride : ℕ) (p : Palette) (opening : List ℕ) (opens :
       go (standings.Refused n) h = ap text (promise.refusal-repeated l stride p opening opens zs h owner) ∙ sym (text-refused stride whole (refuses h))
 
   -- A picture is finished at an end alone, so of `ending_of` only that end is ever written.
-  pub picture-ended : (owner : Palette) {r : Report} → (finished_by reader owner canvas).0.answer ≡ finishings.Picture r
+  pub picture-ended : (owner : Palette) {r : Report} → (finished_by reader owner canvas).0.answer ≡ Ok r
       → (e : Ending) × (reader.standing ≡ standings.Ended e)
   unfolding turned_away
   picture-ended owner {r} picture = go reader.standing refl
     where
       declines : {n : Refusal} {q : Palette} {lent : List ℕ}
-          → finished_by reader owner canvas ≡ (record { answer = finishings.Refused n; palette = q }, lent) → ⊥
+          → finished_by reader owner canvas ≡ (record { answer = Err n; palette = q }, lent) → ⊥
       declines {n} k =
-          let wrong : finishings.Refused n ≡ finishings.Picture r = sym (ap (λ (x : Finished × List ℕ). x.0.answer) k) ∙ picture in
+          let wrong : Err n ≡ Ok r = sym (ap (λ (x : Finished × List ℕ). x.0.answer) k) ∙ picture in
           let no : ◌≡◌ {A = ℕ} 0 1 = cc in omega arith
 
       go : (t : Standing) → reader.standing ≡ t → (e : Ending) × (reader.standing ≡ standings.Ended e)

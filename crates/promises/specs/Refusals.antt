@@ -1,6 +1,6 @@
 -- Which refusals each function can answer, of any session, canvas and memory that it is lent, whatever they hold; and in which order a finish
 -- is refused. Number 10 is retired: no list here has it.
-use Rattle.std.specs.Prelude.{ℕ, Bool, true, false, ◌||◌, List, [], ◌∷◌, ◌≡◌, eqb}
+use Rattle.std.specs.Prelude.{ℕ, Bool, true, false, ◌||◌, Ok, Err, List, [], ◌∷◌, ◌≡◌, eqb}
 use Rattle.std.proofs.Math.Option.{Option, none, some}
 use Rattle.frame.specs.Commands.{ended}
 use Rattle.frame.specs.Numbers.{number_of}
@@ -8,16 +8,12 @@ use Rattle.frame.specs.declared.Outcome.{Outcome}
 use Rattle.frame.specs.declared.Outcome.TheVariants as outcomes
 use Rattle.meaning.specs.Calls.{Test, first_of}
 use Rattle.meaning.specs.Payload as meant
-use Rattle.payload.specs.declared.Answer as payload_answer
+use Rattle.payload.specs.Results as payload_answer
 use Rattle.payload.specs.declared.Answer.TheVariants as payload_answers
-use Rattle.payload.specs.declared.Finishing.{Finishing}
-use Rattle.payload.specs.declared.Finishing.TheVariants as finishes
-use Rattle.payload.specs.declared.Opening.{Opening}
-use Rattle.payload.specs.declared.Opening.TheVariants as openings
+use Rattle.payload.specs.Results.{Finishing, Opening}
 use Rattle.payload.specs.declared.Session as payload
 use Rattle.payload.specs.Refusals.{is_failed, misfitting}
-use Rattle.dcs.specs.declared.Answer as dcs_answer
-use Rattle.dcs.specs.declared.Answer.TheVariants as dcs_answers
+use Rattle.dcs.specs.Results as dcs_answer
 use Rattle.dcs.specs.declared.Phase.{Phase}
 use Rattle.dcs.specs.declared.Phase.TheVariants as phases
 use Rattle.dcs.specs.declared.Session as dcs
@@ -25,24 +21,24 @@ use Rattle.dcs.specs.declared.Session as dcs
 -- ---- the number that an answer is refused with, where it is refused
 
 unfoldable pub opening_number : Opening → Option ℕ
-opening_number openings.Ready = none
-opening_number (openings.Refused n) = some (number_of n)
+opening_number (Ok tt) = none
+opening_number (Err n) = some (number_of n)
 
 unfoldable pub payload_number : payload_answer.Answer → Option ℕ
-payload_number (payload_answers.More n i) = none
-payload_number (payload_answers.Stopped n i) = none
-payload_number (payload_answers.Ended n i b) = none
-payload_number (payload_answers.Refused r) = some (number_of r)
+payload_number (Ok (payload_answers.More n i)) = none
+payload_number (Ok (payload_answers.Stopped n i)) = none
+payload_number (Ok (payload_answers.Ended n i b)) = none
+payload_number (Err r) = some (number_of r)
 
 unfoldable pub dcs_number : dcs_answer.Answer → Option ℕ
-dcs_number (dcs_answers.More n i) = none
-dcs_number (dcs_answers.Stopped n i) = none
-dcs_number (dcs_answers.Ended n i e) = none
-dcs_number (dcs_answers.Refused r) = some (number_of r)
+dcs_number (Ok (payload_answers.More n i)) = none
+dcs_number (Ok (payload_answers.Stopped n i)) = none
+dcs_number (Ok (payload_answers.Ended n i e)) = none
+dcs_number (Err r) = some (number_of r)
 
 unfoldable pub finish_number : Finishing → Option ℕ
-finish_number (finishes.Picture r) = none
-finish_number (finishes.Refused n) = some (number_of n)
+finish_number (Ok r) = none
+finish_number (Err n) = some (number_of n)
 
 unfoldable pub read_number : meant.Finished → Option ℕ
 read_number (meant.finished r) = none

@@ -17,28 +17,17 @@ use frame::{Frame, Ground, Kind, Outcome, Progress};
 use reference::step;
 use renew::{renewed, renewed_pen};
 
-fn either(a: bool, b: bool) -> bool
-    ensures { result ≡ (a || b) }
-{
-    if a {
-        return true;
-    }
-    b
-}
-
 // Two advances, one after the other, as one.
 fn joined(before: Advance, after: Advance) -> Advance
     requires { before.ink + after.ink < 18446744073709551616 }
     ensures { result ≡ joined_to before after }
 {
-    let area = after.area;
-    let extent = after.extent;
     Advance {
         pen: renewed_pen(after.pen),
-        area,
-        extent,
+        area: after.area,
+        extent: after.extent,
         held: after.held,
-        settled: either(before.settled, after.settled),
+        settled: before.settled || after.settled,
         end: after.end,
         ink: before.ink + after.ink,
     }
@@ -48,13 +37,10 @@ fn joined(before: Advance, after: Advance) -> Advance
 fn resume(frame: Frame, advance: Advance) -> Frame
     ensures { result ≡ after_advance frame advance }
 {
-    let pen = advance.pen;
-    let area = advance.area;
-    let extent = advance.extent;
     let mut next = renewed(frame);
-    next.pen = pen;
-    next.area = area;
-    next.extent = extent;
+    next.pen = advance.pen;
+    next.area = advance.area;
+    next.extent = advance.extent;
     next.held = advance.held;
     if advance.settled {
         return without_command(next);
@@ -78,6 +64,7 @@ fn read_idle(
         result (of_table colors.new) canvas.new }
 {
     let mut done = nothing(frame, from);
+    // Kept: (d) the place moves as far as the machine read, so that no range counts it.
     while done.end < bytes.len() {
         let here = done.end;
         let now = resume(frame, done);
@@ -104,9 +91,7 @@ fn read_fast(
     ensures { Advances ground bytes.now from left frame (of_table colors.old) canvas.old
         result (of_table colors.new) canvas.new }
 {
-    let command = frame.command;
-    let kind = command.kind;
-    if let Kind::Data = kind {
+    if let Kind::Data = frame.command.kind {
         return read_idle(frame, ground, colors, canvas, bytes, from, left);
     }
     nothing(frame, from)
@@ -126,12 +111,9 @@ fn read_byte(
         ≡ step_of frame ground byte left (of_table colors.old) canvas.old }
 {
     let read = step(frame, ground, colors, canvas, byte, left);
-    let outcome = read.outcome;
     Progress {
         frame: renewed(read.frame),
-        consumed: read.consumed,
-        ink: read.ink,
-        outcome,
+        ..read
     }
 }
 
@@ -148,6 +130,7 @@ fn reached(frame: Frame, consumed: usize, ink: usize, outcome: Outcome) -> Progr
 
 // Reads bytes until all are read, or one stays unread.
 // Inner: asks that the visible area has room on the canvas.
+// Kept: docs/EXCEPTIONS.md names the function with what it asks; a type that holds `Fits` would ask it of callers in another place.
 pub fn process(
     frame: Frame,
     ground: Ground,
@@ -165,6 +148,7 @@ pub fn process(
     let mut now = renewed(frame);
     let mut consumed = 0;
     let mut ink = 0;
+    // Kept: (d) the place moves as far as a machine read, so that no range counts it.
     while consumed < bytes.len() {
         let fast = read_fast(
             now,
@@ -177,20 +161,19 @@ pub fn process(
         );
         now = resume(now, fast);
         consumed = fast.end;
-        ink = ink + fast.ink;
+        ink += fast.ink;
         if consumed == bytes.len() {
             return reached(now, consumed, ink, Outcome::Read);
         }
         let byte = bytes[consumed];
         let read = read_byte(now, ground, colors, canvas, byte, allowance - ink);
-        let outcome = read.outcome;
         now = read.frame;
-        match outcome {
+        match read.outcome {
             Outcome::Read => {
-                consumed = consumed + read.consumed;
-                ink = ink + read.ink;
+                consumed += read.consumed;
+                ink += read.ink;
             }
-            _ => return reached(now, consumed, ink, outcome),
+            outcome => return reached(now, consumed, ink, outcome),
         }
     }
     reached(now, consumed, ink, Outcome::Read)

@@ -1,5 +1,6 @@
 // The frame made anew from its numbers. Copied whole it would carry its padding bytes along, and a loop that carries those from
 // turn to turn takes three times as long.
+// Kept: (b) tried without it, a byte a call takes 1.1 to 1.4 times as long, and a picture of 16 x 12 pixels 1.4 times (docs/SPEED.md).
 ghost use Rattle.std.specs.Prelude.{◌≡◌};
 
 use frame::{Command, Extent, Frame, Pen, Raster, VisibleArea};
@@ -48,12 +49,10 @@ fn renewed_raster(raster: Raster) -> Raster
 fn renewed_command(command: Command) -> Command
     ensures { result ≡ command }
 {
-    let kind = command.kind;
-    let parameters = command.parameters;
     Command {
-        kind,
+        kind: command.kind,
         number: command.number,
-        parameters: parameters.renewed(),
+        parameters: command.parameters.renewed(),
     }
 }
 

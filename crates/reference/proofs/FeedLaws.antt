@@ -24,8 +24,9 @@ use Rattle.frame.specs.declared.Kind.TheVariants as kinds
 use Rattle.frame.specs.declared.Outcome.{Outcome}
 use Rattle.frame.specs.declared.Outcome.TheVariants as outcomes
 use Rattle.frame.specs.declared.Progress.{Progress}
-use Rattle.frame.specs.declared.sizes.Needed.{Needed}
-use Rattle.frame.specs.declared.sizes.Needed.TheVariants.{Area, Refused}
+use Rattle.std.specs.Prelude.{Result, Ok, Err}
+use Rattle.frame.specs.declared.Refusal.{Refusal}
+use Rattle.frame.specs.declared.VisibleArea.{VisibleArea}
 use Rattle.frame.specs.Sizes.{sixel_area}
 use Rattle.frame.specs.Commands.{with_command, begun, unread_as, refused_as}
 use Rattle.reference.specs.Step.{Reached, Fits, read_as, inked, painted_on, drawn_in, drawn_by, moved_to, own_of, data_step, takes_semicolon, settled_step, argument_step, step_in, step_of}
@@ -55,10 +56,11 @@ module _ (f : Frame) (g : Ground) (left : ℕ) {n : ℕ} (fits : Fits f g n) whe
       (λ t. rw t (record { roomy = same-roomy f g n fits; ink = omega arith; few = omega arith; consumes = λ e. cc }))
       (λ t. rw t (record { roomy = k; ink = ltb-false _ _ t; few = omega arith; consumes = λ e. refl }))
 
-  drawn-in : (x : Needed) (bits : ℕ) (p : Palette) (l : List ℕ) → sixel_area f.pen f.area g ≡ x → Drawn f g left (drawn_in x f g bits left p l).progress
+  drawn-in : (x : Result VisibleArea Refusal) (bits : ℕ) (p : Palette) (l : List ℕ) → sixel_area f.pen f.area g ≡ x
+      → Drawn f g left (drawn_in x f g bits left p l).progress
   unfolding drawn_in refused_as unread_as
-  drawn-in (Area w h) bits p l e = painted-drawn bits w h p l (sixel-roomy f.pen f.area g w h fits.width fits.height e).0
-  drawn-in (Refused r) bits p l e = record { roomy = same-roomy f g n fits; ink = omega arith; few = omega arith; consumes = λ e. cc }
+  drawn-in (Ok a) bits p l e = painted-drawn bits a.width a.height p l (sixel-roomy f.pen f.area g a.width a.height fits.width fits.height e).0
+  drawn-in (Err r) bits p l e = record { roomy = same-roomy f g n fits; ink = omega arith; few = omega arith; consumes = λ e. cc }
 
   -- an own effect leaves the area
   own-area : (b : ℕ) → (own_of f b).area ≡ f.area

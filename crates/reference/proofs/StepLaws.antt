@@ -1,16 +1,14 @@
--- Laws of a step: one for each path through a function of `step`, and what each asks of its callees.
-use Prim.Native.Nat.{ℕ, ◌+◌, ◌-◌, ◌*◌, ◌≤◌, ◌<◌, min, max}
+-- Laws of a step: what its functions ask of their callees, and the paths that the fast machine's laws go too.
+use Prim.Native.Nat.{ℕ, ◌+◌, ◌-◌, ◌*◌, ◌≤◌, ◌<◌, max}
 use mathlib.Core.Bool.{Bool, true, false, ◌&&◌}
-use mathlib.Core.List.{List, [], ◌∷◌}
+use mathlib.Core.List.{List}
 use mathlib.Core.Path.{◌≡◌, refl, sym, ap, ap₂, ◌∙◌}
 use native.Mathlib.Nat.{mul-le-mul_right}
 use native.Mathlib.Omega.{arith}
-use borrow.Author.Tests.{lt-ltb, le-ltb, eq-eqb, ne_eqb, leb-true}
-use denote.Enum.Declared.{tag_of}
+use borrow.Author.Tests.{le-ltb, eq-eqb, ne_eqb, leb-true}
 use lib.Count.{ones, ones-le}
 use lib.Dec.{leb, ltb, eqb}
-use types.Run.{OneOf, miss}
-use Rattle.numbers.specs.Bytes.{skipped, digit, sixel, ends, between, semicolon, bang, quote, hash, dollar, dash}
+use Rattle.numbers.specs.Bytes.{sixel, ends, between}
 use Rattle.numbers.proofs.Laws.{cond_yes, cond_no}
 use Rattle.colours.specs.declared.Palette.{Palette}
 use Rattle.canvas.specs.Picture.{depth, rows_of}
@@ -29,13 +27,11 @@ use Rattle.frame.specs.declared.Progress.{Progress}
 use Rattle.frame.specs.declared.Raster.{Raster}
 use Rattle.frame.specs.declared.Refusal.{Refusal}
 use Rattle.frame.specs.declared.VisibleArea.{VisibleArea}
-use Rattle.frame.specs.declared.sizes.Needed.{Needed}
-use Rattle.frame.specs.declared.sizes.Needed.TheVariants.{Area, Refused}
+use Rattle.std.specs.Prelude.{Result, Ok, Err}
 use Rattle.frame.specs.Sizes.{raster_area, sixel_area}
-use Rattle.frame.specs.Commands.{with_command, begun, by_digit, by_semicolon, settled_as, unread_as, refused_as, repeat_ended, color_ended_by, finished_of, raster_by, raster_grown, raster_ended_by, Ended, ended_in, ended}
-use Rattle.reference.specs.Step.{Reached, Fits, Holds, read_as, area_grown, painted_to, right_after, bottom_after, extent_after, passed_to, inked, canvas_after, painted_on, drawn_in, drawn_by, row_ceiling, moved_to, own_of, data_step, takes_semicolon, settled_step, argument_step, step_in, step_of}
+use Rattle.frame.specs.Commands.{settled_as, unread_as, refused_as, repeat_ended, color_ended_by, finished_of, raster_by, raster_grown, raster_ended_by, Ended, ended_in, ended}
+use Rattle.reference.specs.Step.{Reached, Fits, Holds, read_as, area_grown, painted_to, inked, canvas_after, painted_on, drawn_in, drawn_by, own_of, data_step, settled_step, step_in, step_of}
 use Rattle.frame.proofs.SizeLaws.{Roomy, raster-roomy, sixel-roomy}
-use Rattle.frame.specs.contracts.Kind as KindType
 
 -- ---- a sixel
 
@@ -65,13 +61,6 @@ pub rows-inked : {r told : ℕ} (bottom bits row rows : ℕ) → bits < 64 → (
     → r ≡ max bottom (painted_to bits (row + rows))
 rows-inked bottom bits row rows six n k e = side-inked bottom bits (row + rows) six n (e ∙ ap (λ (x : ℕ). max bottom (row + x)) k)
 
-pub inked-as : {right bottom : ℕ} {next : Frame} (f : Frame) (bits w h : ℕ)
-    → right ≡ right_after f.extent.right bits (f.pen.column + f.pen.repeat)
-    → bottom ≡ bottom_after f.extent.bottom bits f.pen.row
-    → next ≡ passed_to f (record { right = right; bottom = bottom }) w h → next ≡ inked f bits w h
-unfolding inked extent_after
-inked-as f bits w h e k n = n ∙ ap₂ (λ (x y : ℕ). passed_to f (record { right = x; bottom = y }) w h) e k
-
 -- the ink of a sixel that has room is at most the canvas's bytes
 pub ink-room : (f : Frame) (g : Ground) (bits w h n : ℕ) → bits < 256 → Fits f g n → Holds f g w h → ones bits * f.pen.repeat ≤ n
 ink-room f g bits w h n small fits holds =
@@ -98,26 +87,21 @@ pub put_as : {l₁ l₂ : List ℕ} (f : Frame) (g : Ground) (bits w h : ℕ) (l
 unfolding canvas_after
 put_as f g bits w h l e k = k ∙ ap (sixel_painted g.stride f.pen.column f.pen.row f.pen.repeat bits f.pen.color) e
 
-module _ (f : Frame) (g : Ground) (bits left w h : ℕ) (p : Palette) (l : List ℕ) where
-  pub painted-stopped : {s : Progress} → left < ones bits * f.pen.repeat → s ≡ unread_as f outcomes.Stopped
-      → ◌≡◌ {A = Reached} (record { progress = s; palette = p; canvas = l }) (painted_on f g bits left w h p l)
-  unfolding painted_on
-  painted-stopped k e =
-      ap (λ (x : Progress). record { progress = x; palette = p; canvas = l }) e ∙ sym (cond_yes _ _ (lt-ltb _ _ k))
-
-  pub painted-read : {s : Progress} {next : Frame} {l₁ : List ℕ} → ones bits * f.pen.repeat ≤ left → l₁ ≡ canvas_after f g bits w h l
-      → next ≡ inked f bits w h → s ≡ read_as next (ones bits * f.pen.repeat)
-      → ◌≡◌ {A = Reached} (record { progress = s; palette = p; canvas = l₁ }) (painted_on f g bits left w h p l)
-  unfolding painted_on
-  painted-read k e n r =
-      ap₂
-      (λ (x : Progress) (y : List ℕ). record { progress = x; palette = p; canvas = y })
-      (r ∙ ap (λ (x : Frame). read_as x (ones bits * f.pen.repeat)) n)
-      e
-      ∙ sym (cond_no _ _ (le-ltb _ _ k))
+pub painted-read : {s : Progress} {next : Frame} {l₁ : List ℕ} (f : Frame) (g : Ground) (bits left w h : ℕ) (p : Palette) (l : List ℕ)
+    → ones bits * f.pen.repeat ≤ left → l₁ ≡ canvas_after f g bits w h l
+    → next ≡ inked f bits w h → s ≡ read_as next (ones bits * f.pen.repeat)
+    → ◌≡◌ {A = Reached} (record { progress = s; palette = p; canvas = l₁ }) (painted_on f g bits left w h p l)
+unfolding painted_on
+painted-read f g bits left w h p l k e n r =
+    ap₂
+    (λ (x : Progress) (y : List ℕ). record { progress = x; palette = p; canvas = y })
+    (r ∙ ap (λ (x : Frame). read_as x (ones bits * f.pen.repeat)) n)
+    e
+    ∙ sym (cond_no _ _ (le-ltb _ _ k))
 
 -- the area that a sixel needs holds it
-pub needed-holds : {x : Needed} (f : Frame) (g : Ground) (n w h : ℕ) → Fits f g n → x ≡ sixel_area f.pen f.area g → x ≡ Area w h
+pub needed-holds : {x : Result VisibleArea Refusal} (f : Frame) (g : Ground) (n w h : ℕ) → Fits f g n → x ≡ sixel_area f.pen f.area g
+    → x ≡ Ok (record { width = w; height = h })
     → Fits f g n × Holds f g w h
 needed-holds f g n w h fits e k =
     let r = sixel-roomy f.pen f.area g w h fits.width fits.height (sym e ∙ k) in (
@@ -132,64 +116,13 @@ needed-holds f g n w h fits e k =
       },
     )
 
-module _ {x : Needed} (f : Frame) (g : Ground) (bits left : ℕ) (p : Palette) (l : List ℕ) (needed : x ≡ sixel_area f.pen f.area g) where
-  pub drawn-area : {t : Reached} {w h : ℕ} → x ≡ Area w h → t ≡ painted_on f g bits left w h p l → t ≡ drawn_by f g bits left p l
-  unfolding drawn_by drawn_in
-  drawn-area k e = e ∙ ap (λ (y : Needed). drawn_in y f g bits left p l) (sym k ∙ needed)
-
-  pub drawn-refused : {r : Refusal} {s : Progress} → x ≡ Refused r → s ≡ unread_as f (outcomes.Refused r)
-      → ◌≡◌ {A = Reached} (record { progress = s; palette = p; canvas = l }) (drawn_by f g bits left p l)
-  unfolding drawn_by drawn_in refused_as
-  drawn-refused k e =
-      ap (λ (y : Progress). record { progress = y; palette = p; canvas = l }) e
-      ∙ ap (λ (y : Needed). drawn_in y f g bits left p l) (sym k ∙ needed)
+pub drawn-area : {x : Result VisibleArea Refusal} {t : Reached} {w h : ℕ} (f : Frame) (g : Ground) (bits left : ℕ) (p : Palette) (l : List ℕ)
+    → x ≡ sixel_area f.pen f.area g → x ≡ Ok (record { width = w; height = h }) → t ≡ painted_on f g bits left w h p l
+    → t ≡ drawn_by f g bits left p l
+unfolding drawn_by drawn_in
+drawn-area f g bits left p l needed k e = e ∙ ap (λ (y : Result VisibleArea Refusal). drawn_in y f g bits left p l) (sym k ∙ needed)
 
 -- ---- a byte while no command is pending
-
-module _ (f : Frame) (b : ℕ) {r : Frame} where
-  pub own-hash : b ≡ hash → r ≡ begun f kinds.Color 5 → r ≡ own_of f b
-  unfolding own_of
-  own-hash e k = k ∙ sym (cond_yes _ _ (eq-eqb _ _ e))
-
-  module _ (n₁ : b ≡ hash → ⊥) where
-    pub own-bang : b ≡ bang → r ≡ begun f kinds.Repeat 0 → r ≡ own_of f b
-    unfolding own_of
-    own-bang e k = k ∙ sym (cond_no _ _ (ne_eqb _ _ n₁) ∙ cond_yes _ _ (eq-eqb _ _ e))
-
-    module _ (n₂ : b ≡ bang → ⊥) where
-      pub own-dollar : b ≡ dollar → r ≡ moved_to f f.pen.row → r ≡ own_of f b
-      unfolding own_of
-      own-dollar e k = k ∙ sym (cond_no _ _ (ne_eqb _ _ n₁) ∙ cond_no _ _ (ne_eqb _ _ n₂) ∙ cond_yes _ _ (eq-eqb _ _ e))
-
-      module _ (n₃ : b ≡ dollar → ⊥) where
-        pub own-dash : {y : ℕ} → b ≡ dash → y ≡ min (f.pen.row + 6) row_ceiling → r ≡ moved_to f y → r ≡ own_of f b
-        unfolding own_of
-        own-dash e m k =
-            k
-            ∙ ap (moved_to f) m
-            ∙ sym (cond_no _ _ (ne_eqb _ _ n₁) ∙ cond_no _ _ (ne_eqb _ _ n₂) ∙ cond_no _ _ (ne_eqb _ _ n₃) ∙ cond_yes _ _ (eq-eqb _ _ e))
-
-        module _ (n₄ : b ≡ dash → ⊥) where
-          pub own-quote : b ≡ quote → r ≡ begun f kinds.Raster 4 → r ≡ own_of f b
-          unfolding own_of
-          own-quote e k =
-              k
-              ∙ sym
-              (cond_no _ _ (ne_eqb _ _ n₁)
-              ∙ cond_no _ _ (ne_eqb _ _ n₂)
-              ∙ cond_no _ _ (ne_eqb _ _ n₃)
-              ∙ cond_no _ _ (ne_eqb _ _ n₄)
-              ∙ cond_yes _ _ (eq-eqb _ _ e))
-
-pub own-other : (f : Frame) (b : ℕ) → (b ≡ hash → ⊥) → (b ≡ bang → ⊥) → (b ≡ dollar → ⊥) → (b ≡ dash → ⊥) → (b ≡ quote → ⊥) → f ≡ own_of f b
-unfolding own_of
-own-other f b n₁ n₂ n₃ n₄ n₅ =
-    sym
-    (cond_no _ _ (ne_eqb _ _ n₁)
-    ∙ cond_no _ _ (ne_eqb _ _ n₂)
-    ∙ cond_no _ _ (ne_eqb _ _ n₃)
-    ∙ cond_no _ _ (ne_eqb _ _ n₄)
-    ∙ cond_no _ _ (ne_eqb _ _ n₅))
 
 pub sixel-least : {t : Bool} (b : ℕ) → t ≡ sixel b → t ≡ true → 63 ≤ b
 unfolding sixel between
@@ -205,13 +138,6 @@ module _ (f : Frame) (g : Ground) (b left : ℕ) (p : Palette) (l : List ℕ) {s
   data-sixel h k = k ∙ sym (cond_yes _ _ (sym drawn ∙ h))
 
   module _ {e : Bool} (no : s ≡ false) (ending : e ≡ ends b) where
-    pub data-ended : {r : Progress} → e ≡ true → r ≡ unread_as f (outcomes.Ended b)
-        → ◌≡◌ {A = Reached} (record { progress = r; palette = p; canvas = l }) (data_step f g b left p l)
-    unfolding data_step
-    data-ended h k =
-        ap (λ (x : Progress). record { progress = x; palette = p; canvas = l }) k
-        ∙ sym (cond_no _ _ (sym drawn ∙ no) ∙ cond_yes _ _ (sym ending ∙ h))
-
     pub data-own : {r : Progress} {next : Frame} → e ≡ false → next ≡ own_of f b → r ≡ read_as next 0
         → ◌≡◌ {A = Reached} (record { progress = r; palette = p; canvas = l }) (data_step f g b left p l)
     unfolding data_step
@@ -220,28 +146,6 @@ module _ (f : Frame) (g : Ground) (b left : ℕ) (p : Palette) (l : List ℕ) {s
         ∙ sym (cond_no _ _ (sym drawn ∙ no) ∙ cond_no _ _ (sym ending ∙ h))
 
 -- ---- a byte while a command is pending
-
-pub takes-data : (k : Kind) → k ≡ kinds.Data → false ≡ takes_semicolon k
-unfolding takes_semicolon
-takes-data k e = ap takes_semicolon (sym e)
-
-pub takes-repeat : (k : Kind) → k ≡ kinds.Repeat → false ≡ takes_semicolon k
-unfolding takes_semicolon
-takes-repeat k e = ap takes_semicolon (sym e)
-
-pub takes-color : (k : Kind) → k ≡ kinds.Color → true ≡ takes_semicolon k
-unfolding takes_semicolon
-takes-color k e = ap takes_semicolon (sym e)
-
-pub takes-raster : (k : Kind) → k ≡ kinds.Raster → true ≡ takes_semicolon k
-unfolding takes_semicolon
-takes-raster k e = ap takes_semicolon (sym e)
-
-pub parts-yes : {t : Bool} (b : ℕ) (k : Kind) → b ≡ semicolon → t ≡ takes_semicolon k → t ≡ (eqb b semicolon && takes_semicolon k)
-parts-yes b k e h = h ∙ ap (λ (s : Bool). s && takes_semicolon k) (sym (eq-eqb b semicolon e))
-
-pub parts-no : (b : ℕ) (k : Kind) → (b ≡ semicolon → ⊥) → false ≡ (eqb b semicolon && takes_semicolon k)
-parts-no b k n = ap (λ (s : Bool). s && takes_semicolon k) (sym (ne_eqb b semicolon n))
 
 -- the visible area as it was, where it has room
 pub same-roomy : (f : Frame) (g : Ground) (n : ℕ) → Fits f g n → Roomy f.area g f.area.width f.area.height
@@ -271,10 +175,11 @@ repeat-ends f g n fits =
     (λ t. rw t (refused-ends f g _ n fits))
     (λ t. rw t (settled-ends f g _ _ _ _ _ (same-roomy f g n fits)))
 
-needed-ends : (f : Frame) (g : Ground) (r : Raster) (x : Needed) (n a b : ℕ) → Fits f g n → raster_area f.area g a b ≡ x → Ends f g (raster_grown f r x)
+needed-ends : (f : Frame) (g : Ground) (r : Raster) (x : Result VisibleArea Refusal) (n a b : ℕ) → Fits f g n → raster_area f.area g a b ≡ x
+    → Ends f g (raster_grown f r x)
 unfolding raster_grown
-needed-ends f g r (Area w h) n a b fits e = settled-ends f g _ _ _ r _ (raster-roomy f.area g a b w h e)
-needed-ends f g r (Refused y) n a b fits e = refused-ends f g y n fits
+needed-ends f g r (Ok s) n a b fits e = settled-ends f g _ _ _ r _ (raster-roomy f.area g a b s.width s.height e)
+needed-ends f g r (Err y) n a b fits e = refused-ends f g y n fits
 
 raster-ends : (f : Frame) (g : Ground) (r : Raster) (n : ℕ) → Fits f g n → Ends f g (raster_ended_by f g r)
 unfolding raster_ended_by
@@ -319,34 +224,6 @@ settled-as {s} {q} f g p l e k =
     })
     e
 
-module _ (f : Frame) (g : Ground) (b : ℕ) (p : Palette) (l : List ℕ) {d : Bool} (digits : d ≡ digit b) where
-  pub argument-digit : {r : Progress} {next : Frame} → d ≡ true → next ≡ with_command f (by_digit f.command b) → r ≡ read_as next 0
-      → ◌≡◌ {A = Reached} (record { progress = r; palette = p; canvas = l }) (argument_step f g b p l)
-  unfolding argument_step
-  argument-digit h k m =
-      ap (λ (x : Progress). record { progress = x; palette = p; canvas = l }) (m ∙ ap (λ (x : Frame). read_as x 0) k)
-      ∙ sym (cond_yes _ _ (sym digits ∙ h))
-
-  module _ {s : Bool} (no : d ≡ false) (skips : s ≡ skipped b) where
-    pub argument-skipped : {r : Progress} → s ≡ true → r ≡ read_as f 0
-        → ◌≡◌ {A = Reached} (record { progress = r; palette = p; canvas = l }) (argument_step f g b p l)
-    unfolding argument_step
-    argument-skipped h m =
-        ap (λ (x : Progress). record { progress = x; palette = p; canvas = l }) m
-        ∙ sym (cond_no _ _ (sym digits ∙ no) ∙ cond_yes _ _ (sym skips ∙ h))
-
-    module _ {t : Bool} (kept : s ≡ false) (parts : t ≡ (eqb b semicolon && takes_semicolon f.command.kind)) where
-      pub argument-parted : {r : Progress} {next : Frame} → t ≡ true → next ≡ with_command f (by_semicolon f.command) → r ≡ read_as next 0
-          → ◌≡◌ {A = Reached} (record { progress = r; palette = p; canvas = l }) (argument_step f g b p l)
-      unfolding argument_step
-      argument-parted h k m =
-          ap (λ (x : Progress). record { progress = x; palette = p; canvas = l }) (m ∙ ap (λ (x : Frame). read_as x 0) k)
-          ∙ sym (cond_no _ _ (sym digits ∙ no) ∙ cond_no _ _ (sym skips ∙ kept) ∙ cond_yes _ _ (sym parts ∙ h))
-
-      pub argument-settled : {x : Reached} → t ≡ false → x ≡ settled_step f g p l → x ≡ argument_step f g b p l
-      unfolding argument_step
-      argument-settled h e = e ∙ sym (cond_no _ _ (sym digits ∙ no) ∙ cond_no _ _ (sym skips ∙ kept) ∙ cond_no _ _ (sym parts ∙ h))
-
 -- ---- either
 
 module _ (f : Frame) (g : Ground) (b left : ℕ) (p : Palette) (l : List ℕ) {t : Reached} where
@@ -354,27 +231,4 @@ module _ (f : Frame) (g : Ground) (b left : ℕ) (p : Palette) (l : List ℕ) {t
   unfolding step_of step_in
   step-data k e = e ∙ ap (λ (j : Kind). step_in j f g b left p l) (sym k)
 
-pending-step : (k : Kind) (f : Frame) (g : Ground) (b left : ℕ) (p : Palette) (l : List ℕ) → OneOf (1 ∷ 2 ∷ 3 ∷ []) (tag_of KindType.the_type k)
-    → argument_step f g b p l ≡ step_in k f g b left p l
-unfolding step_in
-pending-step kinds.Data f g b left p l h = absurd (miss (1 ∷ 2 ∷ 3 ∷ []) 0 tt h)
-pending-step kinds.Repeat f g b left p l h = refl
-pending-step kinds.Color f g b left p l h = refl
-pending-step kinds.Raster f g b left p l h = refl
-
-pub step-argument : {t : Reached} (f : Frame) (g : Ground) (b left : ℕ) (p : Palette) (l : List ℕ)
-    → OneOf (1 ∷ 2 ∷ 3 ∷ []) (tag_of KindType.the_type f.command.kind)
-    → t ≡ argument_step f g b p l → t ≡ step_of f g b left p l
-unfolding step_of
-step-argument f g b left p l k e = e ∙ pending-step f.command.kind f g b left p l k
-
 pub ruleset extents = (side-blank, side-inked, rows-inked)
-
-pub ruleset drawing = (inked-as, put_as, painted-stopped, painted-read, drawn-area, drawn-refused)
-
-pub ruleset effects = (own-hash, own-bang, own-dollar, own-dash, own-quote, own-other, sixel-least, data-sixel, data-ended, data-own)
-
-pub ruleset arguments =
-    (takes-data, takes-repeat, takes-color, takes-raster, parts-yes, parts-no, settled-as, argument-digit, argument-skipped, argument-parted, argument-settled)
-
-pub ruleset either = (step-data, step-argument)

@@ -1,5 +1,5 @@
 -- What the code does with a byte, on its own records, the palette and the canvas's bytes.
-use Rattle.std.specs.Prelude.{ℕ, zero, suc, ◌+◌, ◌-◌, ◌*◌, ◌≤◌, min, max, ◌≡◌, Bool, true, false, cond, ◌&&◌, ◌||◌, List, [], ◌∷◌, leb, ltb, eqb}
+use Rattle.std.specs.Prelude.{ℕ, zero, suc, ◌+◌, ◌-◌, ◌*◌, ◌≤◌, min, max, ◌≡◌, Bool, true, false, cond, ◌&&◌, ◌||◌, List, [], ◌∷◌, leb, ltb, eqb, Result, Ok, Err}
 use Rattle.std.specs.Int.Count.{ones}
 use Rattle.numbers.specs.Bytes.{skipped, digit, sixel, ends, semicolon, bang, quote, hash, dollar, dash}
 use Rattle.colours.specs.declared.Palette.{Palette}
@@ -16,8 +16,7 @@ use Rattle.frame.specs.declared.Outcome.TheVariants as outcomes
 use Rattle.frame.specs.declared.Pen.{Pen}
 use Rattle.frame.specs.declared.Progress.{Progress}
 use Rattle.frame.specs.declared.VisibleArea.{VisibleArea}
-use Rattle.frame.specs.declared.sizes.Needed.{Needed}
-use Rattle.frame.specs.declared.sizes.Needed.TheVariants.{Area, Refused}
+use Rattle.frame.specs.declared.Refusal.{Refusal}
 use Rattle.frame.specs.Sizes.{sixel_area}
 use Rattle.frame.specs.Commands.{with_command, begun, by_digit, by_semicolon, unread_as, refused_as, Ended, ended}
 
@@ -107,10 +106,10 @@ painted_on f g bits left w h p l =
     (record { progress = unread_as f outcomes.Stopped; palette = p; canvas = l })
     (record { progress = read_as (inked f bits w h) (ones bits * f.pen.repeat); palette = p; canvas = canvas_after f g bits w h l })
 
-unfoldable pub drawn_in : Needed → Frame → Ground → ℕ → ℕ → Palette → List ℕ → Reached
+unfoldable pub drawn_in : Result VisibleArea Refusal → Frame → Ground → ℕ → ℕ → Palette → List ℕ → Reached
 unfolding painted_on refused_as
-drawn_in (Area w h) f g bits left p l = painted_on f g bits left w h p l
-drawn_in (Refused r) f g bits left p l = record { progress = refused_as f r; palette = p; canvas = l }
+drawn_in (Ok a) f g bits left p l = painted_on f g bits left a.width a.height p l
+drawn_in (Err r) f g bits left p l = record { progress = refused_as f r; palette = p; canvas = l }
 
 unfoldable pub drawn_by : Frame → Ground → ℕ → ℕ → Palette → List ℕ → Reached
 unfolding drawn_in

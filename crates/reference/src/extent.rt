@@ -3,8 +3,6 @@ ghost use Rattle.std.specs.Prelude.{◌≡◌, ◌+◌, ◌<◌};
 ghost use Rattle.canvas.specs.Picture.{depth};
 ghost use Rattle.reference.specs.Step.{right_after, bottom_after};
 
-use frame::sizes::larger;
-
 // How far down six bits go: one past the lowest that is set, or 0. Their binary digits, so that no bit is tested.
 fn depth_of(bits: u8) -> usize
     requires { bits < 64 }
@@ -23,7 +21,7 @@ pub fn right_after(right: usize, bits: u8, end: usize) -> usize
     if bits == 0 {
         return right;
     }
-    larger(right, end)
+    right.max(end)
 }
 
 // And it keeps the bottom.
@@ -35,5 +33,5 @@ pub fn bottom_after(bottom: usize, bits: u8, row: usize) -> usize
     if bits == 0 {
         return bottom;
     }
-    larger(bottom, row + depth_of(bits))
+    bottom.max(row + depth_of(bits))
 }

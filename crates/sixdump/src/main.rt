@@ -43,60 +43,24 @@ fn open() -> Reader
     pieces::open(limits, STRIDE, Palette::standard(), CANVAS)
 }
 
-fn is_reading(standing: Standing) -> bool {
-    if let Standing::Reading = standing {
-        return true;
-    }
-    false
-}
-
-#[derive(Clone, Copy)]
-struct Turn {
-    reader: Reader,
-    goes_on: bool,
-}
-
-// Reads once and takes what came; nothing comes at the input's end, and a failed read counts as that.
-fn next_piece(input: &mut impl Read, reader: Reader, canvas: &mut [u8]) -> Turn
-    ensures { Taken reader canvas.old result.reader canvas.new }
-{
-    let mut buffer = [0; 4096];
-    let n = input.read(&mut buffer).unwrap_or(0);
-    if n == 0 {
-        return Turn {
-            reader,
-            goes_on: false,
-        };
-    }
-    let after = pieces::take(reader, canvas, &buffer[..n]);
-    Turn {
-        reader: after,
-        goes_on: is_reading(pieces::standing_of(after)),
-    }
-}
-
-// A proved loop has to terminate, and nothing says that an input ends: the turns are counted down from a number that no run uses up (fuel).
+// Reads and takes what comes, until the sequence or the input ends. A failed read counts as the input's end. A proved loop has to
+// terminate, and nothing says that an input ends: the turns are counted up to a number that no run reaches.
 fn read_input(input: &mut impl Read, start: Reader, canvas: &mut [u8]) -> Reader
     ensures { Taken start canvas.old result canvas.new }
 {
     let mut reader = start;
-    let mut turns = u64::MAX;
-    while turns > 0 {
-        let turn = next_piece(input, reader, canvas);
-        reader = turn.reader;
-        if !turn.goes_on {
-            return reader;
+    let mut buffer = [0; 4096];
+    for _ in 0..u64::MAX {
+        let n = input.read(&mut buffer).unwrap_or(0);
+        if n == 0 {
+            break;
         }
-        turns -= 1;
+        reader = pieces::take(reader, canvas, &buffer[..n]);
+        if !matches!(pieces::standing_of(reader), Standing::Reading) {
+            break;
+        }
     }
     reader
-}
-
-fn print_front(rt: &impl Print, text: &[u8], length: usize) -> io::Result<()> {
-    if length <= text.len() {
-        rt.write_all(&text[..length])?;
-    }
-    Ok(())
 }
 
 fn main(rt: HostRuntime) -> io::Result<()> {
@@ -104,5 +68,5 @@ fn main(rt: HostRuntime) -> io::Result<()> {
     let mut text = text_room();
     let reader = read_input(&mut rt.stdin(), open(), &mut canvas);
     let length = write_outcome(&mut text, reader, Palette::standard(), STRIDE, &mut canvas);
-    print_front(&rt, &text, length)
+    rt.write_all(text.get(..length).unwrap_or(&[]))
 }

@@ -12,89 +12,46 @@ mod say;
 mod sessions;
 mod state;
 
-use lines::{Unread, block_room, line_room, next_line, nothing_read};
 use obey::obey;
-use order::Order;
 use rooms::{bytes_room, first};
 use state::State;
 use std::io;
-use std::io::Read;
+use std::io::{BufRead, BufReader};
 
-fn is_bad(order: Order) -> bool {
-    match order {
-        Order::Bad => true,
-        _ => false,
-    }
-}
-
-fn run_line(rt: &impl Print, line: &[u8], state: State, canvas: &mut [u8]) -> io::Result<State> {
-    if line.len() == 0 {
-        return Ok(state);
+fn run_line(rt: &impl Print, line: &[u8], state: &mut State, canvas: &mut [u8]) -> io::Result<()> {
+    if line.is_empty() {
+        return Ok(());
     }
     let mut bytes = bytes_room();
-    let order = order::read(line, state.length, &mut bytes);
-    if is_bad(order) {
-        say::words(rt, "bad line\n")?;
-        return Ok(state);
-    }
-    let after = obey(rt, order, state, canvas, &bytes)?;
-    say::checksum(rt, answers::checksum(first(canvas, after.length)))?;
-    say::words(rt, "\n")?;
-    Ok(after)
+    let Some(order) = order::read(line, state.length, &mut bytes) else {
+        return rt.print("bad line\n");
+    };
+    obey(rt, order, state, canvas)?;
+    say::checksum(rt, answers::checksum(first(canvas, state.length)))?;
+    rt.print("\n")
 }
 
-// What is known after a line.
-#[derive(Clone, Copy)]
-struct Turn {
-    state: State,
-    unread: Unread,
-    is_last: bool,
-}
-
-fn run_next(
-    rt: &impl Print,
-    input: &mut impl Read,
-    block: &mut [u8],
-    line: &mut [u8],
-    canvas: &mut [u8],
-    state: State,
-    unread: Unread,
-) -> io::Result<Turn> {
-    let read = next_line(input, block, line, unread);
-    let after = read.unread;
-    Ok(Turn {
-        state: run_line(rt, first(line, read.length), state, canvas)?,
-        unread: after,
-        is_last: read.is_last,
-    })
-}
-
-// Lines are counted down as their bytes are.
+// A proved loop has to terminate, and nothing says that an input ends: the lines are counted up to a number that no run reaches.
 fn run(
     rt: &impl Print,
-    input: &mut impl Read,
-    block: &mut [u8],
-    line: &mut [u8],
+    input: &mut impl BufRead,
+    line: &mut Vec<u8>,
     canvas: &mut [u8],
 ) -> io::Result<()> {
-    let mut state = state::at_start();
-    let mut unread = nothing_read();
-    let mut turns = u64::MAX;
-    while turns > 0 {
-        let turn = run_next(rt, input, block, line, canvas, state, unread)?;
-        if turn.is_last {
-            return Ok(());
+    let mut state = State::at_start();
+    for _ in 0..u64::MAX {
+        let goes_on = lines::next_line(input, line);
+        run_line(rt, line, &mut state, canvas)?;
+        if !goes_on {
+            break;
         }
-        state = turn.state;
-        unread = turn.unread;
-        turns -= 1;
     }
     Ok(())
 }
 
 fn main(rt: HostRuntime) -> io::Result<()> {
-    let mut block = block_room();
-    let mut line = line_room();
+    let mut input = BufReader::with_capacity(rt.alloc(), 65_536, rt.stdin())?;
+    let mut line = Vec::with_capacity(rt.alloc(), lines::LONGEST + 1)?;
     let mut canvas = rooms::room();
-    run(&rt, &mut rt.stdin(), &mut block, &mut line, &mut canvas)
+    run(&rt, &mut input, &mut line, &mut canvas)
 }

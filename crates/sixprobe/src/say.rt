@@ -1,39 +1,21 @@
 // What is written to standard output.
 use frame::Refusal;
-use payload::{Finishing, Given, Ratio, Report};
+use payload::{Ratio, Report};
 use std::io;
-
-pub(crate) fn words(rt: &impl Print, text: &str) -> io::Result<()> {
-    rt.print(text)
-}
 
 // A number after some words.
 pub(crate) fn number(rt: &impl Print, text: &str, n: usize) -> io::Result<()> {
     print!(rt; "{text}{n}")
 }
 
-// A hex digit of a number.
-fn digit(n: u8) -> u8 {
-    if n < 10 {
-        return 48 + n;
-    }
-    if n < 16 {
-        return 55 + n;
-    }
-    b'?'
-}
-
+// A byte as two hex digits.
 pub(crate) fn byte(rt: &impl Print, n: u8) -> io::Result<()> {
-    rt.write_all(&[digit(n / 16), digit(n % 16)])
+    print!(rt; "{n:02X}")
 }
 
 // A checksum after a space, as eight hex digits.
 pub(crate) fn checksum(rt: &impl Print, sum: u32) -> io::Result<()> {
-    words(rt, " ")?;
-    byte(rt, (sum / 16_777_216) as u8)?;
-    byte(rt, (sum / 65_536 % 256) as u8)?;
-    byte(rt, (sum / 256 % 256) as u8)?;
-    byte(rt, (sum % 256) as u8)
+    print!(rt; " {sum:08X}")
 }
 
 pub(crate) fn refusal(rt: &impl Print, refused: Refusal) -> io::Result<()> {
@@ -55,57 +37,48 @@ pub(crate) fn end(
     last: u8,
 ) -> io::Result<()> {
     counts(rt, name, consumed, ink)?;
-    words(rt, " ")?;
+    rt.print(" ")?;
     byte(rt, last)
 }
 
 // Whether a value was held, after what it belongs to.
 pub(crate) fn holding(rt: &impl Print, is_held: bool) -> io::Result<()> {
-    if is_held {
-        return words(rt, " held");
-    }
-    words(rt, " within")
+    rt.print(if is_held { " held" } else { " within" })
 }
 
-fn p1(rt: &impl Print, given: Given) -> io::Result<()> {
+fn p1(rt: &impl Print, given: Option<u16>) -> io::Result<()> {
     match given {
-        Given::Nothing => words(rt, " ratio p1 none"),
-        Given::Number(n) => number(rt, " ratio p1 ", n as usize),
+        None => rt.print(" ratio p1 none"),
+        Some(n) => number(rt, " ratio p1 ", n as usize),
     }
 }
 
 fn ratio(rt: &impl Print, shown: Ratio) -> io::Result<()> {
     match shown {
-        Ratio::Raster(n) => {
-            number(rt, " ratio ", n as usize)?;
-            words(rt, ":1")
-        }
+        Ratio::Raster(n) => print!(rt; " ratio {n}:1"),
         Ratio::LeftToP1(given) => p1(rt, given),
     }
 }
 
 fn background(rt: &impl Print, transparent: bool) -> io::Result<()> {
-    if transparent {
-        return words(rt, " background transparent");
-    }
-    words(rt, " background opaque")
+    let ground = if transparent { "transparent" } else { "opaque" };
+    print!(rt; " background {ground}")
 }
 
 fn picture(rt: &impl Print, report: Report) -> io::Result<()> {
-    let shown = report.ratio;
     number(rt, "picture ", report.width)?;
     number(rt, " ", report.height)?;
     number(rt, " extent ", report.right)?;
     number(rt, " ", report.bottom)?;
-    ratio(rt, shown)?;
+    ratio(rt, report.ratio)?;
     background(rt, report.transparent)?;
     number(rt, " defined ", report.defined)?;
     number(rt, " held ", report.held as usize)
 }
 
-pub(crate) fn finishing(rt: &impl Print, answer: Finishing) -> io::Result<()> {
+pub(crate) fn finishing(rt: &impl Print, answer: Result<Report, Refusal>) -> io::Result<()> {
     match answer {
-        Finishing::Picture(report) => picture(rt, report),
-        Finishing::Refused(refused) => refusal(rt, refused),
+        Ok(report) => picture(rt, report),
+        Err(refused) => refusal(rt, refused),
     }
 }

@@ -10,10 +10,8 @@ fn read(places: usize, bytes: &[u8]) -> Parameters
     ensures { Read places bytes.now result }
 {
     let mut p = Parameters::new(places);
-    let mut i = 0;
-    while i < bytes.len() {
-        p = p.push(bytes[i]);
-        i += 1;
+    for byte in bytes {
+        p = p.push(*byte);
     }
     p
 }
@@ -32,10 +30,9 @@ pub(crate) fn show_values(rt: &impl Print, places: usize, bytes: &[u8]) -> io::R
 
 // A repeat's number.
 pub(crate) fn show_repeat(rt: &impl Print, bytes: &[u8]) -> io::Result<()> {
-    let mut n: u64 = 0;
-    for i in 0..bytes.len() {
-        n = numbers::more_repeat(n, bytes[i]);
-    }
+    let n = bytes
+        .iter()
+        .fold(0, |n, byte| numbers::more_repeat(n, *byte));
     say_number(rt, b"", n as usize)?;
     say(rt, b"\n")
 }
@@ -60,8 +57,8 @@ fn kind(byte: u8) -> u8 {
 // The kinds of all bytes in one line.
 pub(crate) fn show_kinds(rt: &impl Print) -> io::Result<()> {
     let mut line = [0; 256];
-    for byte in 0..256 {
-        line[byte] = kind(byte as u8);
+    for (byte, letter) in line.iter_mut().enumerate() {
+        *letter = kind(byte as u8);
     }
     say_line(rt, &line)
 }

@@ -5,16 +5,18 @@ use crate::order::Numbers;
 use crate::parts::{first, rest};
 use crate::say::{say, say_number};
 use colours::Palette;
+use dcs::Ending;
 use frame::{Limits, Refusal};
-use payload::Finishing;
+use payload::{Answer, Fed, Report};
 use std::io;
 
 pub(crate) fn limits(n: Numbers) -> Limits {
+    let [width, height, repeats, pixels, ..] = n;
     Limits {
-        width: n.one,
-        height: n.two,
-        repeats: n.three,
-        pixels: n.four,
+        width,
+        height,
+        repeats,
+        pixels,
     }
 }
 
@@ -32,30 +34,18 @@ fn say_refusal(rt: &impl Print, refusal: Refusal) -> io::Result<usize> {
 }
 
 // Answers the bytes consumed.
-fn say_payload(rt: &impl Print, answer: payload::Answer) -> io::Result<usize> {
+fn say_answer<E: Copy>(rt: &impl Print, answer: Result<Answer<E>, Refusal>) -> io::Result<usize> {
     match answer {
-        payload::Answer::More { consumed, ink } => say_counts(rt, b"more ", consumed, ink),
-        payload::Answer::Stopped { consumed, ink } => say_counts(rt, b"stopped ", consumed, ink),
-        payload::Answer::Ended {
-            consumed,
-            ink,
-            byte: _,
-        } => say_counts(rt, b"ended ", consumed, ink),
-        payload::Answer::Refused(refusal) => say_refusal(rt, refusal),
-    }
-}
-
-// Answers the bytes consumed.
-fn say_dcs(rt: &impl Print, answer: dcs::Answer) -> io::Result<usize> {
-    match answer {
-        dcs::Answer::More { consumed, ink } => say_counts(rt, b"more ", consumed, ink),
-        dcs::Answer::Stopped { consumed, ink } => say_counts(rt, b"stopped ", consumed, ink),
-        dcs::Answer::Ended {
-            consumed,
-            ink,
-            ending: _,
-        } => say_counts(rt, b"ended ", consumed, ink),
-        dcs::Answer::Refused(refusal) => say_refusal(rt, refusal),
+        Ok(Answer::More { consumed, ink }) => say_counts(rt, b"more ", consumed, ink),
+        Ok(Answer::Stopped { consumed, ink }) => say_counts(rt, b"stopped ", consumed, ink),
+        Ok(
+            Answer::Ended {
+                consumed,
+                ink,
+                end: _,
+            },
+        ) => say_counts(rt, b"ended ", consumed, ink),
+        Err(refusal) => say_refusal(rt, refusal),
     }
 }
 
@@ -65,43 +55,95 @@ fn say_size(rt: &impl Print, width: usize, height: usize) -> io::Result<()> {
     say(rt, b"\n")
 }
 
-fn say_finish(rt: &impl Print, answer: Finishing) -> io::Result<()> {
+fn say_finish(rt: &impl Print, answer: Result<Report, Refusal>) -> io::Result<()> {
     match answer {
-        Finishing::Picture(report) => say_size(rt, report.width, report.height),
-        Finishing::Refused(refusal) => {
+        Ok(report) => say_size(rt, report.width, report.height),
+        Err(refusal) => {
             say_refusal(rt, refusal)?;
             Ok(())
         }
     }
 }
 
+// A session of either kind, so that both are put through the same calls.
+#[derive(Clone, Copy)]
+enum Session {
+    Payload(payload::Session),
+    Dcs(dcs::Session),
+}
+
+// Kept: it and `feed_dcs` differ in the functions that they call; with both as closures neither would be shorter.
 fn feed_payload(
     session: payload::Session,
     canvas: &mut [u8],
     n: Numbers,
     bytes: &[u8],
-) -> payload::Fed {
-    if n.eight == 1 {
-        return inplace::place_and_feed_payload(session, canvas, bytes, n.six);
+) -> Fed<payload::Session, u8> {
+    let [.., allowance, _, place] = n;
+    if place == 1 {
+        return inplace::place_and_feed_payload(session, canvas, bytes, allowance);
     }
-    payload::feed(session, canvas, bytes, n.six)
+    payload::feed(session, canvas, bytes, allowance)
 }
 
-fn feed_payload_again(
+fn feed_dcs(
+    session: dcs::Session,
+    canvas: &mut [u8],
+    n: Numbers,
+    bytes: &[u8],
+) -> Fed<dcs::Session, Ending> {
+    let [.., allowance, _, place] = n;
+    if place == 1 {
+        return inplace::place_and_feed_dcs(session, canvas, bytes, allowance);
+    }
+    dcs::feed(session, canvas, bytes, allowance)
+}
+
+impl Session {
+    // Says how the call came to its end, and answers the bytes consumed.
+    fn feed(
+        &mut self,
+        rt: &impl Print,
+        canvas: &mut [u8],
+        n: Numbers,
+        bytes: &[u8],
+    ) -> io::Result<usize> {
+        match *self {
+            Session::Payload(session) => {
+                let fed = feed_payload(session, canvas, n, bytes);
+                *self = Session::Payload(fed.session);
+                say_answer(rt, fed.answer)
+            }
+            Session::Dcs(session) => {
+                let fed = feed_dcs(session, canvas, n, bytes);
+                *self = Session::Dcs(fed.session);
+                say_answer(rt, fed.answer)
+            }
+        }
+    }
+
+    fn finish(self, canvas: &mut [u8]) -> Result<Report, Refusal> {
+        match self {
+            Session::Payload(session) => {
+                payload::finish(session, Palette::standard(), canvas).answer
+            }
+            Session::Dcs(session) => dcs::finish(session, Palette::standard(), canvas).answer,
+        }
+    }
+}
+
+fn feed_twice(
     rt: &impl Print,
-    fed: payload::Fed,
+    start: Session,
     canvas: &mut [u8],
     n: Numbers,
     bytes: &[u8],
 ) -> io::Result<()> {
-    let answer = fed.answer;
-    let consumed = say_payload(rt, answer)?;
-    let again = feed_payload(fed.session, canvas, n, rest(bytes, consumed));
-    let second = again.answer;
-    say_payload(rt, second)?;
-    let finished = payload::finish(again.session, Palette::standard(), canvas);
-    let last = finished.answer;
-    say_finish(rt, last)
+    let [.., piece, _] = n;
+    let mut session = start;
+    let consumed = session.feed(rt, canvas, n, first(bytes, piece))?;
+    session.feed(rt, canvas, n, rest(bytes, consumed))?;
+    say_finish(rt, session.finish(canvas))
 }
 
 pub(crate) fn feed_payload_twice(
@@ -110,34 +152,10 @@ pub(crate) fn feed_payload_twice(
     n: Numbers,
     bytes: &[u8],
 ) -> io::Result<()> {
+    let [_, _, _, _, stride, ..] = n;
     let settings = payload::no_settings();
-    let opened = payload::open(limits(n), n.five, settings, Palette::standard(), canvas);
-    let fed = feed_payload(opened.session, canvas, n, first(bytes, n.seven));
-    feed_payload_again(rt, fed, canvas, n, bytes)
-}
-
-fn feed_dcs(session: dcs::Session, canvas: &mut [u8], n: Numbers, bytes: &[u8]) -> dcs::Fed {
-    if n.eight == 1 {
-        return inplace::place_and_feed_dcs(session, canvas, bytes, n.six);
-    }
-    dcs::feed(session, canvas, bytes, n.six)
-}
-
-fn feed_dcs_again(
-    rt: &impl Print,
-    fed: dcs::Fed,
-    canvas: &mut [u8],
-    n: Numbers,
-    bytes: &[u8],
-) -> io::Result<()> {
-    let answer = fed.answer;
-    let consumed = say_dcs(rt, answer)?;
-    let again = feed_dcs(fed.session, canvas, n, rest(bytes, consumed));
-    let second = again.answer;
-    say_dcs(rt, second)?;
-    let finished = dcs::finish(again.session, Palette::standard(), canvas);
-    let last = finished.answer;
-    say_finish(rt, last)
+    let opened = payload::open(limits(n), stride, settings, Palette::standard(), canvas);
+    feed_twice(rt, Session::Payload(opened.session), canvas, n, bytes)
 }
 
 pub(crate) fn feed_dcs_twice(
@@ -146,7 +164,7 @@ pub(crate) fn feed_dcs_twice(
     n: Numbers,
     bytes: &[u8],
 ) -> io::Result<()> {
-    let opened = dcs::open(limits(n), n.five, Palette::standard(), canvas.len());
-    let fed = feed_dcs(opened.session, canvas, n, first(bytes, n.seven));
-    feed_dcs_again(rt, fed, canvas, n, bytes)
+    let [_, _, _, _, stride, ..] = n;
+    let opened = dcs::open(limits(n), stride, Palette::standard(), canvas.len());
+    feed_twice(rt, Session::Dcs(opened.session), canvas, n, bytes)
 }

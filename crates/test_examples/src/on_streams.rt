@@ -1,18 +1,16 @@
 // DCS streams read in pieces until they end, finished and told. The numbers: limits, stride and a piece's length; to copy a picture,
 // then the canvas's length that the opening is told, and how many bytes the copy's buffer has.
-ghost use Rattle.std.specs.Prelude.{◌<◌, ◌≤◌};
-
 use crate::on_sessions::limits;
 use crate::order::Numbers;
-use crate::parts::{first, held};
+use crate::parts::first;
 use crate::say::{say, say_number};
-use canvas::Copied;
+use canvas::Uncopied;
 use colours::Palette;
 use dcs::Ending;
 use dump::outcome::write_outcome;
 use dump::{write_picture, write_refusal};
 use frame::Refusal;
-use payload::{Finishing, Report};
+use payload::Report;
 use pieces::{Counts, Reader, Standing};
 use std::io;
 
@@ -30,34 +28,19 @@ fn copy_room() -> [u8; COPY] {
     [0; COPY]
 }
 
-// Where a piece ends that begins at a place; one of no bytes is the whole rest.
-fn end_of(at: usize, piece: usize, most: usize) -> usize
-    requires { at < most }
-    ensures { (at < result) × (result ≤ most) }
-{
-    if piece == 0 {
-        return most;
-    }
-    if most - at <= piece {
-        return most;
-    }
-    at + piece
-}
-
-// Takes the bytes in pieces; a reader that has come to its end takes no more.
+// Takes the bytes in pieces, or at once where a piece has no bytes; a reader that has come to its end takes no more.
 fn take_all(start: Reader, canvas: &mut [u8], bytes: &[u8], piece: usize) -> Reader {
+    let size = if piece == 0 { usize::MAX } else { piece };
     let mut reader = start;
-    let mut at = 0;
-    while at < bytes.len() {
-        let end = end_of(at, piece, bytes.len());
-        reader = pieces::take(reader, canvas, &bytes[at..end]);
-        at = end;
+    for part in bytes.chunks(size) {
+        reader = pieces::take(reader, canvas, part);
     }
     reader
 }
 
 fn read(canvas: &mut [u8], n: Numbers, bytes: &[u8], piece: usize, told: usize) -> Reader {
-    let reader = pieces::open(limits(n), n.five, Palette::standard(), told);
+    let [_, _, _, _, stride, ..] = n;
+    let reader = pieces::open(limits(n), stride, Palette::standard(), told);
     take_all(reader, canvas, bytes, piece)
 }
 
@@ -79,9 +62,8 @@ fn write_copy(
     canvas: &[u8],
     copy: &mut [u8],
 ) -> usize {
-    let copied = pieces::copy(report, canvas, stride, copy);
-    match copied {
-        Copied::Done => {
+    match pieces::copy(report, canvas, stride, copy) {
+        Ok(()) => {
             write_picture(
                 text,
                 ending,
@@ -92,14 +74,14 @@ fn write_copy(
                 copy,
             )
         }
-        Copied::Misfit => write_refusal(text, Refusal::Canvas),
-        Copied::Short => write_refusal(text, Refusal::Buffer),
+        Err(Uncopied::Misfit) => write_refusal(text, Refusal::Canvas),
+        Err(Uncopied::Short) => write_refusal(text, Refusal::Buffer),
     }
 }
 
 fn write_finish(
     text: &mut [u8],
-    finishing: Finishing,
+    finishing: Result<Report, Refusal>,
     ending: Ending,
     counts: Counts,
     stride: usize,
@@ -107,10 +89,8 @@ fn write_finish(
     copy: &mut [u8],
 ) -> usize {
     match finishing {
-        Finishing::Picture(report) => {
-            write_copy(text, ending, counts, report, stride, canvas, copy)
-        }
-        Finishing::Refused(refusal) => write_refusal(text, refusal),
+        Ok(report) => { write_copy(text, ending, counts, report, stride, canvas, copy) }
+        Err(refusal) => write_refusal(text, refusal),
     }
 }
 
@@ -127,22 +107,14 @@ struct Came {
 }
 
 fn copy_in(canvas: &mut [u8], n: Numbers, bytes: &[u8], text: &mut [u8]) -> Came {
-    let reader = read(canvas, n, bytes, n.six, n.seven);
+    let [_, _, _, _, stride, piece, told, room] = n;
+    let reader = read(canvas, n, bytes, piece, told);
     let ending = ending_of(pieces::standing_of(reader));
     let counts = pieces::counts_of(reader);
     let finished = pieces::finish(reader, Palette::standard(), canvas);
-    let answer = finished.answer;
     let mut copy = copy_room();
-    let end = held(n.eight, COPY);
-    let length = write_finish(
-        text,
-        answer,
-        ending,
-        counts,
-        n.five,
-        canvas,
-        &mut copy[..end],
-    );
+    let out = &mut copy[..room.min(COPY)];
+    let length = write_finish(text, finished.answer, ending, counts, stride, canvas, out);
     Came {
         length,
         calls: counts.calls,
@@ -163,10 +135,11 @@ pub(crate) fn take_pieces(
 }
 
 fn dump_in(canvas: &mut [u8], n: Numbers, bytes: &[u8], piece: usize, text: &mut [u8]) -> Came {
+    let [_, _, _, _, stride, ..] = n;
     let told = canvas.len();
     let reader = read(canvas, n, bytes, piece, told);
     let counts = pieces::counts_of(reader);
-    let length = write_outcome(text, reader, Palette::standard(), n.five, canvas);
+    let length = write_outcome(text, reader, Palette::standard(), stride, canvas);
     Came {
         length,
         calls: counts.calls,
@@ -175,7 +148,7 @@ fn dump_in(canvas: &mut [u8], n: Numbers, bytes: &[u8], piece: usize, text: &mut
 
 fn say_both(rt: &impl Print, text: &[u8], other: &[u8], calls: usize) -> io::Result<()> {
     say(rt, text)?;
-    if check::same(text, other) {
+    if text == other {
         say_calls(rt, b"the same in one piece, calls ", calls)
     } else {
         say_calls(rt, b"DIFFERENT in one piece, calls ", calls)
@@ -184,9 +157,10 @@ fn say_both(rt: &impl Print, text: &[u8], other: &[u8], calls: usize) -> io::Res
 
 // As `sixdump` does: in pieces, and again in one piece, on the canvas that still has the first picture.
 pub(crate) fn dump(rt: &impl Print, canvas: &mut [u8], n: Numbers, bytes: &[u8]) -> io::Result<()> {
+    let [_, _, _, _, _, piece, ..] = n;
     let mut text = text_room();
     let mut other = text_room();
-    let each = dump_in(canvas, n, bytes, n.six, &mut text);
+    let each = dump_in(canvas, n, bytes, piece, &mut text);
     let whole = dump_in(canvas, n, bytes, bytes.len(), &mut other);
     say_both(
         rt,

@@ -1,84 +1,90 @@
 // What calls said: each call's answer, whether it kept to the rules of its kind, and what all came to.
-use crate::fields::byte_at;
+use frame::Refusal;
 
-// How a call came to its end; up to 4 they are the list's numbers for a status.
-pub(crate) const MORE: u8 = 0;
+// How a session came to its end, and the byte that is told with it: a payload's, or a DCS sequence's.
+#[derive(Clone, Copy, PartialEq, Eq)]
+pub(crate) enum End {
+    Payload(u8),
+    Complete,
+    Cancelled(u8),
+    Interrupted(u8),
+}
 
-pub(crate) const ENDED: u8 = 1;
+impl End {
+    // The list's numbers for where a session stands: a status, and a byte or 0.
+    pub(crate) fn stored(end: Option<End>) -> [u8; 2] {
+        match end {
+            None => [0, 0],
+            Some(End::Payload(byte)) => [1, byte],
+            Some(End::Complete) => [2, 0],
+            Some(End::Cancelled(byte)) => [3, byte],
+            Some(End::Interrupted(byte)) => [4, byte],
+        }
+    }
 
-pub(crate) const COMPLETE: u8 = 2;
+    // Whether the bytes on both sides of an end fit it. The last byte read is the one that completes or cancels; the first byte unread
+    // is the one that ends or interrupts; after a 1B, which was read, it is any that does not complete.
+    fn is_between(self, read: &[u8], unread: &[u8]) -> bool {
+        match self {
+            End::Complete => read.ends_with(b"\x9C") || read.ends_with(b"\\"),
+            End::Cancelled(byte) => read.ends_with(&[byte]),
+            End::Interrupted(0x1B) => !unread.is_empty() && !unread.starts_with(b"\\"),
+            End::Interrupted(byte) | End::Payload(byte) => unread.starts_with(&[byte]),
+        }
+    }
+}
 
-pub(crate) const CANCELLED: u8 = 3;
+// How a call came to its end.
+#[derive(Clone, Copy, PartialEq, Eq)]
+pub(crate) enum Came {
+    More,
+    Stopped,
+    Ended(End),
+}
 
-pub(crate) const INTERRUPTED: u8 = 4;
-
-pub(crate) const STOPPED: u8 = 5;
-
-pub(crate) const REFUSED: u8 = 6;
-
-// A call's answer; `byte` is an end's byte or a refusal's number.
+// What a call read that was not refused.
 #[derive(Clone, Copy)]
-pub(crate) struct Said {
-    pub how: u8,
+pub(crate) struct Heard {
+    pub came: Came,
     pub consumed: usize,
     pub ink: usize,
-    pub byte: u8,
 }
 
-// Whether a call kept to the rules of its answer: all bytes read, or up to a stop after some ink, or up to the end; no more ink
-// than allowed; and after an end, which is the status before, only that end again.
-pub(crate) fn is_fair(said: Said, before: u8, bytes: &[u8], allowance: usize) -> bool {
-    if said.how == REFUSED {
-        return before == MORE;
+pub(crate) type Said = Result<Heard, Refusal>;
+
+impl Heard {
+    // Whether the call kept to the rules of its answer: all bytes read, or up to a stop after some ink, or up to the end.
+    fn is_fair(self, bytes: &[u8]) -> bool {
+        let Some((read, unread)) = bytes.split_at_checked(self.consumed) else {
+            return false;
+        };
+        match self.came {
+            Came::More => unread.is_empty(),
+            Came::Stopped => !read.is_empty() && !unread.is_empty() && 0 < self.ink,
+            Came::Ended(end) => end.is_between(read, unread),
+        }
     }
-    if allowance < said.ink {
+}
+
+// Whether a call kept to the rules: no more ink than allowed, and after an end, which is the one before, only that end again.
+pub(crate) fn is_fair(said: Said, before: Option<End>, bytes: &[u8], allowance: usize) -> bool {
+    let Ok(heard) = said else {
+        return before.is_none();
+    };
+    if allowance < heard.ink {
         return false;
     }
-    if before != MORE {
-        return said.how == before && said.consumed == 0 && said.ink == 0;
+    match before {
+        Some(end) => heard.came == Came::Ended(end) && heard.consumed == 0 && heard.ink == 0,
+        None => heard.is_fair(bytes),
     }
-    if said.how == MORE {
-        return said.consumed == bytes.len();
-    }
-    if said.how == STOPPED {
-        return 0 < said.consumed && said.consumed < bytes.len() && 0 < said.ink;
-    }
-    if said.how == COMPLETE || said.how == CANCELLED {
-        return is_end_read(said, bytes);
-    }
-    is_end_unread(said, bytes)
 }
 
-// The last byte read is the one that completes or cancels.
-fn is_end_read(said: Said, bytes: &[u8]) -> bool {
-    if said.consumed == 0 {
-        return false;
-    }
-    let last = byte_at(bytes, said.consumed - 1);
-    if said.how == COMPLETE {
-        return last == 0x9C || last == b'\\';
-    }
-    last == said.byte
-}
-
-// The first byte unread is the one that ends or interrupts; after a 1B, which was read, it is any that does not complete.
-fn is_end_unread(said: Said, bytes: &[u8]) -> bool {
-    if bytes.len() <= said.consumed {
-        return false;
-    }
-    let next = byte_at(bytes, said.consumed);
-    if said.how == INTERRUPTED && said.byte == 0x1B {
-        return next != b'\\';
-    }
-    next == said.byte
-}
-
-// What a session's calls came to so far; `refusal` is a feed's, or 0. `consumed` leaves out a piece that was refused.
+// What a session's calls came to so far; the refusal is a feed's. `consumed` leaves out a piece that was refused.
 #[derive(Clone, Copy)]
 pub(crate) struct Count {
-    pub refusal: u8,
-    pub status: u8,
-    pub byte: u8,
+    pub refusal: Option<Refusal>,
+    pub end: Option<End>,
     pub consumed: u64,
     pub ink: u64,
     pub calls: u64,
@@ -89,9 +95,8 @@ pub(crate) struct Count {
 impl Count {
     pub(crate) fn new(is_fair: bool) -> Count {
         Count {
-            refusal: 0,
-            status: MORE,
-            byte: 0,
+            refusal: None,
+            end: None,
             consumed: 0,
             ink: 0,
             calls: 0,
@@ -100,33 +105,25 @@ impl Count {
         }
     }
 
-    pub(crate) fn with(mut self, said: Said, is_fair: bool) -> Count {
-        self.calls = std::num::wrapping_add_u64(self.calls, 1);
+    pub(crate) fn add(&mut self, said: Said, is_fair: bool) {
+        self.calls = self.calls.wrapping_add(1);
         self.is_fair = self.is_fair && is_fair;
-        if said.how == REFUSED {
-            self.refusal = said.byte;
-            return self;
+        match said {
+            Ok(heard) => {
+                self.consumed = self.consumed.wrapping_add(heard.consumed as u64);
+                self.ink = self.ink.wrapping_add(heard.ink as u64);
+                if let Came::Ended(end) = heard.came {
+                    self.end = Some(end);
+                }
+            }
+            Err(refusal) => self.refusal = Some(refusal),
         }
-        self.consumed = std::num::wrapping_add_u64(self.consumed, said.consumed as u64);
-        self.ink = std::num::wrapping_add_u64(self.ink, said.ink as u64);
-        if said.how == STOPPED {
-            return self;
-        }
-        self.status = said.how;
-        self.byte = said.byte;
-        self
     }
 
-    pub(crate) fn with_piece(mut self, consumed_before: u64) -> Count {
-        self.pieces = std::num::wrapping_add_u64(self.pieces, 1);
-        if self.refusal != 0 {
+    pub(crate) fn add_piece(&mut self, consumed_before: u64) {
+        self.pieces = self.pieces.wrapping_add(1);
+        if self.refusal.is_some() {
             self.consumed = consumed_before;
         }
-        self
-    }
-
-    pub(crate) fn if_fair(mut self, is_fair: bool) -> Count {
-        self.is_fair = self.is_fair && is_fair;
-        self
     }
 }

@@ -3,8 +3,6 @@
 // colours and the ratios of P1 are compared.
 #![tactic(auto)]
 
-ghost use Rattle.std.specs.Prelude.{◌-◌, ◌≤◌, length};
-
 mod calls;
 mod fields;
 mod one_shot;
@@ -16,6 +14,7 @@ mod session;
 mod trial;
 
 use colours::Palette;
+use fields::Kind;
 use record::Verdict;
 use std::fs::File;
 use std::io;
@@ -33,7 +32,7 @@ const MOST_BLOCKS: u32 = 64;
 const ROOM: usize = 2_097_160;
 
 // What has been replayed so far.
-#[derive(Clone, Copy)]
+#[derive(Clone, Copy, Default)]
 struct Tally {
     payload: u64,
     dcs: u64,
@@ -43,47 +42,35 @@ struct Tally {
     faults: u64,
 }
 
-fn more(count: u64) -> u64 {
-    std::num::wrapping_add_u64(count, 1)
+fn count(number: &mut u64) {
+    *number = number.wrapping_add(1);
 }
 
 impl Tally {
-    fn with(mut self, verdict: Verdict) -> Tally {
-        match verdict {
-            Verdict::Payload(is_same) => {
-                self.payload = more(self.payload);
-                self.compared(is_same)
-            }
-            Verdict::Dcs(is_same) => {
-                self.dcs = more(self.dcs);
-                self.compared(is_same)
-            }
-            Verdict::OneShot(is_same) => {
-                self.one_shot = more(self.one_shot);
-                self.compared(is_same)
-            }
-            Verdict::Plain(is_same) => {
-                self.plain = more(self.plain);
-                self.compared(is_same)
-            }
-            Verdict::Faulty => {
-                self.faults = more(self.faults);
-                self
-            }
+    fn add(&mut self, verdict: Option<Verdict>) {
+        let Some(Verdict { kind, is_same }) = verdict else {
+            return self.add_fault();
+        };
+        match kind {
+            Kind::Payload => count(&mut self.payload),
+            Kind::Dcs => count(&mut self.dcs),
+            Kind::OneShot => count(&mut self.one_shot),
+            Kind::Hls | Kind::Percent | Kind::Registers | Kind::Ratio => count(&mut self.plain),
+        }
+        if !is_same {
+            count(&mut self.differing);
         }
     }
 
-    fn compared(mut self, is_same: bool) -> Tally {
-        if !is_same {
-            self.differing = more(self.differing);
-        }
-        self
+    fn add_fault(&mut self) {
+        count(&mut self.faults);
     }
 
     fn cases(self) -> u64 {
-        let sessions = std::num::wrapping_add_u64(self.payload, self.dcs);
-        let readings = std::num::wrapping_add_u64(sessions, self.one_shot);
-        std::num::wrapping_add_u64(readings, self.plain)
+        self.payload
+            .wrapping_add(self.dcs)
+            .wrapping_add(self.one_shot)
+            .wrapping_add(self.plain)
     }
 }
 
@@ -94,154 +81,54 @@ struct State {
     owner: Palette,
 }
 
-impl State {
-    fn faulty(self) -> State {
-        let tally = self.tally;
-        let owner = self.owner;
-        State {
-            tally: tally.with(Verdict::Faulty),
-            owner,
-        }
-    }
-}
-
 fn is_marked(block: &[u8]) -> bool {
     answers::number_at(block, 0) == 0x414C_5853
 }
 
 // Its magic number, its own checksum and its number among the blocks.
 fn is_sound(block: &[u8], number: u32) -> bool {
-    if block.len() < 8 {
-        return false;
-    }
     is_marked(block)
-        && answers::number_at(block, 4) == answers::checksum(&block[8..])
+        && answers::number_at(block, 4) == answers::checksum(fields::rest(block, 8))
         && answers::number_at(block, 8) == number
 }
 
-// The length of the record at a place, or 0 where none fits there.
-fn length_at(block: &[u8], at: usize) -> usize
-    ensures { result ≤ length block.now - at }
-{
-    if block.len() < at {
-        return 0;
+// The record at the front of some bytes, and what follows it; none where it has no bytes or does not fit there.
+fn split_record(bytes: &[u8]) -> Option<(&[u8], &[u8])> {
+    let length = answers::number_at(bytes, 0) as usize;
+    if length == 0 {
+        return None;
     }
-    let length = answers::number_at(block, at) as usize;
-    if block.len() - at < length {
-        return 0;
-    }
-    length
+    bytes.split_at_checked(length)
 }
 
-// One record more.
-fn replay_record(record: &[u8], buffer: &mut [u8], before: State) -> State {
-    let tally = before.tally;
-    let owner = before.owner;
-    let step = record::compare(record, buffer, owner);
-    let verdict = step.verdict;
-    let after = step.palette;
-    State {
-        tally: tally.with(verdict),
-        owner: after,
-    }
-}
-
-fn replay_block(block: &[u8], buffer: &mut [u8], start: State) -> State {
-    if block.len() < FIRST {
-        return start.faulty();
-    }
-    let count = answers::number_at(block, 16);
-    let mut state = start;
-    let mut at = FIRST;
-    for _ in 0..count {
-        let length = length_at(block, at);
-        if length == 0 {
-            return state.faulty();
-        }
-        state = replay_record(&block[at..at + length], buffer, state);
-        at += length;
-    }
-    state
-}
-
-// What is known after a block.
-#[derive(Clone, Copy)]
-struct Turn {
-    goes_on: bool,
-    state: State,
-}
-
-// Whether a block follows number `number` of `all`.
-fn has_next(number: u32, all: u32) -> bool {
-    if all <= number {
-        return false;
-    }
-    1 < all - number
-}
-
-// Reads until the buffer is full or the input ends, and answers how many bytes came. A failed read counts as the input's end.
-fn read_full(input: &mut impl Read, buffer: &mut [u8]) -> usize
-    ensures { result ≤ length buffer.new }
-{
-    let mut done = 0;
-    while done < buffer.len() {
-        let n = input.read(&mut buffer[done..]).unwrap_or(0);
-        if n == 0 {
-            return done;
-        }
-        done += n;
-    }
-    done
-}
-
-fn block_room() -> [u8; BLOCK] {
-    [0; BLOCK]
-}
-
-// Reads one block and replays it.
-fn next_block(list: &mut impl Read, number: u32, buffer: &mut [u8], state: State) -> Turn {
-    let mut block = block_room();
-    let got = read_full(list, &mut block);
-    if got < BLOCK {
-        return Turn {
-            goes_on: false,
-            state: state.faulty(),
+fn replay_block(block: &[u8], buffer: &mut [u8], state: &mut State) {
+    let mut unread = block.get(FIRST..).unwrap_or(&[]);
+    for _ in 0..answers::number_at(block, 16) {
+        let Some((record, after)) = split_record(unread) else {
+            state.tally.add_fault();
+            return;
         };
-    }
-    if !is_sound(&block, number) {
-        return Turn {
-            goes_on: false,
-            state: state.faulty(),
-        };
-    }
-    let goes_on = has_next(number, answers::number_at(&block, 12));
-    Turn {
-        goes_on,
-        state: replay_block(&block, buffer, state),
+        let verdict = record::compare(record, buffer, &mut state.owner);
+        state.tally.add(verdict);
+        unread = after;
     }
 }
 
-fn at_first() -> State {
-    State {
-        tally: Tally {
-            payload: 0,
-            dcs: 0,
-            one_shot: 0,
-            plain: 0,
-            differing: 0,
-            faults: 0,
-        },
-        owner: Palette::standard(),
-    }
-}
-
+// Replays block by block, up to the last one or one that cannot be read or is not sound.
 fn replay_list(list: &mut impl Read, buffer: &mut [u8]) -> Tally {
-    let mut state = at_first();
+    let mut state = State {
+        tally: Tally::default(),
+        owner: Palette::standard(),
+    };
+    let mut block = [0; BLOCK];
     for number in 0..MOST_BLOCKS {
-        let turn = next_block(list, number, buffer, state);
-        state = turn.state;
-        if !turn.goes_on {
-            return state.tally;
+        if list.read_exact(&mut block).is_err() || !is_sound(&block, number) {
+            state.tally.add_fault();
+            break;
+        }
+        replay_block(&block, buffer, &mut state);
+        if answers::number_at(&block, 12) <= number + 1 {
+            break;
         }
     }
     state.tally
@@ -262,6 +149,7 @@ fn print_tally(rt: &impl Print, tally: Tally) -> io::Result<()> {
     print_count(rt, ", differences ", tally.differing)
 }
 
+// Kept: written as `[0; ROOM]` in `main`, the check runs out of stack.
 fn room() -> [u8; ROOM] {
     [0; ROOM]
 }

@@ -1,7 +1,7 @@
-// A session of either kind, so that both are put through the same calls. Between the calls it is kept as numbers: they are cheap to
-// carry for the check, and so every stored case tries a session's memory form too.
-use crate::calls::{CANCELLED, COMPLETE, ENDED, INTERRUPTED, MORE, REFUSED, STOPPED, Said};
-use crate::fields::{DCS, kind_of, limits_of, settings_of};
+// A session of either kind, so that both are put through the same calls. After each call it goes through its memory form, so that every
+// stored case tries that too.
+use crate::calls::{Came, End, Heard, Said};
+use crate::fields::{Kind, kind_of, limits_of, settings_of};
 use colours::Palette;
 use dcs::Ending;
 use dcs::kernel::{core_of, with_palette};
@@ -10,184 +10,102 @@ use payload::codes::life_from;
 use payload::kernel::{frame_of, life_of, session_of, setup_of};
 use payload::memory::{frame_from, setup_from};
 use payload::places::LIFE;
-use payload::{Finished, Opening};
-
-// The session at work as its memory form has it. Which kind's numbers they are: a DCS session's are framed.
-#[derive(Clone, Copy)]
-pub(crate) struct Reader {
-    is_framed: bool,
-    numbers: [u64; 48],
-    registers: [u32; 256],
-}
-
-fn plain(session: payload::Session) -> Reader {
-    let palette = payload::kernel::palette_of(session);
-    let life = life_of(session);
-    Reader {
-        is_framed: false,
-        numbers: payload::memory::numbers_of(setup_of(session), life, frame_of(session)),
-        registers: palette.table(),
-    }
-}
-
-fn framed(session: dcs::Session) -> Reader {
-    let palette = dcs::kernel::palette_of(session);
-    Reader {
-        is_framed: true,
-        numbers: dcs::memory::numbers_of(core_of(session)),
-        registers: palette.table(),
-    }
-}
-
-fn plain_session(reader: Reader) -> payload::Session {
-    let numbers = reader.numbers;
-    let registers = reader.registers;
-    let palette = Palette::of_table(registers);
-    let life = life_from(numbers[LIFE]);
-    session_of(setup_from(&numbers), life, frame_from(&numbers), palette)
-}
-
-fn framed_session(reader: Reader) -> dcs::Session {
-    let numbers = reader.numbers;
-    let registers = reader.registers;
-    let palette = Palette::of_table(registers);
-    with_palette(dcs::memory::core_from(&numbers), palette)
-}
+use payload::{Answer, Finished};
 
 #[derive(Clone, Copy)]
-pub(crate) struct Began {
-    pub is_ready: bool,
-    pub reader: Reader,
+pub(crate) enum Reader {
+    Payload(payload::Session),
+    Dcs(dcs::Session),
 }
 
-fn is_ready(answer: Opening) -> bool {
-    match answer {
-        Opening::Ready => true,
-        Opening::Refused(_) => false,
+// The session that its numbers and registers say.
+fn payload_stored(session: payload::Session) -> Reader {
+    let (setup, life, frame) = (setup_of(session), life_of(session), frame_of(session));
+    let numbers = payload::memory::numbers_of(setup, life, frame);
+    let registers = payload::kernel::palette_of(session).table();
+    Reader::Payload(session_of(
+        setup_from(&numbers),
+        life_from(numbers[LIFE]),
+        frame_from(&numbers),
+        Palette::of_table(registers),
+    ))
+}
+
+// The session that its numbers and registers say.
+fn dcs_stored(session: dcs::Session) -> Reader {
+    let numbers = dcs::memory::numbers_of(core_of(session));
+    let registers = dcs::kernel::palette_of(session).table();
+    let core = dcs::memory::core_from(&numbers);
+    Reader::Dcs(with_palette(core, Palette::of_table(registers)))
+}
+
+fn end_of(ending: Ending) -> End {
+    match ending {
+        Ending::Complete => End::Complete,
+        Ending::Cancelled(byte) => End::Cancelled(byte),
+        Ending::Interrupted(byte) => End::Interrupted(byte),
     }
 }
 
-fn open_dcs(record: &[u8], length: usize, stride: usize, owner: Palette) -> Began {
-    let limits = limits_of(record);
-    let opened = dcs::open(limits, stride, owner, length);
-    let answer = opened.answer;
-    Began {
-        is_ready: is_ready(answer),
-        reader: framed(opened.session),
-    }
-}
-
-fn open_payload(record: &[u8], canvas: &mut [u8], stride: usize, owner: Palette) -> Began {
-    let limits = limits_of(record);
-    let settings = settings_of(record);
-    let opened = payload::open(limits, stride, settings, owner, canvas);
-    let answer = opened.answer;
-    Began {
-        is_ready: is_ready(answer),
-        reader: plain(opened.session),
-    }
-}
-
-pub(crate) fn open(record: &[u8], canvas: &mut [u8], stride: usize, owner: Palette) -> Began {
-    if kind_of(record) == DCS {
-        return open_dcs(record, canvas.len(), stride, owner);
-    }
-    open_payload(record, canvas, stride, owner)
-}
-
-fn refused(refusal: Refusal) -> Said {
-    Said {
-        how: REFUSED,
-        consumed: 0,
-        ink: 0,
-        byte: frame::number(refusal),
-    }
-}
-
-fn read(how: u8, consumed: usize, ink: usize, byte: u8) -> Said {
-    Said {
-        how,
+// What a call of a session of either kind said; `end_of` gives its end the name that both share.
+fn said_by<E: Copy, F: Fn(E) -> End + Copy>(answer: Result<Answer<E>, Refusal>, end_of: F) -> Said
+    requires { F.IsAlwaysCallable end_of }
+{
+    let (came, consumed, ink) = match answer? {
+        Answer::More { consumed, ink } => (Came::More, consumed, ink),
+        Answer::Stopped { consumed, ink } => (Came::Stopped, consumed, ink),
+        Answer::Ended { consumed, ink, end } => (Came::Ended(end_of(end)), consumed, ink),
+    };
+    Ok(Heard {
+        came,
         consumed,
         ink,
-        byte,
-    }
+    })
 }
 
-fn said_by_payload(answer: payload::Answer) -> Said {
-    match answer {
-        payload::Answer::More { consumed, ink } => read(MORE, consumed, ink, 0),
-        payload::Answer::Stopped { consumed, ink } => read(STOPPED, consumed, ink, 0),
-        payload::Answer::Ended {
-            consumed,
-            ink,
-            byte,
-        } => read(ENDED, consumed, ink, byte),
-        payload::Answer::Refused(refusal) => refused(refusal),
+impl Reader {
+    // The session of a record, and whether it was opened.
+    pub(crate) fn open(
+        record: &[u8],
+        canvas: &mut [u8],
+        stride: usize,
+        owner: Palette,
+    ) -> (Reader, bool) {
+        let limits = limits_of(record);
+        if kind_of(record) == Some(Kind::Dcs) {
+            let opened = dcs::open(limits, stride, owner, canvas.len());
+            return (dcs_stored(opened.session), opened.answer.is_ok());
+        }
+        let opened = payload::open(limits, stride, settings_of(record), owner, canvas);
+        (payload_stored(opened.session), opened.answer.is_ok())
     }
-}
 
-fn ended(consumed: usize, ink: usize, ending: Ending) -> Said {
-    match ending {
-        Ending::Complete => read(COMPLETE, consumed, ink, 0),
-        Ending::Cancelled(byte) => read(CANCELLED, consumed, ink, byte),
-        Ending::Interrupted(byte) => read(INTERRUPTED, consumed, ink, byte),
+    pub(crate) fn feed(&mut self, canvas: &mut [u8], bytes: &[u8], allowance: usize) -> Said {
+        match *self {
+            Reader::Payload(session) => {
+                let fed = payload::feed(session, canvas, bytes, allowance);
+                *self = payload_stored(fed.session);
+                said_by(fed.answer, End::Payload)
+            }
+            Reader::Dcs(session) => {
+                let fed = dcs::feed(session, canvas, bytes, allowance);
+                *self = dcs_stored(fed.session);
+                said_by(fed.answer, end_of)
+            }
+        }
     }
-}
 
-fn said_by_dcs(answer: dcs::Answer) -> Said {
-    match answer {
-        dcs::Answer::More { consumed, ink } => read(MORE, consumed, ink, 0),
-        dcs::Answer::Stopped { consumed, ink } => read(STOPPED, consumed, ink, 0),
-        dcs::Answer::Ended {
-            consumed,
-            ink,
-            ending,
-        } => ended(consumed, ink, ending),
-        dcs::Answer::Refused(refusal) => refused(refusal),
+    pub(crate) fn finish(self, owner: Palette, canvas: &mut [u8]) -> Finished {
+        match self {
+            Reader::Payload(session) => payload::finish(session, owner, canvas),
+            Reader::Dcs(session) => dcs::finish(session, owner, canvas),
+        }
     }
-}
 
-#[derive(Clone, Copy)]
-pub(crate) struct Heard {
-    pub said: Said,
-    pub reader: Reader,
-}
-
-fn feed_payload(before: Reader, canvas: &mut [u8], bytes: &[u8], allowance: usize) -> Heard {
-    let fed = payload::feed(plain_session(before), canvas, bytes, allowance);
-    let answer = fed.answer;
-    Heard {
-        said: said_by_payload(answer),
-        reader: plain(fed.session),
+    pub(crate) fn abort(self, owner: Palette) -> Palette {
+        match self {
+            Reader::Payload(session) => payload::abort(session, owner),
+            Reader::Dcs(session) => dcs::abort(session, owner),
+        }
     }
-}
-
-fn feed_dcs(before: Reader, canvas: &mut [u8], bytes: &[u8], allowance: usize) -> Heard {
-    let fed = dcs::feed(framed_session(before), canvas, bytes, allowance);
-    let answer = fed.answer;
-    Heard {
-        said: said_by_dcs(answer),
-        reader: framed(fed.session),
-    }
-}
-
-pub(crate) fn feed(before: Reader, canvas: &mut [u8], bytes: &[u8], allowance: usize) -> Heard {
-    if before.is_framed {
-        return feed_dcs(before, canvas, bytes, allowance);
-    }
-    feed_payload(before, canvas, bytes, allowance)
-}
-
-pub(crate) fn finish(reader: Reader, owner: Palette, canvas: &mut [u8]) -> Finished {
-    if reader.is_framed {
-        return dcs::finish(framed_session(reader), owner, canvas);
-    }
-    payload::finish(plain_session(reader), owner, canvas)
-}
-
-pub(crate) fn abort(reader: Reader, owner: Palette) -> Palette {
-    if reader.is_framed {
-        return dcs::abort(framed_session(reader), owner);
-    }
-    payload::abort(plain_session(reader), owner)
 }

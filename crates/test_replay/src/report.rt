@@ -1,8 +1,8 @@
 // A report in the list's numbers.
-use payload::{Finishing, Given, Ratio, Report};
+use frame::Refusal;
+use payload::{Ratio, Report};
 
-// All 0 where there is no picture.
-#[derive(Clone, Copy)]
+#[derive(Clone, Copy, PartialEq, Eq)]
 pub(crate) struct Picture {
     pub width: usize,
     pub height: usize,
@@ -10,20 +10,8 @@ pub(crate) struct Picture {
     pub background: u8,
 }
 
-pub(crate) fn no_picture() -> Picture {
-    Picture {
-        width: 0,
-        height: 0,
-        ratio: 0,
-        background: 0,
-    }
-}
-
-fn stored(p: Given) -> u32 {
-    match p {
-        Given::Nothing => 65_536,
-        Given::Number(n) => n as u32,
-    }
+fn stored(p: Option<u16>) -> u32 {
+    p.map_or(65_536, u32::from)
 }
 
 // Vertical to 1, as the Rust has it where it is left to P1.
@@ -34,39 +22,16 @@ fn vertical(ratio: Ratio) -> u8 {
     }
 }
 
-fn background_number(transparent: bool) -> u8 {
-    if transparent {
-        return 2;
-    }
-    1
-}
-
 fn picture_of(report: Report) -> Picture {
-    let ratio = report.ratio;
     Picture {
         width: report.width,
         height: report.height,
-        ratio: vertical(ratio),
-        background: background_number(report.transparent),
+        ratio: vertical(report.ratio),
+        background: 1 + u8::from(report.transparent),
     }
 }
 
 // What a finish or a reading came to.
-#[derive(Clone, Copy)]
-pub(crate) struct Closed {
-    pub refusal: u8,
-    pub picture: Picture,
-}
-
-pub(crate) fn close(answer: Finishing) -> Closed {
-    match answer {
-        Finishing::Picture(report) => Closed {
-            refusal: 0,
-            picture: picture_of(report),
-        },
-        Finishing::Refused(refusal) => Closed {
-            refusal: frame::number(refusal),
-            picture: no_picture(),
-        },
-    }
+pub(crate) fn close(answer: Result<Report, Refusal>) -> Result<Picture, Refusal> {
+    Ok(picture_of(answer?))
 }

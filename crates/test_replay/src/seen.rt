@@ -6,8 +6,8 @@ fn pattern(i: usize) -> u8 {
 }
 
 pub(crate) fn fill(canvas: &mut [u8]) {
-    for i in 0..canvas.len() {
-        canvas[i] = pattern(i);
+    for (i, byte) in canvas.iter_mut().enumerate() {
+        *byte = pattern(i);
     }
 }
 
@@ -19,19 +19,16 @@ pub(crate) struct Shown {
 }
 
 fn is_inside(pixel: usize, stride: usize, width: usize, height: usize) -> bool {
-    if stride == 0 {
-        return false;
-    }
-    pixel % stride < width && pixel / stride < height
+    stride != 0 && pixel % stride < width && pixel / stride < height
 }
 
 pub(crate) fn look(canvas: &[u8], stride: usize, width: usize, height: usize) -> Shown {
     let mut sum = 1;
     let mut is_rest_kept = true;
-    for i in 0..canvas.len() {
+    for (i, &byte) in canvas.iter().enumerate() {
         if is_inside(i / 4, stride, width, height) {
-            sum = answers::with_byte(sum, canvas[i]);
-        } else if canvas[i] != pattern(i) {
+            sum = answers::with_byte(sum, byte);
+        } else if byte != pattern(i) {
             is_rest_kept = false;
         }
     }

@@ -1,144 +1,106 @@
 // A session of the list put to the reader: its pieces one by one, what stays unread again after each stop.
-use crate::calls::{Count, STOPPED, is_fair};
-use crate::fields::{first_byte, is_dropped, length_at, pieces_of, place_after};
-use crate::reader;
+use crate::calls::{Came, Count, Heard, is_fair};
+use crate::fields::{bytes_of, first, is_dropped, piece_length, pieces_of, rest};
 use crate::reader::Reader;
-use crate::report::{Picture, close, no_picture};
+use crate::report::{Picture, close};
 use colours::Palette;
+use frame::Refusal;
 
-// A session and what its calls came to; `step` is what the last call consumed.
+// A session and what its calls came to.
 #[derive(Clone, Copy)]
 struct Calls {
     reader: Reader,
     count: Count,
-    step: usize,
-    is_stopped: bool,
 }
 
-fn call(before: Calls, canvas: &mut [u8], bytes: &[u8], allowance: usize) -> Calls {
-    let reader = before.reader;
-    let count = before.count;
-    let heard = reader::feed(reader, canvas, bytes, allowance);
-    let said = heard.said;
-    let after = heard.reader;
-    let fair = is_fair(said, count.status, bytes, allowance);
-    Calls {
-        reader: after,
-        count: count.with(said, fair),
-        step: said.consumed,
-        is_stopped: said.how == STOPPED,
-    }
-}
-
-fn with_count(calls: Calls, count: Count) -> Calls {
-    let reader = calls.reader;
-    Calls {
-        reader,
-        count,
-        step: 0,
-        is_stopped: false,
-    }
-}
-
-// Each stop comes after a byte, so that one call more than the piece has bytes is enough.
-fn feed_piece(start: Calls, canvas: &mut [u8], piece: &[u8], allowance: usize) -> Calls {
-    let before = start.count.consumed;
-    let mut calls = call(start, canvas, piece, allowance);
-    let mut at = 0;
-    for _ in 0..piece.len() {
-        if !calls.is_stopped {
-            return with_count(calls, calls.count.with_piece(before));
+impl Calls {
+    // Gives what stays unread after a stop.
+    fn call<'a>(
+        &mut self,
+        canvas: &mut [u8],
+        bytes: &'a [u8],
+        allowance: usize,
+    ) -> Option<&'a [u8]> {
+        let said = self.reader.feed(canvas, bytes, allowance);
+        let fair = is_fair(said, self.count.end, bytes, allowance);
+        self.count.add(said, fair);
+        match said {
+            Ok(
+                Heard {
+                    came: Came::Stopped,
+                    consumed,
+                    ..
+                },
+            ) => Some(rest(bytes, consumed)),
+            _ => None,
         }
-        at = place_after(at, calls.step, piece.len());
-        calls = call(calls, canvas, &piece[at..], allowance);
     }
-    with_count(calls, calls.count.with_piece(before))
-}
 
-fn feed_pieces(start: Calls, record: &[u8], canvas: &mut [u8], allowance: usize) -> Calls {
-    let count = pieces_of(record);
-    let mut calls = start;
-    let mut at = first_byte(record);
-    for piece in 0..count {
-        let length = length_at(record, 80 + 4 * (piece as usize), at);
-        calls = feed_piece(calls, canvas, &record[at..at + length], allowance);
-        if calls.count.refusal != 0 {
-            return calls;
+    // Each stop comes after a byte, so that one call more than the piece has bytes is enough.
+    fn feed_piece(&mut self, canvas: &mut [u8], piece: &[u8], allowance: usize) {
+        let before = self.count.consumed;
+        let mut unread = self.call(canvas, piece, allowance);
+        for _ in 0..piece.len() {
+            let Some(bytes) = unread else {
+                break;
+            };
+            unread = self.call(canvas, bytes, allowance);
         }
-        at += length;
+        self.count.add_piece(before);
     }
-    calls
+
+    fn feed_pieces(&mut self, record: &[u8], canvas: &mut [u8], allowance: usize) {
+        let mut unread = bytes_of(record).unwrap_or(&[]);
+        for number in 0..pieces_of(record) {
+            let piece = first(unread, piece_length(record, number));
+            self.feed_piece(canvas, piece, allowance);
+            if self.count.refusal.is_some() {
+                return;
+            }
+            unread = rest(unread, piece.len());
+        }
+    }
 }
 
 // What a whole session or a reading came to, and the owner's palette after it.
 #[derive(Clone, Copy)]
 pub(crate) struct Ran {
     pub count: Count,
-    pub refusal: u8,
-    pub at_finish: u8,
-    pub picture: Picture,
+    pub refusal: Option<Refusal>,
+    pub is_finished: bool,
+    pub picture: Option<Picture>,
     pub palette: Palette,
 }
 
 // A session that a feed failed is finished too: that is refused by 9.
 fn finish(calls: Calls, owner: Palette, canvas: &mut [u8]) -> Ran {
-    let reader = calls.reader;
-    let count = calls.count;
-    let finished = reader::finish(reader, owner, canvas);
-    let answer = finished.answer;
-    let palette = finished.palette;
-    let end = close(answer);
-    let picture = end.picture;
-    if count.refusal != 0 {
-        return Ran {
-            count: count.if_fair(end.refusal == 9),
-            refusal: count.refusal,
-            at_finish: 0,
-            picture,
-            palette,
-        };
+    let mut count = calls.count;
+    let finished = calls.reader.finish(owner, canvas);
+    let closed = close(finished.answer);
+    if count.refusal.is_some() {
+        count.is_fair = count.is_fair && matches!(closed, Err(Refusal::Failed));
     }
     Ran {
         count,
-        refusal: end.refusal,
-        at_finish: 1,
-        picture,
-        palette,
+        refusal: count.refusal.or(closed.err()),
+        is_finished: count.refusal.is_none(),
+        picture: closed.ok(),
+        palette: finished.palette,
     }
 }
 
 fn abort(calls: Calls, owner: Palette) -> Ran {
-    let reader = calls.reader;
     let count = calls.count;
     Ran {
         count,
         refusal: count.refusal,
-        at_finish: 0,
-        picture: no_picture(),
-        palette: reader::abort(reader, owner),
+        is_finished: false,
+        picture: None,
+        palette: calls.reader.abort(owner),
     }
 }
 
-fn open(record: &[u8], canvas: &mut [u8], stride: usize, owner: Palette) -> Calls {
-    let began = reader::open(record, canvas, stride, owner);
-    let reader = began.reader;
-    Calls {
-        reader,
-        count: Count::new(began.is_ready),
-        step: 0,
-        is_stopped: false,
-    }
-}
-
-// Finished, or dropped where the record says so.
-fn leave(calls: Calls, record: &[u8], canvas: &mut [u8], owner: Palette) -> Ran {
-    if is_dropped(record) {
-        return abort(calls, owner);
-    }
-    finish(calls, owner, canvas)
-}
-
-// The record's session on a canvas of `stride` pixels a row.
+// The record's session on a canvas of `stride` pixels a row, finished, or dropped where the record says so.
 pub(crate) fn run(
     record: &[u8],
     canvas: &mut [u8],
@@ -146,7 +108,14 @@ pub(crate) fn run(
     allowance: usize,
     owner: Palette,
 ) -> Ran {
-    let opened = open(record, canvas, stride, owner);
-    let fed = feed_pieces(opened, record, canvas, allowance);
-    leave(fed, record, canvas, owner)
+    let (reader, is_ready) = Reader::open(record, canvas, stride, owner);
+    let mut calls = Calls {
+        reader,
+        count: Count::new(is_ready),
+    };
+    calls.feed_pieces(record, canvas, allowance);
+    if is_dropped(record) {
+        return abort(calls, owner);
+    }
+    finish(calls, owner, canvas)
 }

@@ -2,18 +2,19 @@
 // is a picture, on one that is a row short and on one that is a column short.
 ghost use Rattle.std.specs.Prelude.{◌≤◌};
 
-use crate::fields::{ONE_SHOT, byte_at, has_picture, height_of, kind_of, width_of};
-use crate::report::Picture;
+use crate::calls::End;
+use crate::fields::{Kind, byte_at, height_of, kind_of, picture_of, width_of};
 use crate::seen::{Shown, fill, look};
 use crate::session::Ran;
 use crate::{one_shot, session};
 use colours::Palette;
+use frame::Refusal;
 
 // The list has no picture that is longer or has more pixels.
 const LONGEST: usize = 262_144;
 
 // An allowance that no ink exceeds.
-const ENDLESS: usize = 0xffff_ffff_ffff_ffff;
+const ENDLESS: usize = usize::MAX;
 
 // A canvas's shape, and what a call may ink.
 #[derive(Clone, Copy)]
@@ -27,13 +28,7 @@ struct Plan {
 fn side_for(side: usize) -> usize
     ensures { result ≤ 262144 }
 {
-    if side == 0 {
-        return 1;
-    }
-    if LONGEST < side {
-        return LONGEST;
-    }
-    side
+    side.clamp(1, LONGEST)
 }
 
 #[derive(Clone, Copy)]
@@ -43,7 +38,7 @@ struct Trial {
 }
 
 fn run(record: &[u8], canvas: &mut [u8], plan: Plan, owner: Palette) -> Ran {
-    if kind_of(record) == ONE_SHOT {
+    if kind_of(record) == Some(Kind::OneShot) {
         return one_shot::run(record, canvas, plan.stride, owner);
     }
     session::run(record, canvas, plan.stride, plan.allowance, owner)
@@ -64,89 +59,56 @@ fn on_canvas(record: &[u8], canvas: &mut [u8], plan: Plan, owner: Palette) -> Tr
 fn canvas_length(stride: usize, rows: usize, room: usize) -> usize
     ensures { result ≤ room }
 {
-    if LONGEST + 1 < stride {
-        return 0;
-    }
-    if LONGEST + 1 < rows {
-        return 0;
-    }
-    let length = 4 * (stride * rows);
-    if room < length {
-        return 0;
-    }
-    length
+    let length = stride.saturating_mul(rows).saturating_mul(4);
+    if length <= room { length } else { 0 }
 }
 
 fn try_on(record: &[u8], buffer: &mut [u8], plan: Plan, owner: Palette) -> Trial {
-    let stride = plan.stride;
-    let rows = plan.rows;
-    let room = buffer.len();
-    let length = canvas_length(stride, rows, room);
+    let length = canvas_length(plan.stride, plan.rows, buffer.len());
     on_canvas(record, &mut buffer[..length], plan, owner)
 }
 
-// The outcome of the calls: refusal, status, and bytes consumed.
+// The outcome of the calls: refusal, finish, status, and bytes consumed.
 fn do_calls_agree(record: &[u8], ran: Ran) -> bool {
     let count = ran.count;
+    let [status, byte] = End::stored(count.end);
     count.is_fair
-        && ran.refusal == byte_at(record, 6)
-        && ran.at_finish == byte_at(record, 7)
-        && count.status == byte_at(record, 8)
-        && count.byte == byte_at(record, 9)
+        && ran.refusal.map_or(0, frame::number) == byte_at(record, 6)
+        && u8::from(ran.is_finished) == byte_at(record, 7)
+        && status == byte_at(record, 8)
+        && byte == byte_at(record, 9)
         && count.consumed == answers::number_at(record, 40) as u64
-}
-
-// The report: size, ratio and background. At 56 a record has the Rust's reach, which is not the extent of rule 4.4.
-fn does_report_agree(record: &[u8], picture: Picture) -> bool {
-    if !has_picture(record) {
-        return picture.ratio == 0 && picture.background == 0;
-    }
-    picture.ratio == byte_at(record, 10)
-        && picture.background == byte_at(record, 11)
-        && picture.width == width_of(record)
-        && picture.height == height_of(record)
 }
 
 fn agrees(record: &[u8], trial: Trial) -> bool {
     let ran = trial.ran;
-    let picture = ran.picture;
     let seen = trial.shown;
-    let palette = ran.palette;
     do_calls_agree(record, ran)
-        && does_report_agree(record, picture)
+        && ran.picture == picture_of(record)
         && seen.sum == answers::number_at(record, 64)
         && seen.is_rest_kept
-        && answers::registers_sum(palette) == answers::number_at(record, 68)
+        && answers::registers_sum(ran.palette) == answers::number_at(record, 68)
 }
 
 // With 6W a call, each call more than there are pieces had ink; with no bound there is none more, and the ink is the same.
 fn do_counts_agree(least: Ran, endless: Ran) -> bool {
     let few = least.count;
     let free = endless.count;
-    if few.calls < few.pieces {
-        return false;
-    }
-    few.calls - few.pieces <= few.ink
+    few.pieces <= few.calls
+        && few.calls - few.pieces <= few.ink
         && free.calls == free.pieces
         && few.pieces == free.pieces
-        && (few.refusal != 0 || few.ink == free.ink)
+        && (few.refusal.is_some() || few.ink == free.ink)
 }
 
 fn is_without_room(trial: Trial) -> bool {
     let ran = trial.ran;
-    let count = ran.count;
-    ran.refusal == 7 && count.is_fair
+    matches!(ran.refusal, Some(Refusal::Room)) && ran.count.is_fair
 }
 
 // A canvas too short for a picture has no room for it, where there is such a canvas.
 fn is_short_refused(record: &[u8], buffer: &mut [u8], plan: Plan, owner: Palette) -> bool {
-    if plan.stride == 0 {
-        return true;
-    }
-    if plan.rows == 0 {
-        return true;
-    }
-    is_without_room(try_on(record, buffer, plan, owner))
+    plan.stride == 0 || plan.rows == 0 || is_without_room(try_on(record, buffer, plan, owner))
 }
 
 // The canvas that a record's picture fits exactly, with the least allowance.
@@ -167,36 +129,20 @@ fn larger_plan(record: &[u8]) -> Plan {
     }
 }
 
-fn row_less(plan: Plan) -> Plan {
-    Plan {
-        stride: plan.stride,
-        rows: one_less(plan.rows),
-        allowance: plan.allowance,
-    }
-}
-
-fn column_less(plan: Plan) -> Plan {
-    Plan {
-        stride: one_less(plan.stride),
-        rows: plan.rows,
-        allowance: plan.allowance,
-    }
-}
-
-fn one_less(n: usize) -> usize {
-    if n == 0 {
-        return 0;
-    }
-    n - 1
-}
-
 // A row short, and a column short.
 fn are_shorter_refused(record: &[u8], buffer: &mut [u8], owner: Palette) -> bool {
-    if !has_picture(record) {
+    if picture_of(record).is_none() {
         return true;
     }
-    let low = row_less(exact_plan(record));
-    let narrow = column_less(exact_plan(record));
+    let exact = exact_plan(record);
+    let low = Plan {
+        rows: exact.rows.saturating_sub(1),
+        ..exact
+    };
+    let narrow = Plan {
+        stride: exact.stride.saturating_sub(1),
+        ..exact
+    };
     let is_low_refused = is_short_refused(record, buffer, low, owner);
     let is_narrow_refused = is_short_refused(record, buffer, narrow, owner);
     is_low_refused && is_narrow_refused
@@ -212,12 +158,14 @@ pub(crate) struct Compared {
 fn verdict(record: &[u8], exact: Trial, larger: Trial, are_refused: bool) -> Compared {
     let least = exact.ran;
     let endless = larger.ran;
-    let palette = least.palette;
     let is_same = are_refused
         && agrees(record, exact)
         && agrees(record, larger)
         && do_counts_agree(least, endless);
-    Compared { is_same, palette }
+    Compared {
+        is_same,
+        palette: least.palette,
+    }
 }
 
 pub(crate) fn compare(record: &[u8], buffer: &mut [u8], owner: Palette) -> Compared {

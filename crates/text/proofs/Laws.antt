@@ -11,17 +11,12 @@ use lib.Dec.{ltb}
 use lib.ListN.{length, take, drop, get_or, set, length-set, drop_of_length-le}
 use lib.Seq.{drop-cons, sets, sets-eq}
 use borrow.Author.Tests.{lt-ltb, le-ltb, ltb-false}
-use Rattle.text.specs.Text.{put_byte, put, digits, decimal, hex_digit, hex}
+use Rattle.text.specs.Text.{put_byte, put, digits, decimal}
 
 -- a byte where there is room
 pub room : (byte at : ℕ) (out : List ℕ) → at < length out → (at + 1, set out at byte) ≡ put_byte byte (at, out)
 unfolding put_byte
 room byte at out h = rw (lt-ltb _ _ h)
-
--- and where there is none
-pub no_room : (byte at : ℕ) (out : List ℕ) → length out ≤ at → (at, out) ≡ put_byte byte (at, out)
-unfolding put_byte
-no_room byte at out h = rw (le-ltb _ _ h)
 
 -- putting xs and ys joined is putting xs, then ys
 pub put-append : (xs ys : List ℕ) (there : ℕ × List ℕ) → put (xs ++ ys) there ≡ put ys (put xs there)
@@ -96,8 +91,8 @@ unfolding decimal digits
 one-digit n h = rw (lt-ltb _ _ h)
 
 -- and is put as that
-pub put-digit : (n : ℕ) (before after : ℕ × List ℕ) → n < 10 → after ≡ put_byte (48 + n) before → after ≡ put (decimal n) before
-put-digit n before after h e = rw (one-digit n h) (put_one (48 + n) before e)
+pub put-digit : (n : ℕ) (before after : ℕ × List ℕ) → n < 10 → after ≡ put_byte (48 + n % 10) before → after ≡ put (decimal n) before
+put-digit n before after h e = let same : n % 10 ≡ n = omega arith in rw (one-digit n h) (put_one (48 + n) before (rw same at e))
 
 -- any other of 64 bits is the digits of its tenth, and one more
 pub more-digits : (n : ℕ) → 10 ≤ n → n < 2 ^ 64 → decimal n ≡ decimal (n / 10) ++ ((48 + n % 10) ∷ [])
@@ -111,9 +106,3 @@ pub put-digits : (n : ℕ) (before between after : ℕ × List ℕ) → 10 ≤ n
     → after ≡ put_byte (48 + n % 10) between → after ≡ put (decimal n) before
 put-digits n before between after h m e f =
     rw (more-digits n h m) (put_then (decimal (n / 10)) ((48 + n % 10) ∷ []) before e (put_one (48 + n % 10) between f))
-
--- two hex digits
-pub put_two : (byte upper lower : ℕ) (before between after : ℕ × List ℕ) → upper ≡ hex_digit (byte / 16) → between ≡ put_byte upper before
-    → lower ≡ hex_digit (byte % 16) → after ≡ put_byte lower between → after ≡ put (hex byte) before
-unfolding hex put
-put_two byte upper lower before between after u e l f = cc

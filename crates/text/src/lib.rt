@@ -1,55 +1,67 @@
-// Text written into a lent buffer at a cursor. Each function answers where the cursor stands then. Where the buffer is
-// full, a byte is dropped and the cursor stays: the text is truncated.
+// Text written into a lent buffer at a cursor. Where the buffer is full, a byte is dropped and the cursor stays: the text is truncated.
 #![tactic(auto)]
 
 ghost use Rattle.std.specs.Prelude.{◌≡◌, ◌<◌};
 ghost use Rattle.text.specs.Text.{put_byte, put, decimal, hex_digit, hex};
+ghost use Rattle.text.specs.Stand.{there};
 
-pub fn put_byte(out: &mut [u8], at: usize, byte: u8) -> usize
-    ensures { (result, out.new) ≡ put_byte byte (at, out.old) }
-{
-    if at < out.len() {
-        out[at] = byte;
-        return at + 1;
-    }
-    at
+// A lent buffer, and the place in it where the next byte goes.
+#[derive(Drop)]
+pub struct Cursor<'a> {
+    pub out: &'a mut [u8],
+    pub at: usize,
 }
 
-pub fn put_words(out: &mut [u8], at: usize, words: &[u8]) -> usize
-    ensures { (result, out.new) ≡ put words.now (at, out.old) }
-{
-    let mut place = at;
-    for i in 0..words.len() {
-        place = put_byte(out, place, words[i]);
+impl Cursor<'_> {
+    #[tactic(auto, unfolding(crate::specs::Text::put_byte))]
+    pub fn put_byte(&mut self, byte: u8)
+        ensures buffer { self.new.out.ghost_name ≡ self.old.out.ghost_name }
+        ensures text { there self.new ≡ put_byte byte (there self.old) }
+    {
+        if self.at < self.out.len() {
+            self.out[self.at] = byte;
+            self.at += 1;
+        }
     }
-    place
+
+    pub fn put_words(&mut self, words: &[u8])
+        ensures buffer { self.new.out.ghost_name ≡ self.old.out.ghost_name }
+        ensures text { there self.new ≡ put words.now (there self.old) }
+    {
+        for &byte in words {
+            self.put_byte(byte);
+        }
+    }
+
+    // A number's decimal digits, the most significant first.
+    pub fn put_decimal(&mut self, n: u64)
+        ensures buffer { self.new.out.ghost_name ≡ self.old.out.ghost_name }
+        ensures text { there self.new ≡ put (decimal n) (there self.old) }
+    {
+        if n >= 10 {
+            self.put_decimal(n / 10);
+        }
+        self.put_byte(b'0' + (n % 10) as u8);
+    }
+
+    // A byte as two upper-case hex digits.
+    #[tactic(auto, unfolding(crate::specs::Text::hex, crate::specs::Text::put))]
+    pub fn put_hex(&mut self, byte: u8)
+        ensures buffer { self.new.out.ghost_name ≡ self.old.out.ghost_name }
+        ensures text { there self.new ≡ put (hex byte) (there self.old) }
+    {
+        self.put_byte(hex_digit(byte / 16));
+        self.put_byte(hex_digit(byte % 16));
+    }
 }
 
-// A number's decimal digits, the most significant first.
-pub fn put_decimal(out: &mut [u8], at: usize, n: u64) -> usize
-    ensures { (result, out.new) ≡ put (decimal n) (at, out.old) }
-{
-    if n < 10 {
-        return put_byte(out, at, 48 + (n as u8));
-    }
-    let last = put_decimal(out, at, n / 10);
-    put_byte(out, last, 48 + ((n % 10) as u8))
-}
-
+#[tactic(auto, unfolding(crate::specs::Text::hex_digit))]
 fn hex_digit(n: u8) -> u8
     requires { n < 16 }
     ensures { result ≡ hex_digit n }
 {
     if n < 10 {
-        return 48 + n;
+        return b'0' + n;
     }
-    55 + n
-}
-
-// A byte as two upper-case hex digits.
-pub fn put_hex(out: &mut [u8], at: usize, byte: u8) -> usize
-    ensures { (result, out.new) ≡ put (hex byte) (at, out.old) }
-{
-    let second = put_byte(out, at, hex_digit(byte / 16));
-    put_byte(out, second, hex_digit(byte % 16))
+    b'A' - 10 + n
 }

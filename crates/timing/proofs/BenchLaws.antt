@@ -1,4 +1,5 @@
 -- The benchmark's reading: one law for each path through it.
+use Rattle.std.specs.Prelude.{Ok, Err}
 use Prim.Native.Nat.{ℕ, ◌+◌, ◌*◌, ◌≤◌}
 use native.Mathlib.Omega.{arith}
 use mathlib.Core.Bool.{Bool, true, false}
@@ -17,8 +18,7 @@ use Rattle.meaning.specs.Payload as meant
 use Rattle.meaning.specs.Payload.{no_parameters}
 use Rattle.meaning.specs.Sizes.{ReportFits}
 use Rattle.meaning.proofs.AreaLaws.{opens-roomy, payload-sound, outcome_fits}
-use Rattle.payload.specs.declared.Finishing.{Finishing}
-use Rattle.payload.specs.declared.Finishing.TheVariants.{Picture, Refused}
+use Rattle.payload.specs.Results.{Finishing}
 use Rattle.payload.specs.declared.Report.{Report}
 use Rattle.payload.specs.declared.Settings.{Settings}
 use Rattle.payload.specs.Core.{finished_over}
@@ -32,18 +32,18 @@ use Rattle.timing.specs.Bench.{size_or_number, bench_decoded, SizeWithin}
 -- ---- an answer's number
 
 module _ {a : Finishing} (fits : SizeWithin a) where
-  pub width_fits : {r : Report} → a ≡ Picture r → r.width ≤ 1024
+  pub width_fits : {r : Report} → a ≡ Ok r → r.width ≤ 1024
   width_fits e = (subst SizeWithin e fits).0
 
-  pub height-fits : {r : Report} → a ≡ Picture r → r.height ≤ 768
+  pub height-fits : {r : Report} → a ≡ Ok r → r.height ≤ 768
   height-fits e = (subst SizeWithin e fits).1
 
-pub picture-number : {a : Finishing} {r : Report} (p : Palette) → a ≡ Picture r
+pub picture-number : {a : Finishing} {r : Report} (p : Palette) → a ≡ Ok r
     → r.width * 4294967296 + r.height ≡ size_or_number (finish_meant a p)
 unfolding size_or_number finish_meant report_meant
 picture-number p e = ap (λ (b : Finishing). size_or_number (finish_meant b p)) (sym e)
 
-pub refused-number : {a : Finishing} {n : Refusal} {x : ℕ} (p : Palette) → a ≡ Refused n → x ≡ number_of n
+pub refused-number : {a : Finishing} {n : Refusal} {x : ℕ} (p : Palette) → a ≡ Err n → x ≡ number_of n
     → x ≡ size_or_number (finish_meant a p)
 unfolding size_or_number finish_meant
 refused-number p e k = k ∙ ap (λ (b : Finishing). size_or_number (finish_meant b p)) (sym e)
@@ -54,9 +54,9 @@ pub ruleset numbered = (width_fits, height-fits, picture-number, refused-number)
 
 within-house : (s : Setting) (a : Finishing) (p : Palette) → s.limits ≡ house_limits → ReportFits s (finish_meant a p) → SizeWithin a
 unfolding finish_meant report_meant
-within-house s (Picture r) p e h =
+within-house s (Ok r) p e h =
     (subst (λ l. r.width ≤ l.width) e h.0.width, subst (λ l. r.height ≤ l.height) e h.0.height)
-within-house s (Refused n) p e h = tt
+within-house s (Err n) p e h = tt
 
 -- ---- the reading
 

@@ -1,12 +1,11 @@
 -- What the benchmark's reading answers, in the definition's terms.
-use Rattle.std.specs.Prelude.{ℕ, ◌+◌, ◌*◌, ◌^◌, ◌≤◌, cond, List, length}
+use Rattle.std.specs.Prelude.{ℕ, ◌+◌, ◌*◌, ◌^◌, ◌≤◌, cond, List, length, Ok, Err}
 use Rattle.std.proofs.Math.Option.{some}
 use Rattle.colours.specs.Palette.{standard}
 use Rattle.meaning.specs.Calls.{setting_for, opens, shown}
 use Rattle.meaning.specs.Drawing.{house_limits, Setting, Outcome}
 use Rattle.meaning.specs.Payload.{no_parameters, payload, Finished, finished, turned_down, finish}
-use Rattle.payload.specs.declared.Finishing.{Finishing}
-use Rattle.payload.specs.declared.Finishing.TheVariants.{Picture, Refused}
+use Rattle.payload.specs.Results.{Finishing}
 
 -- a picture's width x 2^32 + height, or the refusal's number
 unfoldable pub size_or_number : Finished → ℕ
@@ -25,5 +24,5 @@ bench_decoded stride canvas bytes =
 
 -- a picture of the code no larger than the house's limits
 abbrev pub SizeWithin : Finishing → Type 0
-SizeWithin (Picture r) = (r.width ≤ house_limits.width) × (r.height ≤ house_limits.height)
-SizeWithin (Refused n) = Unit {0}
+SizeWithin (Ok r) = (r.width ≤ house_limits.width) × (r.height ≤ house_limits.height)
+SizeWithin (Err n) = Unit {0}

@@ -7,10 +7,10 @@ ghost use Rattle.payload.specs.Meant.{finish_meant};
 ghost use Rattle.timing.specs.Bench.{SizeWithin, size_or_number, bench_decoded};
 
 use colours::Palette;
-use frame::number;
+use frame::{Refusal, number};
 use oneshot::read_in_pieces;
 use payload::refusals::may_open;
-use payload::{Finishing, house_limits, no_settings};
+use payload::{Report, house_limits, no_settings};
 
 // The smallest allowance under the house's limits: 6W.
 const LEAST: usize = 6_144;
@@ -41,12 +41,12 @@ pub fn sixbench_decode(canvas: &mut [u8], stride: usize, bytes: &[u8], chunk: us
 }
 
 // Width x 2^32 + height, or the refusal's number. Asks for a size within the house's limits, which fits the two halves of the answer.
-fn size_or_number(answer: Finishing) -> u64
+fn size_or_number(answer: Result<Report, Refusal>) -> u64
     requires { SizeWithin answer }
     ensures { (p : Palette) → result ≡ size_or_number (finish_meant answer p) }
 {
     match answer {
-        Finishing::Picture(report) => report.width as u64 * 4_294_967_296 + report.height as u64,
-        Finishing::Refused(refusal) => number(refusal) as u64,
+        Ok(report) => report.width as u64 * 4_294_967_296 + report.height as u64,
+        Err(refusal) => number(refusal) as u64,
     }
 }

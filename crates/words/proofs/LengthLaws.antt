@@ -1,9 +1,9 @@
 -- How long a line can be: no more than 127 bytes, so that a buffer of 128 has room for every line and a byte more.
 -- Assumes nothing.
+use Rattle.std.specs.Prelude.{Option, Some, None}
 use Prim.Native.Nat.{ℕ, zero, suc, ◌+◌, ◌/◌, ◌%◌, ◌≤◌}
 use native.Mathlib.Omega.{arith}
 use mathlib.Core.Bool.{Bool, true, false, cond}
-use mathlib.Core.Option.{Option, none, some}
 use mathlib.Core.List.{List, [], ◌∷◌, ◌++◌}
 use mathlib.Core.Path.{◌≡◌}
 use lib.Dec.{ltb, eqb}
@@ -13,12 +13,9 @@ use Rattle.text.proofs.Laws.{put-room}
 use Rattle.frame.specs.declared.Refusal.{Refusal}
 use Rattle.frame.specs.declared.Refusal.TheVariants as refusals
 use Rattle.frame.specs.Numbers.{number_of}
+use Rattle.words.specs.declared.Shortage.{Shortage}
 use Rattle.words.specs.declared.Thing.{Thing}
 use Rattle.words.specs.declared.Thing.TheVariants as things
-use Rattle.words.specs.declared.Need.{Need}
-use Rattle.words.specs.declared.Need.TheVariants as needs
-use Rattle.words.specs.declared.Place.{Place}
-use Rattle.words.specs.declared.Place.TheVariants as places
 use Rattle.words.specs.declared.Telling.{Telling}
 use Rattle.words.specs.Words.{place_text, amount_text, needed_text, limit_text, plain_sentence, sentence, refusal_text}
 use Rattle.words.specs.Memory.{telling_from, line_of, text_of}
@@ -61,10 +58,10 @@ number-most refusals.Buffer = omega arith
 
 -- ---- the parts of a line
 
-place-most : (place : Place) → length (place_text place) ≤ 29
+place-most : (place : Option ℕ) → length (place_text place) ≤ 29
 unfolding place_text words
-place-most places.Nowhere = omega arith
-place-most (places.At offset) = simp length-append (omega (arith, decimal-most offset))
+place-most None = omega arith
+place-most (Some offset) = simp length-append (omega (arith, decimal-most offset))
 
 amount-most : (n : ℕ) (more : Bool) → length (amount_text n more) ≤ 30
 unfolding amount_text words
@@ -102,10 +99,10 @@ plain-most refusals.Canvas = omega arith
 plain-most refusals.Allowance = omega arith
 plain-most refusals.Buffer = omega arith
 
-sentence-most : (r : Refusal) (need : Need) → length (sentence r need) ≤ 86
+sentence-most : (r : Refusal) (need : Option Shortage) → length (sentence r need) ≤ 86
 unfolding sentence
-sentence-most r needs.Nothing = plain-most r
-sentence-most r (needs.Short short) =
+sentence-most r None = plain-most r
+sentence-most r (Some short) =
     let needed = needed-most short.thing short.needed short.more in
     let limit = limit-most r short.allowed in
     simp length-append (omega (arith, needed, limit))
@@ -123,8 +120,8 @@ line-most telling =
 
 line-of-most : (told : Option Telling) → length (line_of told) ≤ 127
 unfolding line_of
-line-of-most none = omega arith
-line-of-most (some telling) = line-most telling
+line-of-most None = omega arith
+line-of-most (Some telling) = line-most telling
 
 -- rule 5.11: nor is that of any numbers
 pub text-most : (numbers : List ℕ) → length (text_of numbers) ≤ 127

@@ -1,80 +1,55 @@
 -- Laws of what is told as seven numbers: each function's numbers, and that what is told comes back as it was.
 -- Assumes nothing.
+use Rattle.std.specs.Prelude.{Option, Some, None}
 use mathlib.Core.Path.{◌≡◌, refl, sym}
 use mathlib.Core.Bool.{Bool, true, false, cond}
-use mathlib.Core.Option.{none, some}
 use mathlib.Core.List.{List, [], ◌∷◌, ◌++◌}
 use Prim.Native.Nat.{ℕ, ◌+◌, ◌≤◌, ◌<◌}
 use native.Mathlib.Omega.{arith}
-use mir.Val.{bool_byte}
-use borrow.Author.Tests.{eq-eqb, ne_eqb}
+use borrow.Author.Tests.{ne_eqb}
 use lib.Dec.{eqb}
 use lib.ListN.{get_or}
-use Rattle.text.specs.Text.{put}
 use Rattle.frame.specs.declared.Refusal.{Refusal}
 use Rattle.frame.specs.declared.Refusal.TheVariants as refusals
 use Rattle.frame.specs.Numbers.{number_of}
 use Rattle.words.specs.declared.Thing.{Thing}
 use Rattle.words.specs.declared.Thing.TheVariants as things
 use Rattle.words.specs.declared.Shortage.{Shortage}
-use Rattle.words.specs.declared.Need.{Need}
-use Rattle.words.specs.declared.Need.TheVariants as needs
-use Rattle.words.specs.declared.Place.{Place}
-use Rattle.words.specs.declared.Place.TheVariants as places
 use Rattle.words.specs.declared.Telling.{Telling}
 use Rattle.words.specs.Words.{refusal_text}
 use Rattle.words.specs.Memory.{thing_number, place_numbers, need_numbers, numbers_of, having, all_refusals, all_things, refusal_from, thing_from, place_from, short_from, need_from, told_of, telling_from, line_of, text_of}
 
--- ---- a case's numbers are the numbers where the value is that case
+-- ---- the seven
 
-pub thing-as : (thing case : Thing) (n : ℕ) → thing ≡ case → n ≡ thing_number case → n ≡ thing_number thing
-thing-as thing case n e h = rw e h
-
-pub place-as : (place case : Place) (l : List ℕ) → place ≡ case → l ≡ place_numbers case → l ≡ place_numbers place
-place-as place case l e h = rw e h
-
-pub nothing-as : (need : Need) → need ≡ needs.Nothing → 0 ∷ 0 ∷ 0 ∷ 0 ∷ [] ≡ need_numbers need
-unfolding need_numbers
-nothing-as need e = rw e refl
-
-flag-number : (t : Bool) → bool_byte t ≡ cond t 1 0
-flag-number true = refl
-flag-number false = refl
-
-pub short-as : (need : Need) (short : Shortage) (n : ℕ) → need ≡ needs.Short short → n ≡ thing_number short.thing
-    → n ∷ short.needed ∷ bool_byte short.more ∷ short.allowed ∷ [] ≡ need_numbers need
-unfolding need_numbers
-short-as need short n e h = rw (e, h, flag-number short.more) refl
-
-place-two : (place : Place) → place_numbers place ≡ get_or (place_numbers place) 0 0 ∷ get_or (place_numbers place) 1 0 ∷ []
+place-two : (place : Option ℕ) → place_numbers place ≡ get_or (place_numbers place) 0 0 ∷ get_or (place_numbers place) 1 0 ∷ []
 unfolding place_numbers
-place-two places.Nowhere = refl
-place-two (places.At offset) = refl
+place-two None = refl
+place-two (Some offset) = refl
 
-need-four : (need : Need)
+need-four : (need : Option Shortage)
     → need_numbers need
     ≡ get_or (need_numbers need) 0 0 ∷ get_or (need_numbers need) 1 0 ∷ get_or (need_numbers need) 2 0 ∷ get_or (need_numbers need) 3 0 ∷ []
 unfolding need_numbers
-need-four needs.Nothing = refl
-need-four (needs.Short short) = refl
+need-four None = refl
+need-four (Some short) = refl
 
 -- the seven as the code lists them
-pub numbers-listed : (telling : Telling) (number : ℕ) (place need : List ℕ) → number ≡ number_of telling.refusal
+pub numbers_listed : (telling : Telling) (number : ℕ) (place need : List ℕ) → number ≡ number_of telling.refusal
     → place ≡ place_numbers telling.place → need ≡ need_numbers telling.need
     → number ∷ get_or place 0 0 ∷ get_or place 1 0 ∷ get_or need 0 0 ∷ get_or need 1 0 ∷ get_or need 2 0 ∷ get_or need 3 0 ∷ [] ≡ numbers_of telling
 unfolding numbers_of
-numbers-listed telling number place need e f g =
+numbers_listed telling number place need e f g =
     rw (e, f, g) (sym (rw (place-two telling.place, need-four telling.need) refl))
 
 -- ---- who has a number
 
 -- where none in a list has a number, none is found
-having-none : {A : Type 0} (number : A → ℕ) (n : ℕ) (l : List A) → ((a : A) → number a ≡ n → ⊥) → having number n l ≡ none
+having-none : {A : Type 0} (number : A → ℕ) (n : ℕ) (l : List A) → ((a : A) → number a ≡ n → ⊥) → having number n l ≡ None
 unfolding having
 having-none number n [] h = refl
 having-none number n (a ∷ rest) h = rw (ne_eqb (number a) n (h a)) (having-none number n rest h)
 
-refusal-back : (r : Refusal) → refusal_from (number_of r) ≡ some r
+refusal-back : (r : Refusal) → refusal_from (number_of r) ≡ Some r
 unfolding refusal_from having number_of
 refusal-back refusals.Introducer = refl
 refusal-back refusals.HeaderEnded = refl
@@ -91,30 +66,20 @@ refusal-back refusals.Canvas = refl
 refusal-back refusals.Allowance = refl
 refusal-back refusals.Buffer = refl
 
-thing-back : (t : Thing) → thing_from (thing_number t) ≡ some t
+thing-back : (t : Thing) → thing_from (thing_number t) ≡ Some t
 unfolding thing_from having thing_number
 thing-back things.Repeats = refl
 thing-back things.Columns = refl
 thing-back things.Rows = refl
 thing-back things.Pixels = refl
 
-pub refusal-at : (r : Refusal) (n : ℕ) → n ≡ number_of r → some r ≡ refusal_from n
+pub refusal-at : (r : Refusal) (n : ℕ) → n ≡ number_of r → Some r ≡ refusal_from n
 refusal-at r n e = rw e (sym (refusal-back r))
 
 above : {k n : ℕ} → k ≤ n → (n ≡ k → ⊥) → k + 1 ≤ n
 above h e = omega arith
 
--- what is left of 1 to 14 is 14
-pub last-refusal : (n : ℕ) → 1 ≤ n → n ≤ 14 → (n ≡ 1 → ⊥) → (n ≡ 2 → ⊥) → (n ≡ 3 → ⊥) → (n ≡ 4 → ⊥) → (n ≡ 5 → ⊥) → (n ≡ 6 → ⊥)
-    → (n ≡ 7 → ⊥) → (n ≡ 8 → ⊥) → (n ≡ 9 → ⊥) → (n ≡ 10 → ⊥) → (n ≡ 11 → ⊥) → (n ≡ 12 → ⊥) → (n ≡ 13 → ⊥)
-    → some refusals.Buffer ≡ refusal_from n
-unfolding number_of
-last-refusal n low high h1 h2 h3 h4 h5 h6 h7 h8 h9 h10 h11 h12 h13 =
-    let seven : 7 ≤ n = above (above (above (above (above (above low h1) h2) h3) h4) h5) h6 in
-    let last : 14 ≤ n = above (above (above (above (above (above (above seven h7) h8) h9) h10) h11) h12) h13 in
-    refusal-at refusals.Buffer n (omega (arith, last, high))
-
-pub thing-at : (t : Thing) (n : ℕ) → n ≡ thing_number t → some t ≡ thing_from n
+pub thing-at : (t : Thing) (n : ℕ) → n ≡ thing_number t → Some t ≡ thing_from n
 thing-at t n e = rw e (sym (thing-back t))
 
 -- every refusal's number is one from 1 to 14
@@ -144,63 +109,32 @@ thing-range things.Rows = (omega arith, omega arith)
 thing-range things.Pixels = (omega arith, omega arith)
 
 -- no refusal has the number 0, or one above 14
-no-refusal : (n : ℕ) → (1 ≤ n → 14 < n) → refusal_from n ≡ none
+no-refusal : (n : ℕ) → (1 ≤ n → 14 < n) → refusal_from n ≡ None
 unfolding refusal_from
 no-refusal n h =
     having-none number_of n all_refusals
     (λ r e. let range = refusal-range r in let low : 1 ≤ n = rw e at range.0 in let high : n ≤ 14 = rw e at range.1 in omega (arith, h low))
 
 -- no thing has the number 0, or one above 4
-no-thing : (n : ℕ) → (1 ≤ n → 4 < n) → thing_from n ≡ none
+no-thing : (n : ℕ) → (1 ≤ n → 4 < n) → thing_from n ≡ None
 unfolding thing_from
 no-thing n h =
     having-none thing_number n all_things
     (λ t e. let range = thing-range t in let low : 1 ≤ n = rw e at range.0 in let high : n ≤ 4 = rw e at range.1 in omega (arith, h low))
 
--- ---- the place and the need that numbers tell
+-- a number that is none of 1 to 14 is no refusal's
+pub no-refusal_left : (n : ℕ) → (n ≡ 1 → ⊥) → (n ≡ 2 → ⊥) → (n ≡ 3 → ⊥) → (n ≡ 4 → ⊥) → (n ≡ 5 → ⊥) → (n ≡ 6 → ⊥) → (n ≡ 7 → ⊥) → (n ≡ 8 → ⊥)
+    → (n ≡ 9 → ⊥) → (n ≡ 10 → ⊥) → (n ≡ 11 → ⊥) → (n ≡ 12 → ⊥) → (n ≡ 13 → ⊥) → (n ≡ 14 → ⊥) → None ≡ refusal_from n
+no-refusal_left n h1 h2 h3 h4 h5 h6 h7 h8 h9 h10 h11 h12 h13 h14 =
+    sym (no-refusal n (λ low.
+    let seven : 7 ≤ n = above (above (above (above (above (above low h1) h2) h3) h4) h5) h6 in
+    let past : 15 ≤ n = above (above (above (above (above (above (above (above seven h7) h8) h9) h10) h11) h12) h13) h14 in
+    omega (arith, past)))
 
-pub flag-set : (flag offset : ℕ) → flag ≡ 1 → places.At offset ≡ place_from flag offset
-unfolding place_from
-flag-set flag offset e = rw (eq-eqb flag 1 e) refl
-
-pub flag-clear : (flag offset : ℕ) → (flag ≡ 1 → ⊥) → places.Nowhere ≡ place_from flag offset
-unfolding place_from
-flag-clear flag offset e = rw (ne_eqb flag 1 e) refl
-
-nothing-short : (numbers : List ℕ) → thing_from (get_or numbers 3 0) ≡ none → needs.Nothing ≡ need_from numbers
-unfolding need_from short_from
-nothing-short numbers e = rw e refl
-
-pub short-of-none : (numbers : List ℕ) → get_or numbers 3 0 ≡ 0 → needs.Nothing ≡ need_from numbers
-short-of-none numbers e = nothing-short numbers (no-thing (get_or numbers 3 0) (λ h. omega arith))
-
-pub short-of-no-thing : (numbers : List ℕ) → 4 < get_or numbers 3 0 → needs.Nothing ≡ need_from numbers
-short-of-no-thing numbers h = nothing-short numbers (no-thing (get_or numbers 3 0) (λ _. h))
-
-pub short-of : (numbers : List ℕ) (thing : Thing) → some thing ≡ thing_from (get_or numbers 3 0)
-    → needs.Short (record { needed = get_or numbers 4 0; allowed = get_or numbers 6 0; thing = thing; more = eqb (get_or numbers 5 0) 1 })
-    ≡ need_from numbers
-unfolding need_from short_from
-short-of numbers thing e = rw (sym e) refl
-
--- ---- the line of numbers
-
-nothing-told : (numbers : List ℕ) (there : ℕ × List ℕ) → refusal_from (get_or numbers 0 0) ≡ none → there ≡ put (text_of numbers) there
-unfolding text_of line_of telling_from told_of put
-nothing-told numbers there e = rw e refl
-
-pub told-of-none : (numbers : List ℕ) (there : ℕ × List ℕ) → get_or numbers 0 0 ≡ 0 → there ≡ put (text_of numbers) there
-told-of-none numbers there e = nothing-told numbers there (no-refusal (get_or numbers 0 0) (λ h. omega arith))
-
-pub told-of-no-refusal : (numbers : List ℕ) (there : ℕ × List ℕ) → 14 < get_or numbers 0 0 → there ≡ put (text_of numbers) there
-told-of-no-refusal numbers there h = nothing-told numbers there (no-refusal (get_or numbers 0 0) (λ _. h))
-
-pub told_of_lem : (numbers : List ℕ) (refusal : Refusal) (place : Place) (need : Need) (before after : ℕ × List ℕ)
-    → some refusal ≡ refusal_from (get_or numbers 0 0) → place ≡ place_from (get_or numbers 1 0) (get_or numbers 2 0) → need ≡ need_from numbers
-    → after ≡ put (refusal_text (record { refusal = refusal; place = place; need = need })) before
-    → after ≡ put (text_of numbers) before
-unfolding text_of line_of telling_from told_of
-told_of_lem numbers refusal place need before after e f g h = rw (sym e) (rw (f, g) at h)
+-- nor is one that is none of 1 to 4 a thing's
+pub no-thing_left : (n : ℕ) → (n ≡ 1 → ⊥) → (n ≡ 2 → ⊥) → (n ≡ 3 → ⊥) → (n ≡ 4 → ⊥) → None ≡ thing_from n
+no-thing_left n h1 h2 h3 h4 =
+    sym (no-thing n (λ low. let past : 5 ≤ n = above (above (above (above low h1) h2) h3) h4 in omega (arith, past)))
 
 -- ---- there and back
 
@@ -209,21 +143,21 @@ flag-back true = refl
 flag-back false = refl
 
 -- the need comes back, whatever the numbers before it are
-need-back : (a b c : ℕ) (need : Need) → need_from (a ∷ b ∷ c ∷ need_numbers need) ≡ need
+need-back : (a b c : ℕ) (need : Option Shortage) → need_from (a ∷ b ∷ c ∷ need_numbers need) ≡ need
 unfolding need_from need_numbers short_from thing_from having thing_number
-need-back a b c needs.Nothing = refl
-need-back a b c (needs.Short short) = rw (thing-back short.thing, flag-back short.more) refl
+need-back a b c None = refl
+need-back a b c (Some short) = rw (thing-back short.thing, flag-back short.more) refl
 
 -- so does all that is told of a refusal
-told_back : (refusal : Refusal) (place : Place) (need : Need)
-    → told_of (some refusal) (number_of refusal ∷ (place_numbers place ++ need_numbers need))
-    ≡ some (record { refusal = refusal; place = place; need = need })
+told_back : (refusal : Refusal) (place : Option ℕ) (need : Option Shortage)
+    → told_of (Some refusal) (number_of refusal ∷ (place_numbers place ++ need_numbers need))
+    ≡ Some (record { refusal = refusal; place = place; need = need })
 unfolding told_of place_numbers place_from
-told_back refusal places.Nowhere need = rw (need-back (number_of refusal) 0 0 need) refl
-told_back refusal (places.At offset) need = rw (need-back (number_of refusal) 1 offset need) refl
+told_back refusal None need = rw (need-back (number_of refusal) 0 0 need) refl
+told_back refusal (Some offset) need = rw (need-back (number_of refusal) 1 offset need) refl
 
 -- rule 5.11: what is told comes back from its seven numbers as it was
-pub telling-back : (telling : Telling) → telling_from (numbers_of telling) ≡ some telling
+pub telling-back : (telling : Telling) → telling_from (numbers_of telling) ≡ Some telling
 unfolding telling_from numbers_of
 telling-back telling = rw (refusal-back telling.refusal) (told_back telling.refusal telling.place telling.need)
 

@@ -1,33 +1,32 @@
 -- Worked examples of the lines, computed: each refusal's, with what is told of it and without.
+use Rattle.std.specs.Prelude.{Option, Some, None}
 use Rattle.std.specs.Prelude.{◌≡◌, refl, Bool, true, false, List, [], ◌∷◌, ℕ}
 use Rattle.text.specs.Text.{digits, decimal, words}
 use Rattle.frame.specs.declared.Refusal.{Refusal}
 use Rattle.frame.specs.declared.Refusal.TheVariants as refusals
 use Rattle.frame.specs.Numbers.{number_of}
+use Rattle.words.specs.declared.Shortage.{Shortage}
 use Rattle.words.specs.declared.Thing.{Thing}
 use Rattle.words.specs.declared.Thing.TheVariants as things
-use Rattle.words.specs.declared.Need.{Need}
-use Rattle.words.specs.declared.Need.TheVariants as needs
-use Rattle.words.specs.declared.Place.TheVariants as places
 use Rattle.words.specs.declared.Telling.{Telling}
 use Rattle.words.specs.Words.{place_text, amount_text, needed_text, limit_text, plain_sentence, sentence, refusal_text}
 use Rattle.words.specs.Memory.{thing_number, place_numbers, need_numbers, numbers_of, having, refusal_from, thing_from, place_from, short_from, need_from, told_of, telling_from, line_of, text_of}
 
 -- only the refusal is told
 unfoldable pub bare : Refusal → Telling
-bare refusal = record { refusal = refusal; place = places.Nowhere; need = needs.Nothing }
+bare refusal = record { refusal = refusal; place = None; need = None }
 
 -- the place is told too
 unfoldable pub placed : Refusal → ℕ → Telling
-placed refusal offset = record { refusal = refusal; place = places.At offset; need = needs.Nothing }
+placed refusal offset = record { refusal = refusal; place = Some offset; need = None }
 
 -- so much of a thing, or more than that, where so much is allowed
-unfoldable pub short : Thing → Bool → ℕ → ℕ → Need
-short thing more needed allowed = needs.Short (record { needed = needed; allowed = allowed; thing = thing; more = more })
+unfoldable pub short : Thing → Bool → ℕ → ℕ → Option Shortage
+short thing more needed allowed = Some (record { needed = needed; allowed = allowed; thing = thing; more = more })
 
 -- place and need are told
-unfoldable pub whole : Refusal → ℕ → Need → Telling
-whole refusal offset need = record { refusal = refusal; place = places.At offset; need = need }
+unfoldable pub whole : Refusal → ℕ → Option Shortage → Telling
+whole refusal offset need = record { refusal = refusal; place = Some offset; need = need }
 
 -- the lines of all that is told
 unfoldable pub lines : List Telling → List (List ℕ)

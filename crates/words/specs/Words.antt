@@ -1,5 +1,6 @@
 -- What is said of a refusal in words (docs/RULES.md, rule 5.11): its number, where it was, and one sentence. There is a line for anything that
 -- a telling says.
+use Rattle.std.specs.Prelude.{Option, Some, None}
 use Rattle.std.specs.Prelude.{ℕ, Bool, true, false, cond, List, [], ◌++◌, eqb}
 use Rattle.text.specs.Text.{decimal, words}
 use Rattle.frame.specs.declared.Refusal.{Refusal}
@@ -8,16 +9,12 @@ use Rattle.frame.specs.Numbers.{number_of}
 use Rattle.words.specs.declared.Thing.{Thing}
 use Rattle.words.specs.declared.Thing.TheVariants as things
 use Rattle.words.specs.declared.Shortage.{Shortage}
-use Rattle.words.specs.declared.Need.{Need}
-use Rattle.words.specs.declared.Need.TheVariants as needs
-use Rattle.words.specs.declared.Place.{Place}
-use Rattle.words.specs.declared.Place.TheVariants as places
 use Rattle.words.specs.declared.Telling.{Telling}
 
 -- where the refused byte is, if that is told
-unfoldable pub place_text : Place → List ℕ
-place_text places.Nowhere = []
-place_text (places.At offset) = words " at byte " ++ decimal offset
+unfoldable pub place_text : Option ℕ → List ℕ
+place_text None = []
+place_text (Some offset) = words " at byte " ++ decimal offset
 
 -- a number, or more than it
 unfoldable pub amount_text : ℕ → Bool → List ℕ
@@ -54,9 +51,9 @@ plain_sentence refusals.Allowance = words "the allowance is below six times the 
 plain_sentence refusals.Buffer = words "the buffer is shorter than the picture"
 
 -- rule 5.11: a refusal's sentence: where a need is told, it says that
-unfoldable pub sentence : Refusal → Need → List ℕ
-sentence refusal needs.Nothing = plain_sentence refusal
-sentence refusal (needs.Short short) = needed_text short.thing short.needed short.more ++ limit_text refusal short.allowed
+unfoldable pub sentence : Refusal → Option Shortage → List ℕ
+sentence refusal None = plain_sentence refusal
+sentence refusal (Some short) = needed_text short.thing short.needed short.more ++ limit_text refusal short.allowed
 
 -- rule 5.11: the line of a refusal
 unfoldable pub refusal_text : Telling → List ℕ

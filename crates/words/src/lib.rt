@@ -6,10 +6,11 @@ pub mod memory;
 
 ghost use Rattle.std.specs.Prelude.{◌≡◌};
 ghost use Rattle.text.specs.Text.{put};
+ghost use Rattle.text.specs.Stand.{there};
 ghost use Rattle.words.specs.Words.{place_text, amount_text, needed_text, limit_text, plain_sentence, sentence, refusal_text};
 
 use frame::Refusal;
-use text::{put_decimal, put_words};
+use text::Cursor;
 
 // What a refusal ran short of.
 #[derive(Clone, Copy)]
@@ -29,142 +30,132 @@ pub struct Shortage {
     pub more: bool,
 }
 
-// What was needed, where that is told.
-#[derive(Clone, Copy)]
-pub enum Need {
-    Nothing,
-    Short(Shortage),
-}
-
-// The offset of the refused byte in what was given, or none.
-#[derive(Clone, Copy)]
-pub enum Place {
-    Nowhere,
-    At(usize),
-}
-
-// What is told of a refusal.
+// What is told of a refusal: where it is told, the offset of the refused byte in what was given, and what was needed.
 #[derive(Clone, Copy)]
 pub struct Telling {
     pub refusal: Refusal,
-    pub place: Place,
-    pub need: Need,
+    pub place: Option<usize>,
+    pub need: Option<Shortage>,
 }
 
-fn put_place(out: &mut [u8], at: usize, place: Place) -> usize
-    ensures { (result, out.new) ≡ put (place_text place) (at, out.old) }
+#[tactic(auto, using(text::proofs::Laws::put_then), unfolding(crate::specs::Words::place_text, text::specs::Text::put, text::specs::Text::words))]
+fn put_place(to: &mut Cursor<'_>, place: Option<usize>)
+    ensures buffer { to.new.out.ghost_name ≡ to.old.out.ghost_name }
+    ensures text { there to.new ≡ put (place_text place) (there to.old) }
 {
-    match place {
-        Place::Nowhere => at,
-        Place::At(offset) => {
-            let digits = put_words(out, at, b" at byte ");
-            put_decimal(out, digits, offset as u64)
-        }
+    if let Some(offset) = place {
+        to.put_words(b" at byte ");
+        to.put_decimal(offset as u64);
     }
 }
 
-fn put_amount(out: &mut [u8], at: usize, n: u64, more: bool) -> usize
-    ensures { (result, out.new) ≡ put (amount_text n more) (at, out.old) }
+fn put_amount(to: &mut Cursor<'_>, n: u64, more: bool)
+    ensures buffer { to.new.out.ghost_name ≡ to.old.out.ghost_name }
+    ensures text { there to.new ≡ put (amount_text n more) (there to.old) }
 {
     if more {
-        let digits = put_words(out, at, b"more than ");
-        return put_decimal(out, digits, n);
+        to.put_words(b"more than ");
     }
-    put_decimal(out, at, n)
+    to.put_decimal(n);
 }
 
-fn put_needed(out: &mut [u8], at: usize, thing: Thing, n: u64, more: bool) -> usize
-    ensures { (result, out.new) ≡ put (needed_text thing n more) (at, out.old) }
+fn put_needed(to: &mut Cursor<'_>, thing: Thing, n: u64, more: bool)
+    ensures buffer { to.new.out.ghost_name ≡ to.old.out.ghost_name }
+    ensures text { there to.new ≡ put (needed_text thing n more) (there to.old) }
 {
     match thing {
         Thing::Repeats => {
-            let amount = put_words(out, at, b"a repeat of ");
-            put_amount(out, amount, n, more)
+            to.put_words(b"a repeat of ");
+            put_amount(to, n, more);
         }
         Thing::Columns => {
-            let unit = put_amount(out, at, n, more);
-            put_words(out, unit, b" columns are needed")
+            put_amount(to, n, more);
+            to.put_words(b" columns are needed");
         }
         Thing::Rows => {
-            let unit = put_amount(out, at, n, more);
-            put_words(out, unit, b" rows are needed")
+            put_amount(to, n, more);
+            to.put_words(b" rows are needed");
         }
         Thing::Pixels => {
-            let unit = put_amount(out, at, n, more);
-            put_words(out, unit, b" pixels are needed")
+            put_amount(to, n, more);
+            to.put_words(b" pixels are needed");
         }
     }
 }
 
-fn put_limit(out: &mut [u8], at: usize, refusal: Refusal, n: u64) -> usize
-    ensures { (result, out.new) ≡ put (limit_text refusal n) (at, out.old) }
+#[tactic(auto, using(crate::proofs::WordLaws::canvas_has, crate::proofs::WordLaws::allowed), unfolding(text::specs::Text::words))]
+fn put_limit(to: &mut Cursor<'_>, refusal: Refusal, n: u64)
+    ensures buffer { to.new.out.ghost_name ≡ to.old.out.ghost_name }
+    ensures text { there to.new ≡ put (limit_text refusal n) (there to.old) }
 {
-    if frame::number(refusal) == 7 {
-        let there = put_words(out, at, b", the canvas has ");
-        return put_decimal(out, there, n);
+    match refusal {
+        Refusal::Room => {
+            to.put_words(b", the canvas has ");
+            to.put_decimal(n);
+        }
+        _ => {
+            to.put_words(b", ");
+            to.put_decimal(n);
+            to.put_words(b" allowed");
+        }
     }
-    let digits = put_words(out, at, b", ");
-    let end = put_decimal(out, digits, n);
-    put_words(out, end, b" allowed")
 }
 
 // The sentence of a refusal of which no need is told.
-fn put_plain(out: &mut [u8], at: usize, refusal: Refusal) -> usize
-    ensures { (result, out.new) ≡ put (plain_sentence refusal) (at, out.old) }
+#[tactic(auto, unfolding(crate::specs::Words::plain_sentence, text::specs::Text::words))]
+fn put_plain(to: &mut Cursor<'_>, refusal: Refusal)
+    ensures buffer { to.new.out.ghost_name ≡ to.old.out.ghost_name }
+    ensures text { there to.new ≡ put (plain_sentence refusal) (there to.old) }
 {
     match refusal {
-        Refusal::Introducer => put_words(out, at, b"no DCS introducer"),
-        Refusal::HeaderEnded => put_words(out, at, b"the header is cut off before its q"),
-        Refusal::HeaderByte => put_words(out, at, b"a byte that no header has"),
-        Refusal::Repeat => put_words(out, at, b"a repeat above the limit"),
-        Refusal::Size => put_words(out, at, b"a width or height above the limit"),
-        Refusal::Pixels => put_words(out, at, b"more pixels than the limit"),
-        Refusal::Room => put_words(out, at, b"a size above the canvas"),
-        Refusal::Unfinished => put_words(out, at, b"the sequence has not come to its end"),
-        Refusal::Failed => put_words(out, at, b"the session was refused before, or there is none"),
-        Refusal::FinalSize => put_words(out, at, b"retired, nothing gives this number"),
-        Refusal::Opening => put_words(
-            out,
-            at,
+        Refusal::Introducer => to.put_words(b"no DCS introducer"),
+        Refusal::HeaderEnded => to.put_words(b"the header is cut off before its q"),
+        Refusal::HeaderByte => to.put_words(b"a byte that no header has"),
+        Refusal::Repeat => to.put_words(b"a repeat above the limit"),
+        Refusal::Size => to.put_words(b"a width or height above the limit"),
+        Refusal::Pixels => to.put_words(b"more pixels than the limit"),
+        Refusal::Room => to.put_words(b"a size above the canvas"),
+        Refusal::Unfinished => to.put_words(b"the sequence has not come to its end"),
+        Refusal::Failed => to.put_words(b"the session was refused before, or there is none"),
+        Refusal::FinalSize => to.put_words(b"retired, nothing gives this number"),
+        Refusal::Opening => to.put_words(
             b"a limit or the stride is out of range, or the canvas has no whole row",
         ),
-        Refusal::Canvas => put_words(
-            out,
-            at,
-            b"not the canvas of the opening, or no such picture on it",
-        ),
-        Refusal::Allowance => put_words(
-            out,
-            at,
-            b"the allowance is below six times the width limit",
-        ),
-        Refusal::Buffer => put_words(out, at, b"the buffer is shorter than the picture"),
+        Refusal::Canvas => to.put_words(b"not the canvas of the opening, or no such picture on it"),
+        Refusal::Allowance => to.put_words(b"the allowance is below six times the width limit"),
+        Refusal::Buffer => to.put_words(b"the buffer is shorter than the picture"),
     }
 }
 
-fn put_sentence(out: &mut [u8], at: usize, refusal: Refusal, need: Need) -> usize
-    ensures { (result, out.new) ≡ put (sentence refusal need) (at, out.old) }
+#[tactic(auto, using(text::proofs::Laws::put_then), unfolding(crate::specs::Words::sentence))]
+fn put_sentence(to: &mut Cursor<'_>, refusal: Refusal, need: Option<Shortage>)
+    ensures buffer { to.new.out.ghost_name ≡ to.old.out.ghost_name }
+    ensures text { there to.new ≡ put (sentence refusal need) (there to.old) }
 {
     match need {
-        Need::Nothing => put_plain(out, at, refusal),
-        Need::Short(short) => {
-            let thing = short.thing;
-            let limit = put_needed(out, at, thing, short.needed, short.more);
-            put_limit(out, limit, refusal, short.allowed)
+        None => put_plain(to, refusal),
+        Some(short) => {
+            put_needed(to, short.thing, short.needed, short.more);
+            put_limit(to, refusal, short.allowed);
         }
     }
 }
 
 // Writes the line of a refusal, without a newline, and answers where the cursor stands then (rule 5.11).
+#[tactic(auto, using(crate::proofs::WordLaws::refusal_put), unfolding(text::specs::Text::words))]
 pub fn put_refusal(out: &mut [u8], at: usize, telling: Telling) -> usize
     ensures { (result, out.new) ≡ put (refusal_text telling) (at, out.old) }
 {
-    let refusal = telling.refusal;
-    let place = telling.place;
-    let need = telling.need;
-    let digits = put_words(out, at, b"refused ");
-    let number = put_decimal(out, digits, frame::number(refusal) as u64);
-    let colon = put_place(out, number, place);
-    let start = put_words(out, colon, b": ");
-    put_sentence(out, start, refusal, need)
+    let Telling {
+        refusal,
+        place,
+        need,
+    } = telling;
+    let mut to = Cursor { out, at };
+    to.put_words(b"refused ");
+    to.put_decimal(frame::number(refusal) as u64);
+    put_place(&mut to, place);
+    to.put_words(b": ");
+    put_sentence(&mut to, refusal, need);
+    to.at
 }

@@ -1,13 +1,9 @@
 -- `answers::with_bytes` meets its contract. The loop's invariant: the checksum so far, with the bytes that are left, is the whole one.
 -- Assumes nothing.
 use mathlib.Core.Path.{◌≡◌}
-use Prim.Native.Nat.{◌≤◌, ◌-◌}
-use lib.ListN.{length, drop}
+use lib.ListN.{drop}
 use Rattle.answers.specs.Adler.{with_bytes}
 use Rattle.answers.proofs.with_bytes.Given as goal
 
-abbrev pub invariant-loop-i : goal.invariant-loop-i
-invariant-loop-i l = (l.i ≤ length l.bytes) × (with_bytes l.sum (drop l.i l.bytes) ≡ with_bytes l.start l.bytes)
-
-abbrev pub decreases-loop-i : goal.decreases-loop-i
-decreases-loop-i l = length l.bytes - l.i
+abbrev pub invariant-loop-byte : goal.invariant-loop-byte
+invariant-loop-byte l = with_bytes l.sum (drop l.byte-index l.bytes) ≡ with_bytes l.start l.bytes

@@ -1,16 +1,15 @@
--- `bins::is_colour` meets its contract, one law for each path through it. Assumes nothing.
-use Rattle.bins.proofs.Pixels.{first-differs, second-differs, third-differs, fourth-decides}
-use borrow.Author.Rules.{rules}
+-- `bins::is_colour` meets its contract: slices of four bytes are equal exactly when each byte is. Assumes nothing.
+use Rattle.std.proofs.Common.{◌≡◌, ◌+◌, ◌-◌, ◌*◌, length, arith}
+use Rattle.std.proofs.lemmas.Bool.Decides.{same_from_decides}
+use Rattle.std.proofs.lemmas.Slice.Eq.{bytes_eq-Decides}
+use Rattle.bins.specs.Bins.{pixel}
+use Rattle.bins.proofs.Pixels.{pixel-length, same-exactly}
 use Rattle.bins.proofs.is_colour.Goals as goal
 
-pub returns-then-canvas-i : goal.returns-then-canvas-i
-returns-then-canvas-i c = first-differs _ _ _ c.if-canvas-i.true
-
-pub returns-then-canvas-i-2 : goal.returns-then-canvas-i-2
-returns-then-canvas-i-2 c = second-differs _ _ _ (search rules) c.if-canvas-i-2.true
-
-pub returns-then-canvas-i-3 : goal.returns-then-canvas-i-3
-returns-then-canvas-i-3 c = third-differs _ _ _ (search rules) (search rules) c.if-canvas-i-3.true
-
 pub returns : goal.returns
-returns c = fourth-decides _ _ _ (search rules) (search rules) (search rules)
+unfolding pixel
+returns c =
+    let a = c.args in
+    let four : 4 * a.p + 4 - 4 * a.p ≡ 4 = omega arith in
+    let of-colour : length a.colour ≡ 4 = omega arith in
+    same_from_decides _ _ (rw c.eq.ensures (rw four (bytes_eq-Decides _ _))) (same-exactly _ _ (pixel-length a.canvas.now a.p c.requires) of-colour)

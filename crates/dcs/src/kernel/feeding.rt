@@ -7,45 +7,36 @@ ghost use Rattle.dcs.specs.Core.{over, fed_over};
 ghost use Rattle.dcs.specs.Session.{session_of, within, before, over_told, escaped_told, closed_told, count_of, passed_told, told_of, fed_payload, fed_lead, fed_in, fed_by};
 
 use crate::kernel::Core;
-use crate::{Answer, Ending, Phase};
-use frame::Frame;
+use crate::{Ending, Phase};
+use frame::{Frame, Refusal};
 use header::{Led, Place, read_lead, settings_from};
 use numbers::Parameters;
 use payload::kernel::Setup;
 use payload::kernel::feeding::feed_passed;
 use payload::kernel::opening::blank_frame;
-use payload::refusals::{Verdict, feed_refusal};
-use payload::{Life, deferred};
+use payload::refusals::feed_refusal;
+use payload::{Answer, Fed, Life, deferred};
 use reading::renew::renewed;
-
-// A call's answer and the session after it.
-#[derive(Clone, Copy)]
-pub struct Fed {
-    pub answer: Answer,
-    pub core: Core,
-}
 
 // What bytes alone decide: an answer, and the phase after it.
 #[derive(Clone, Copy)]
 struct Told {
-    answer: Answer,
+    answer: Result<Answer<Ending>, Refusal>,
     phase: Phase,
 }
 
 // A call's answer, and its session in the phase after it.
-fn tell(setup: Setup, life: Life, frame: Frame, header: Parameters, told: Told) -> Fed
+fn tell(setup: Setup, life: Life, frame: Frame, header: Parameters, told: Told) -> Fed<Core, Ending>
     ensures { (p : Palette) → fed_over result p ≡ told_of (payload.over setup life frame p) header told }
 {
-    let answer = told.answer;
-    let phase = told.phase;
     Fed {
-        answer,
-        core: Core {
+        answer: told.answer,
+        session: Core {
             setup,
             life,
             frame,
             header,
-            phase,
+            phase: told.phase,
         },
     }
 }
@@ -55,11 +46,11 @@ fn end(consumed: usize, ink: usize, ending: Ending) -> Told
     ensures { result ≡ over_told consumed ink ending }
 {
     Told {
-        answer: Answer::Ended {
+        answer: Ok(Answer::Ended {
             consumed,
             ink,
-            ending,
-        },
+            end: ending,
+        }),
         phase: Phase::Over(ending),
     }
 }
@@ -70,7 +61,7 @@ fn escape(bytes: &[u8], at: usize, ink: usize) -> Told
 {
     if bytes.len() <= at {
         return Told {
-            answer: Answer::More { consumed: at, ink },
+            answer: Ok(Answer::More { consumed: at, ink }),
             phase: Phase::Escaped,
         };
     }
@@ -86,7 +77,7 @@ fn close(bytes: &[u8], at: usize, ink: usize) -> Told
 {
     if bytes.len() <= at {
         return Told {
-            answer: Answer::More { consumed: at, ink },
+            answer: Ok(Answer::More { consumed: at, ink }),
             phase: Phase::Within,
         };
     }
@@ -108,32 +99,34 @@ fn close(bytes: &[u8], at: usize, ink: usize) -> Told
 }
 
 // What a payload session's call came to, with `from` bytes before it.
-fn pass_on(answer: payload::Answer, bytes: &[u8], from: usize) -> Told
+fn pass_on(answer: Result<Answer<u8>, Refusal>, bytes: &[u8], from: usize) -> Told
     requires { from + count_of answer ≤ length bytes.now }
     ensures { result ≡ passed_told answer (drop from bytes.now) from }
 {
     match answer {
-        payload::Answer::More { consumed, ink } => Told {
-            answer: Answer::More {
+        Ok(Answer::More { consumed, ink }) => Told {
+            answer: Ok(Answer::More {
                 consumed: from + consumed,
                 ink,
-            },
+            }),
             phase: Phase::Within,
         },
-        payload::Answer::Stopped { consumed, ink } => Told {
-            answer: Answer::Stopped {
+        Ok(Answer::Stopped { consumed, ink }) => Told {
+            answer: Ok(Answer::Stopped {
                 consumed: from + consumed,
                 ink,
-            },
+            }),
             phase: Phase::Within,
         },
-        payload::Answer::Ended {
-            consumed,
-            ink,
-            byte: _,
-        } => close(bytes, from + consumed, ink),
-        payload::Answer::Refused(refusal) => Told {
-            answer: Answer::Refused(refusal),
+        Ok(
+            Answer::Ended {
+                consumed,
+                ink,
+                end: _,
+            },
+        ) => close(bytes, from + consumed, ink),
+        Err(refusal) => Told {
+            answer: Err(refusal),
             phase: Phase::Within,
         },
     }
@@ -149,18 +142,22 @@ fn feed_within(
     canvas: &mut [u8],
     bytes: &[u8],
     allowance: usize,
-) -> Fed
+) -> Fed<Core, Ending>
     requires { payload.Passed setup life frame (length canvas.old) allowance }
     ensures { (fed_over result (of_table colors.new), canvas.new) ≡ fed_payload
         (within (payload.over setup life frame (of_table colors.old)) header) canvas.old bytes.now 0 allowance }
 {
     let call = feed_passed(setup, life, frame, colors, canvas, bytes, allowance);
-    let answer = call.answer;
-    let after = call.life;
     // Made anew: it has just been written number by number, and a processor that copies it whole waits for that. A call with one byte
     // feels it.
     let anew = renewed(call.frame);
-    tell(setup, after, anew, header, pass_on(answer, bytes, 0))
+    tell(
+        setup,
+        call.life,
+        anew,
+        header,
+        pass_on(call.answer, bytes, 0),
+    )
 }
 
 // The payload begins, with `from` bytes consumed.
@@ -174,29 +171,27 @@ fn feed_begun(
     bytes: &[u8],
     from: usize,
     allowance: usize,
-) -> Fed
+) -> Fed<Core, Ending>
     requires { from ≤ length bytes.now }
     ensures { (fed_over result (of_table colors.new), canvas.new) ≡ fed_payload
         (within (payload.over setup life frame (of_table colors.old)) header) canvas.old (drop from bytes.now) from allowance }
 {
     let verdict = feed_refusal(setup, life, frame, canvas.len(), allowance);
-    if let Verdict::Refused(refusal) = verdict {
+    if let Err(refusal) = verdict {
         let told = Told {
-            answer: Answer::Refused(refusal),
+            answer: Err(refusal),
             phase: Phase::Within,
         };
         return tell(setup, life, frame, header, told);
     }
     let part = &bytes[from..];
     let call = feed_passed(setup, life, frame, colors, canvas, part, allowance);
-    let answer = call.answer;
-    let after = call.life;
     tell(
         setup,
-        after,
+        call.life,
         call.frame,
         header,
-        pass_on(answer, bytes, from),
+        pass_on(call.answer, bytes, from),
     )
 }
 
@@ -211,7 +206,7 @@ fn feed_lead(
     canvas: &mut [u8],
     bytes: &[u8],
     allowance: usize,
-) -> Fed
+) -> Fed<Core, Ending>
     ensures { (fed_over result (of_table colors.new), canvas.new) ≡ fed_lead
         (before (payload.over setup life frame (of_table colors.old)) header place) place canvas.old bytes.now allowance }
 {
@@ -219,25 +214,24 @@ fn feed_lead(
     let values = lead.header;
     let consumed = lead.consumed;
     let here = lead.place;
-    let led = lead.led;
-    match led {
-        Led::On => {
+    match lead.led {
+        Ok(Led::On) => {
             let told = Told {
-                answer: Answer::More { consumed, ink: 0 },
+                answer: Ok(Answer::More { consumed, ink: 0 }),
                 phase: Phase::Before(here),
             };
             tell(setup, life, frame, values, told)
         }
-        Led::Begins => {
+        Ok(Led::Begins) => {
             let begun = deferred::start(setup, settings_from(values), colors, canvas);
             let blank = blank_frame(colors);
             feed_begun(
                 begun, life, blank, values, colors, canvas, bytes, consumed, allowance,
             )
         }
-        Led::Refused(refusal) => {
+        Err(refusal) => {
             let told = Told {
-                answer: Answer::Refused(refusal),
+                answer: Err(refusal),
                 phase: Phase::Before(here),
             };
             tell(setup, Life::Failed, frame, values, told)
@@ -256,7 +250,7 @@ fn feed_in(
     canvas: &mut [u8],
     bytes: &[u8],
     allowance: usize,
-) -> Fed
+) -> Fed<Core, Ending>
     requires { payload.Passed setup life frame (length canvas.old) allowance }
     ensures { (fed_over result (of_table colors.new), canvas.new) ≡ fed_in phase
         (session_of (payload.over setup life frame (of_table colors.old)) header phase) canvas.old bytes.now allowance }
@@ -280,21 +274,20 @@ pub fn feed(
     canvas: &mut [u8],
     bytes: &[u8],
     allowance: usize,
-) -> Fed
+) -> Fed<Core, Ending>
     ensures { (fed_over result (of_table colors.new), canvas.new)
         ≡ fed_by (over core (of_table colors.old)) canvas.old bytes.now allowance }
 {
     let life = core.life;
     let verdict = feed_refusal(core.setup, life, core.frame, canvas.len(), allowance);
-    if let Verdict::Refused(refusal) = verdict {
+    if let Err(refusal) = verdict {
         return Fed {
-            answer: Answer::Refused(refusal),
-            core,
+            answer: Err(refusal),
+            session: core,
         };
     }
-    let phase = core.phase;
     feed_in(
-        phase,
+        core.phase,
         core.setup,
         life,
         core.frame,

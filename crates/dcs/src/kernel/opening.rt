@@ -9,32 +9,21 @@ use crate::kernel::Core;
 use frame::Limits;
 use header::Place;
 use numbers::Parameters;
-use payload::deferred;
-
-// An opening's answer and the session, which is a failed one where the opening is refused.
-#[derive(Clone, Copy)]
-pub struct Opened {
-    pub answer: payload::Opening,
-    pub core: Core,
-}
+use payload::{Opened, deferred};
 
 // Opens a session for a canvas of `length` bytes and `stride` pixels a row, with the registers that it is to start from. Nothing is
 // written before `q`.
-pub fn open(limits: Limits, stride: usize, colors: &[u32; 256], length: usize) -> Opened
+pub fn open(limits: Limits, stride: usize, colors: &[u32; 256], length: usize) -> Opened<Core>
     ensures { opened_over result (of_table colors.now) ≡ opened_on limits stride (of_table colors.now) length }
 {
     let opened = deferred::reserve(limits, stride, colors, length);
-    let answer = opened.answer;
-    let setup = opened.setup;
-    let life = opened.life;
-    let frame = opened.frame;
     let header = Parameters::new(3);
     Opened {
-        answer,
-        core: Core {
-            setup,
-            life,
-            frame,
+        answer: opened.answer,
+        session: Core {
+            setup: opened.setup,
+            life: opened.life,
+            frame: opened.frame,
             header,
             phase: Phase::Before(Place::Start),
         },

@@ -7,8 +7,8 @@ pub put_rows-requires : goal.put_rows-requires
 put_rows-requires c =
     picture-fits c.args.canvas.now _ _ _ _ c.has_picture.ensures c.if-has_picture.true
 
-pub returns-then-has_picture : goal.returns-then-has_picture
-returns-then-has_picture c = search (rules, picture-there)
+pub returns-then-has_picture-clause-text : goal.returns-then-has_picture-clause-text
+returns-then-has_picture-clause-text c = search (rules, picture-there)
 
-pub returns : goal.returns
-returns c = search (rules, picture-missing)
+pub returns-else-has_picture-clause-text : goal.returns-else-has_picture-clause-text
+returns-else-has_picture-clause-text c = search (rules, picture-missing)

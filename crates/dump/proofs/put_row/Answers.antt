@@ -10,5 +10,5 @@ loop-x-init c = (refl, refl, omega arith, omega arith)
 pub loop-x-preserved : goal.loop-x-preserved
 loop-x-preserved c = search (rules, pixel-more)
 
-pub returns : goal.returns
-returns c = search (rules, row_put)
+pub returns-clause-text : goal.returns-clause-text
+returns-clause-text c = search (rules, row_put)

@@ -2,14 +2,14 @@
 -- Assumes nothing.
 use mathlib.Core.Path.{◌≡◌}
 use Prim.Native.Nat.{◌+◌, ◌-◌, ◌≤◌}
-use lib.ListN.{length}
 use Rattle.text.specs.Text.{put}
+use Rattle.text.specs.Stand.{there}
 use Rattle.dump.specs.Dump.{further_text}
 use Rattle.dump.proofs.put_row.Given as goal
 
 abbrev pub invariant-loop-x : goal.invariant-loop-x
 invariant-loop-x l =
-    (put (further_text l.canvas (l.p + l.x) (l.width - l.x)) (l.place, l.out) ≡ put (further_text l.canvas (l.p + 1) (l.width - 1)) (l.initial.place, l.initial.out))
-    × (length l.out ≡ length l.initial.out)
+    (put (further_text l.canvas (l.p + l.x) (l.width - l.x)) (there l.to) ≡ put (further_text l.canvas (l.p + 1) (l.width - 1)) (there l.initial.to))
+    × (l.to.out.ghost_name ≡ l.initial.to.out.ghost_name)
     × (l.x ≤ l.width)
     × (1 ≤ l.x)

@@ -22,19 +22,16 @@ loop-y-init c = (rw (sub-zero c.args.height), refl, omega arith)
 pub overflow_mul-y : goal.overflow_mul-y
 overflow_mul-y c = omega (arith, room (goal.at.overflow_mul-y c).In-loop-y)
 
-pub put_row-place-requires : goal.put_row-place-requires
-put_row-place-requires c = (omega arith, room (goal.at.put_row-place-requires c).In-loop-y)
+pub put_row-requires : goal.put_row-requires
+put_row-requires c = (omega arith, room (goal.at.put_row-requires c).In-loop-y)
 
 pub loop-y-preserved : goal.loop-y-preserved
 loop-y-preserved c =
     let now-at = c.loop-y in (
-      row_more _ _ _ _ now-at.y _ _ _ (omega arith) c.put_row-place.ensures now-at.invariant.0,
-      c.put_row-place.auto.out ∙ now-at.invariant.1,
+      row_more _ _ _ _ now-at.y _ _ _ (omega arith) c.put_row.ensures.text now-at.invariant.0,
+      c.put_row.ensures.buffer ∙ now-at.invariant.1,
       omega arith,
     )
 
-pub shape_of-out : goal.shape_of-out
-shape_of-out c = c.loop-y.invariant.1
-
-pub returns : goal.returns
-returns c = search (rules, rows-done)
+pub returns-clause-text : goal.returns-clause-text
+returns-clause-text c = search (rules, rows-done)

@@ -1,6 +1,6 @@
 -- `header::read_lead` meets its contract. The loop's invariant: from the place and the values that it has come to, the bytes that are
--- left lead to where all bytes lead; and it ends since fewer are left each time.
-use Prim.Native.Nat.{◌-◌}
+-- left lead to where all bytes lead.
+use Prim.Native.Nat.{max, ◌≤◌}
 use lib.ListN.{length, drop}
 use Rattle.header.proofs.LeadLaws.{Going}
 use Rattle.header.specs.Lead.{lead_from}
@@ -9,6 +9,4 @@ use Rattle.header.proofs.read_lead.Given as goal
 abbrev pub invariant-loop-consumed : goal.invariant-loop-consumed
 invariant-loop-consumed l =
     Going l.bytes (lead_from (drop l.from l.bytes) l.from l.initial.here l.initial.values) l.here l.values l.consumed
-
-abbrev pub decreases-loop-consumed : goal.decreases-loop-consumed
-decreases-loop-consumed l = length l.bytes - l.consumed
+    × (l.consumed ≤ max l.from (length l.bytes))

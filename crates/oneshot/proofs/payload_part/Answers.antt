@@ -9,11 +9,11 @@ slice_bounds-result-count c = search (rules, parts)
 pub slice_bounds-result-start : goal.slice_bounds-result-start
 slice_bounds-result-start c = search (rules, parts)
 
-pub returns-in-Payload : goal.returns-in-Payload
-returns-in-Payload c = search (rules, parts)
+pub returns-in-Ok : goal.returns-in-Ok
+returns-in-Ok c = search (rules, parts)
 
-pub returns-then-may_open : goal.returns-then-may_open
-returns-then-may_open c = search (rules, parts)
+pub returns-then-not-may_open : goal.returns-then-not-may_open
+returns-then-not-may_open c = search (rules, parts)
 
-pub returns : goal.returns
-returns c = search (rules, parts)
+pub returns-in-Err : goal.returns-in-Err
+returns-in-Err c = search (rules, parts)

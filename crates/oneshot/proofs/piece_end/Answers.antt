@@ -1,13 +1,13 @@
--- `piece_end` meets its contract: one law of `pieces` for each of its three ways to end a piece.
-use Rattle.oneshot.proofs.FeedLaws.{pieces}
-use borrow.Author.Rules.{rules}
+-- `piece_end` meets its contract: to the end of all, or so many bytes on.
+use Rattle.std.proofs.Common.{arith}
+use Rattle.std.proofs.lemmas.Bool.Decides.{nat_tests}
+use Rattle.oneshot.specs.OneShot.{piece_end}
 use Rattle.oneshot.proofs.piece_end.Goals as goal
 
-pub returns-then-chunk-eq0 : goal.returns-then-chunk-eq0
-returns-then-chunk-eq0 c = search (rules, pieces)
-
 pub returns-then-length-at : goal.returns-then-length-at
-returns-then-length-at c = search (rules, pieces)
+unfolding piece_end
+returns-then-length-at c = grind (arith, nat_tests)
 
-pub returns : goal.returns
-returns c = search (rules, pieces)
+pub returns-else-length-at : goal.returns-else-length-at
+unfolding piece_end
+returns-else-length-at c = grind (arith, nat_tests)

@@ -3,12 +3,11 @@ use Rattle.std.specs.Prelude.{◌≡◌, ℕ, ◌≤◌, length}
 use native.Mathlib.Omega.{arith}
 use mir.Syntax.{w64}
 use mir.Val.{Fits}
-use Rattle.payload.specs.declared.Fed.{Fed}
-use Rattle.payload.specs.declared.Opened.{Opened}
+use Rattle.payload.specs.Results.{Fed, Opened}
 use Rattle.payload.specs.declared.Session.{Session}
 use Rattle.colours.specs.Palette.{of_table}
 use Rattle.payload.specs.Core.{over, opened_over, fed_over}
-use Rattle.oneshot.proofs.FeedLaws.{Piece, piece-end}
+use Rattle.oneshot.proofs.FeedLaws.{answered, Piece, piece-end}
 use Rattle.oneshot.proofs.ReadLaws.{opens-owned, Turn, stop-in, read-in, part-read, part-ended, part-refused, part-passes, parts-read}
 use Rattle.oneshot.proofs.read_in_pieces.Goals as goal
 use Rattle.oneshot.proofs.read_in_pieces.Goals.{After-frame-in-loop-consumed-1, After-piece_end-end}
@@ -84,22 +83,25 @@ enum_known-answer c = search (rules, parts-read)
 
 pub overflow_add-at : goal.overflow_add-at
 overflow_add-at c =
-    place-fits (goal.at.overflow_add-at c).After-frame-in-loop-consumed-1 (stop-in (turn (goal.at.overflow_add-at c).After-frame-in-loop-consumed-1) c.in-Stopped.is)
+    let k = rw c.in-Ok-Stopped.is at c.in-Ok-Stopped.field-0-is in
+    place-fits (goal.at.overflow_add-at c).After-frame-in-loop-consumed-1 (stop-in (turn (goal.at.overflow_add-at c).After-frame-in-loop-consumed-1) (answered c.in-Ok-Stopped.is k))
 
-pub loop-consumed-smaller-in-Stopped : goal.loop-consumed-smaller-in-Stopped
-loop-consumed-smaller-in-Stopped c = search (rules, parts-read, turn (goal.at.loop-consumed-smaller-in-Stopped c).After-frame-in-loop-consumed-1)
+pub loop-consumed-smaller-in-Ok-Stopped : goal.loop-consumed-smaller-in-Ok-Stopped
+loop-consumed-smaller-in-Ok-Stopped c =
+    let k = rw c.in-Ok-Stopped.is at c.in-Ok-Stopped.field-0-is in
+    search (rules, parts-read, answered c.in-Ok-Stopped.is k, turn (goal.at.loop-consumed-smaller-in-Ok-Stopped c).After-frame-in-loop-consumed-1)
 
-pub loop-consumed-preserved-in-Stopped : goal.loop-consumed-preserved-in-Stopped
-loop-consumed-preserved-in-Stopped c = search (rules, parts-read, turn (goal.at.loop-consumed-preserved-in-Stopped c).After-frame-in-loop-consumed-1)
+pub loop-consumed-preserved-in-Ok-Stopped : goal.loop-consumed-preserved-in-Ok-Stopped
+loop-consumed-preserved-in-Ok-Stopped c =
+    let k = rw c.in-Ok-Stopped.is at c.in-Ok-Stopped.field-0-is in
+    search (rules, parts-read, answered c.in-Ok-Stopped.is k, turn (goal.at.loop-consumed-preserved-in-Ok-Stopped c).After-frame-in-loop-consumed-1)
 
 -- a piece that was all read
 
-pub enum_known-answer-in-More-1 : goal.enum_known-answer-in-More-1
-enum_known-answer-in-More-1 c = search (rules, parts-read)
-
-pub overflow_add-at-in-More : goal.overflow_add-at-in-More
-overflow_add-at-in-More c =
-    place-fits (goal.at.overflow_add-at-in-More c).After-frame-in-loop-consumed-1 (read-in (turn (goal.at.overflow_add-at-in-More c).After-frame-in-loop-consumed-1) c.in-More.is)
+pub overflow_add-at-in-Ok-More : goal.overflow_add-at-in-Ok-More
+overflow_add-at-in-Ok-More c =
+    let k = rw c.in-Ok-More.is at c.in-Ok-More.field-0-is in
+    place-fits (goal.at.overflow_add-at-in-Ok-More c).After-frame-in-loop-consumed-1 (read-in (turn (goal.at.overflow_add-at-in-Ok-More c).After-frame-in-loop-consumed-1) (answered c.in-Ok-More.is k))
 
 pub finish_for-requires : goal.finish_for-requires
 finish_for-requires c = search (rules, parts-read)
@@ -110,39 +112,37 @@ shape_of-canvas-then-at-part c =
 
 pub returns-then-at-part : goal.returns-then-at-part
 returns-then-at-part c =
-    part-read (turn (goal.at.returns-then-at-part c).After-frame-in-loop-consumed-1) c.in-More.is c.if-at-part.true c.finish_for.ensures
+    let k = rw c.in-Ok-More.is at c.in-Ok-More.field-0-is in
+    part-read (turn (goal.at.returns-then-at-part c).After-frame-in-loop-consumed-1) (answered c.in-Ok-More.is k) c.if-at-part.true c.finish_for.ensures
 
 pub loop-consumed-smaller : goal.loop-consumed-smaller
 loop-consumed-smaller c =
-    search (rules, parts-read, turn (goal.at.loop-consumed-smaller c).After-frame-in-loop-consumed-1)
+    let k = rw c.in-Ok-More.is at c.in-Ok-More.field-0-is in
+    search (rules, parts-read, answered c.in-Ok-More.is k, turn (goal.at.loop-consumed-smaller c).After-frame-in-loop-consumed-1)
 
 pub loop-consumed-preserved : goal.loop-consumed-preserved
 loop-consumed-preserved c =
-    search (rules, parts-read, turn (goal.at.loop-consumed-preserved c).After-frame-in-loop-consumed-1)
+    let k = rw c.in-Ok-More.is at c.in-Ok-More.field-0-is in
+    search (rules, parts-read, answered c.in-Ok-More.is k, turn (goal.at.loop-consumed-preserved c).After-frame-in-loop-consumed-1)
 
 -- an end
 
-pub enum_told-1 : goal.enum_told-1
-enum_told-1 c = search (rules, parts-read)
+pub finish_for-requires-in-Ok-Ended : goal.finish_for-requires-in-Ok-Ended
+finish_for-requires-in-Ok-Ended c = search (rules, parts-read)
 
-pub finish_for-requires-in-Ended : goal.finish_for-requires-in-Ended
-finish_for-requires-in-Ended c = search (rules, parts-read)
+pub shape_of-canvas-in-Ok-Ended : goal.shape_of-canvas-in-Ok-Ended
+shape_of-canvas-in-Ok-Ended c = search (rules, parts-read)
 
-pub shape_of-canvas-in-Ended : goal.shape_of-canvas-in-Ended
-shape_of-canvas-in-Ended c = search (rules, parts-read)
-
-pub returns-in-Ended : goal.returns-in-Ended
-returns-in-Ended c =
-    part-ended (turn (goal.at.returns-in-Ended c).After-frame-in-loop-consumed-1) c.in-Ended.is c.finish_for-in-Ended.ensures
+pub returns-in-Ok-Ended : goal.returns-in-Ok-Ended
+returns-in-Ok-Ended c =
+    let k = rw c.in-Ok-Ended.is at c.in-Ok-Ended.field-0-is in
+    part-ended (turn (goal.at.returns-in-Ok-Ended c).After-frame-in-loop-consumed-1) (answered c.in-Ok-Ended.is k) c.finish_for-in-Ok-Ended.ensures
 
 -- a refusal
 
-pub enum_known-answer-in-Refused-1 : goal.enum_known-answer-in-Refused-1
-enum_known-answer-in-Refused-1 c = search (rules, parts-read)
+pub shape_of-canvas-in-Err : goal.shape_of-canvas-in-Err
+shape_of-canvas-in-Err c = search (rules, parts-read)
 
-pub shape_of-canvas-in-Refused : goal.shape_of-canvas-in-Refused
-shape_of-canvas-in-Refused c = search (rules, parts-read)
-
-pub returns-in-Refused : goal.returns-in-Refused
-returns-in-Refused c =
-    part-refused (turn (goal.at.returns-in-Refused c).After-frame-in-loop-consumed-1) c.in-Refused.is
+pub returns-in-Err : goal.returns-in-Err
+returns-in-Err c =
+    part-refused (turn (goal.at.returns-in-Err c).After-frame-in-loop-consumed-1) c.in-Err.is

@@ -17,11 +17,11 @@ slice_bounds-read_in_pieces-start c = search (rules, wholes)
 pub read_in_pieces-answer-requires : goal.read_in_pieces-answer-requires
 read_in_pieces-answer-requires c = search (rules, wholes)
 
-pub returns-in-Payload : goal.returns-in-Payload
-returns-in-Payload c = (search (rules, wholes), search (rules, sizes))
+pub returns-in-Ok : goal.returns-in-Ok
+returns-in-Ok c = (search (rules, wholes), search (rules, sizes))
 
-pub returns-in-Refused : goal.returns-in-Refused
-returns-in-Refused c = turned _ _ c.turned_away.ensures (search (rules, wholes)) (search (rules, sizes))
+pub returns-in-Err : goal.returns-in-Err
+returns-in-Err c = turned _ _ c.turned_away.ensures (search (rules, wholes)) (search (rules, sizes))
 
 pub returns : goal.returns
 returns c = turned _ _ c.turned_away-2.ensures (search (rules, wholes)) (search (rules, sizes))

@@ -7,32 +7,32 @@ ghost use Rattle.payload.specs.Core.{over, fed_over, Passed};
 ghost use Rattle.payload.specs.Session.{answer_of, life_after, fed_live, fed_by};
 
 use crate::kernel::Setup;
-use crate::refusals::{Verdict, feed_refusal};
+use crate::refusals::feed_refusal;
 use crate::{Answer, Life};
-use frame::{Frame, Outcome};
+use frame::{Frame, Outcome, Refusal};
 use reading::process;
 
 // A call's answer, and the life and the frame after it.
 #[derive(Clone, Copy)]
 pub struct Fed {
-    pub answer: Answer,
+    pub answer: Result<Answer<u8>, Refusal>,
     pub life: Life,
     pub frame: Frame,
 }
 
 // What reading came to, as an answer.
-fn answer_of(outcome: Outcome, consumed: usize, ink: usize) -> Answer
+fn answer_of(outcome: Outcome, consumed: usize, ink: usize) -> Result<Answer<u8>, Refusal>
     ensures { result ≡ answer_of outcome consumed ink }
 {
     match outcome {
-        Outcome::Read => Answer::More { consumed, ink },
-        Outcome::Stopped => Answer::Stopped { consumed, ink },
-        Outcome::Ended(byte) => Answer::Ended {
+        Outcome::Read => Ok(Answer::More { consumed, ink }),
+        Outcome::Stopped => Ok(Answer::Stopped { consumed, ink }),
+        Outcome::Ended(byte) => Ok(Answer::Ended {
             consumed,
             ink,
-            byte,
-        },
-        Outcome::Refused(refusal) => Answer::Refused(refusal),
+            end: byte,
+        }),
+        Outcome::Refused(refusal) => Err(refusal),
     }
 }
 
@@ -62,12 +62,11 @@ fn feed_live(
         ≡ fed_live (over setup life frame (of_table colors.old)) canvas.old bytes.now allowance }
 {
     let progress = process(frame, setup.ground, colors, canvas, bytes, allowance);
-    let after = progress.frame;
     let outcome = progress.outcome;
     Fed {
         answer: answer_of(outcome, progress.consumed, progress.ink),
         life: life_after(outcome),
-        frame: after,
+        frame: progress.frame,
     }
 }
 
@@ -88,11 +87,11 @@ pub fn feed_passed(
 {
     if let Life::Ended(byte) = life {
         return Fed {
-            answer: Answer::Ended {
+            answer: Ok(Answer::Ended {
                 consumed: 0,
                 ink: 0,
-                byte,
-            },
+                end: byte,
+            }),
             life,
             frame,
         };
@@ -114,9 +113,9 @@ pub fn feed(
         ≡ fed_by (over setup life frame (of_table colors.old)) canvas.old bytes.now allowance }
 {
     let verdict = feed_refusal(setup, life, frame, canvas.len(), allowance);
-    if let Verdict::Refused(refusal) = verdict {
+    if let Err(refusal) = verdict {
         return Fed {
-            answer: Answer::Refused(refusal),
+            answer: Err(refusal),
             life,
             frame,
         };

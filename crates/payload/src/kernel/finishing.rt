@@ -7,13 +7,13 @@ ghost use Rattle.payload.specs.Session.{ratio_for, reported_as, reached_on, carr
 
 use crate::kernel::Setup;
 use crate::kernel::opening::is_transparent;
-use crate::refusals::{Verdict, finish_refusal};
-use crate::{Finishing, Given, Life, Ratio, Report, Settings};
+use crate::refusals::finish_refusal;
+use crate::{Life, Ratio, Report, Settings};
 use colours::marks::hand_on;
-use frame::{Frame, Ground, Kind, Outcome, Progress, Raster};
+use frame::{Frame, Ground, Kind, Outcome, Progress, Raster, Refusal};
 use reading::process;
 
-fn ratio_for(raster: Raster, p1: Given) -> Ratio
+fn ratio_for(raster: Raster, p1: Option<u16>) -> Ratio
     ensures { result ≡ ratio_for raster p1 }
 {
     if raster.ratio == 0 {
@@ -28,15 +28,13 @@ fn report_for(frame: Frame, settings: Settings, defined: usize) -> Report
     let area = frame.area;
     let extent = frame.extent;
     let raster = frame.raster;
-    let p1 = settings.p1;
-    let p2 = settings.p2;
     Report {
         width: area.width,
         height: area.height,
         right: extent.right,
         bottom: extent.bottom,
-        ratio: ratio_for(raster, p1),
-        transparent: is_transparent(p2),
+        ratio: ratio_for(raster, settings.p1),
+        transparent: is_transparent(settings.p2),
         defined,
         declared_width: raster.width,
         declared_height: raster.height,
@@ -52,9 +50,7 @@ fn end_pending(frame: Frame, ground: Ground, colors: &mut [u32; 256], canvas: &m
     requires { Fits frame ground (length canvas.old) }
     ensures { reached_on result colors.new canvas.new ≡ carried_out frame ground (of_table colors.old) canvas.old }
 {
-    let command = frame.command;
-    let kind = command.kind;
-    if let Kind::Data = kind {
+    if let Kind::Data = frame.command.kind {
         return Progress {
             frame,
             consumed: 0,
@@ -72,19 +68,17 @@ fn finish_live(
     frame: Frame,
     colors: &mut [u32; 256],
     canvas: &mut [u8],
-) -> Finishing
+) -> Result<Report, Refusal>
     requires { Fits frame setup.ground (length canvas.old) }
     ensures { (finished_over result colors.new, canvas.new)
         ≡ finished_live (over setup life frame (of_table colors.old)) (of_table colors.old) canvas.old }
 {
-    let settings = setup.settings;
     let last = end_pending(frame, setup.ground, colors, canvas);
-    let outcome = last.outcome;
-    if let Outcome::Refused(refusal) = outcome {
-        return Finishing::Refused(refusal);
+    if let Outcome::Refused(refusal) = last.outcome {
+        return Err(refusal);
     }
     let defined = hand_on(colors);
-    Finishing::Picture(report_for(last.frame, settings, defined))
+    Ok(report_for(last.frame, setup.settings, defined))
 }
 
 // Carries the pending command out and reports. The session is gone. The registers are what the picture leaves its owner where there is
@@ -95,13 +89,10 @@ pub fn finish(
     frame: Frame,
     colors: &mut [u32; 256],
     canvas: &mut [u8],
-) -> Finishing
+) -> Result<Report, Refusal>
     ensures { (finished_over result colors.new, canvas.new)
         ≡ finished_by (over setup life frame (of_table colors.old)) (of_table colors.old) canvas.old }
 {
-    let verdict = finish_refusal(setup, life, frame, canvas.len());
-    if let Verdict::Refused(refusal) = verdict {
-        return Finishing::Refused(refusal);
-    }
+    finish_refusal(setup, life, frame, canvas.len())?;
     finish_live(setup, life, frame, colors, canvas)
 }

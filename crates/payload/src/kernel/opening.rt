@@ -6,29 +6,26 @@ ghost use Rattle.payload.specs.Session.{clear_for, background_for, blank_frame, 
 
 use crate::kernel::Setup;
 use crate::refusals::may_open;
-use crate::{Given, Life, Opening, Settings};
+use crate::{Life, Settings};
 use frame::{Command, Extent, Frame, Ground, Kind, Limits, Pen, Raster, Refusal, VisibleArea};
 use numbers::Parameters;
 
 // An opening's answer and the session, which is a failed one where the opening is refused.
 #[derive(Clone, Copy)]
 pub struct Opened {
-    pub answer: Opening,
+    pub answer: Result<(), Refusal>,
     pub setup: Setup,
     pub life: Life,
     pub frame: Frame,
 }
 
-pub(crate) fn is_transparent(p2: Given) -> bool
+pub(crate) fn is_transparent(p2: Option<u16>) -> bool
     ensures { result ≡ clear_for p2 }
 {
-    match p2 {
-        Given::Nothing => false,
-        Given::Number(n) => n == 1,
-    }
+    p2 == Some(1)
 }
 
-pub(crate) fn background_for(colors: &[u32; 256], p2: Given) -> [u8; 4]
+pub(crate) fn background_for(colors: &[u32; 256], p2: Option<u16>) -> [u8; 4]
     ensures { result ≡ background_for (of_table colors.now) p2 }
 {
     if is_transparent(p2) {
@@ -82,8 +79,7 @@ fn new_setup(
 ) -> Setup
     ensures { result ≡ setup_for limits stride length settings (of_table colors.now) }
 {
-    let p2 = settings.p2;
-    let background = background_for(colors, p2);
+    let background = background_for(colors, settings.p2);
     let ground = Ground {
         limits,
         stride,
@@ -98,13 +94,13 @@ fn new_setup(
 }
 
 // An opening's answer, by whether it may be.
-fn opening_for(may: bool) -> Opening
+fn opening_for(may: bool) -> Result<(), Refusal>
     ensures { result ≡ opening_for may }
 {
     if may {
-        return Opening::Ready;
+        return Ok(());
     }
-    Opening::Refused(Refusal::Opening)
+    Err(Refusal::Opening)
 }
 
 // The life of its session.
@@ -161,7 +157,6 @@ pub fn open(
 {
     let length = canvas.len();
     let may = may_open(limits, stride, length);
-    let p2 = settings.p2;
-    paint_if(may, canvas, background_for(colors, p2));
+    paint_if(may, canvas, background_for(colors, settings.p2));
     open_if(may, limits, stride, length, settings, colors)
 }

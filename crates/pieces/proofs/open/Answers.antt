@@ -8,11 +8,11 @@ use Rattle.pieces.proofs.open.Goals as goal
 pub overflow_mul-limits : goal.overflow_mul-limits
 overflow_mul-limits c =
     let small : c.args.limits.width ≤ 1000000 =
-    search (ready-width, c.open-opened.ensures, c.in-Ready.is) in
+    search (ready-width, c.open-opened.ensures, c.in-Ok.is) in
     omega (arith, small)
 
-pub returns-in-Ready : goal.returns-in-Ready
-returns-in-Ready c = search (rules, openings-laws)
+pub returns-in-Ok : goal.returns-in-Ok
+returns-in-Ok c = search (rules, openings-laws)
 
-pub returns-in-Refused : goal.returns-in-Refused
-returns-in-Refused c = search (rules, openings-laws)
+pub returns-in-Err : goal.returns-in-Err
+returns-in-Err c = search (rules, openings-laws)

@@ -6,14 +6,14 @@ use Rattle.timing.proofs.size_or_number.Goals as goal
 
 pub overflow_mul-result : goal.overflow_mul-result
 overflow_mul-result c =
-    omega (arith, width_fits c.requires c.in-Picture.is, height-fits c.requires c.in-Picture.is)
+    omega (arith, width_fits c.requires c.in-Ok.is, height-fits c.requires c.in-Ok.is)
 
 pub overflow_add-result : goal.overflow_add-result
 overflow_add-result c =
-    omega (arith, width_fits c.requires c.in-Picture.is, height-fits c.requires c.in-Picture.is)
+    omega (arith, width_fits c.requires c.in-Ok.is, height-fits c.requires c.in-Ok.is)
 
-pub returns-in-Picture : goal.returns-in-Picture
-returns-in-Picture c p = search (rules, numbered)
+pub returns-in-Ok : goal.returns-in-Ok
+returns-in-Ok c p = search (rules, numbered)
 
-pub returns-in-Refused : goal.returns-in-Refused
-returns-in-Refused c p = search (rules, numbered)
+pub returns-in-Err : goal.returns-in-Err
+returns-in-Err c p = search (rules, numbered)

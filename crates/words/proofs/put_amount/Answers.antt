@@ -3,11 +3,11 @@ use Rattle.words.proofs.WordLaws.{more-than, exactly}
 use Rattle.text.specs.Text.{words}
 use borrow.Author.Rules.{rules}
 use Rattle.words.proofs.put_amount.Goals as goal
+use Rattle.words.proofs.put_amount.Goals.{then-more, else-more}
 
-pub returns-then-more : goal.returns-then-more
+pub returns-clause-text : goal.returns-clause-text
 unfolding words
-returns-then-more c = search (rules, more-than, exactly)
-
-pub returns : goal.returns
-unfolding words
-returns c = search (rules, more-than, exactly)
+returns-clause-text c = elim c.if-more.branch [
+  | then-more w ↦ search (rules, more-than)
+  | else-more w ↦ search (rules, exactly)
+]

@@ -1,9 +1,9 @@
 use mathlib.Core.Path.{◌≡◌}
-use Prim.Native.Nat.{◌*◌}
+use Prim.Native.Nat.{◌+◌, ◌-◌, ◌*◌}
 use native.Mathlib.Omega.{arith}
 use lib.ListN.{length-set}
 use borrow.Author.Rules.{rules}
-use Rattle.colours.proofs.Blocks.{passed_none, on_none, on-more, passed-as, passed-idle, passed-all}
+use Rattle.colours.proofs.Blocks.{lasting_part, passed_none, on_none, on-more, passed-as, passed-idle, passed-all}
 use Rattle.colours.proofs.marks.count_and_clear.Goals as goal
 use Rattle.colours.proofs.marks.count_and_clear.Goals.{then-may_exceed+else-loop-k-test, else-may_exceed}
 
@@ -27,7 +27,9 @@ loop-block-preserved c =
       elim c.if-may_exceed.branch [
         | then-may_exceed+else-loop-k-test w ↦ passed-as (w.loop-k.invariant.3.on _ p) (omega arith) w.count-is w.colors-is
         | else-may_exceed w ↦
-            passed-as (passed-idle 64 p (omega arith) (c.may_exceed.ensures w.if-may_exceed.false)) (omega arith) w.count-is w.colors-is
+            let part : 64 * c.loop-block.block + 64 - 64 * c.loop-block.block ≡ 64 = omega arith in
+            let idle = lasting_part _ _ _ (omega arith) (rw part at (c.may_exceed.ensures w.if-may_exceed.false)) in
+            passed-as (passed-idle 64 p (omega arith) idle) (omega arith) w.count-is w.colors-is
       ],
     )
 

@@ -1,19 +1,11 @@
-use mathlib.Core.Path.{◌≡◌, refl, ◌∙◌}
-use native.Mathlib.Omega.{arith}
-use lib.ListN.{length}
-use borrow.Author.Rules.{rules}
-use Rattle.colours.proofs.Filling.{filled_none, filled-as, filled_more, listed_back}
+-- `colours::standard::put` meets its contract: copying into a part of the table is setting each of its places. Assumes nothing.
+use Rattle.std.proofs.Common.{◌≡◌, ◌+◌, ◌-◌, length, sym, append_assoc, arith}
+use Rattle.std.proofs.lemmas.List.{drop-drop}
+use Rattle.std.proofs.lemmas.List.Edits.{sets-eq}
 use Rattle.colours.proofs.standard.put.Goals as goal
-
-pub loop-k-init : goal.loop-k-init
-loop-k-init c = (search rules, filled_none _ _)
-
-pub loop-k-preserved : goal.loop-k-preserved
-loop-k-preserved c = (search rules, filled_more c.loop-k.invariant.1 refl refl)
 
 pub returns : goal.returns
 returns c =
-    let at = c.loop-k in
     let rule = c.args.rule.now in
-    let done : at.k ≡ length rule = omega arith in
-    (filled-as done at.invariant.1).so_far ∙ rw (listed_back rule)
+    let long : c.args.first + length rule - c.args.first ≡ length rule = omega arith in
+    rw (c.copy_from_slice.ensures.after, long, drop-drop, ← append_assoc) (sym (sets-eq rule c.args.colors.now c.args.first (omega arith)))

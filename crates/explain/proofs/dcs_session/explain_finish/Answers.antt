@@ -3,11 +3,11 @@ use borrow.Author.Rules.{rules}
 use Rattle.explain.proofs.ExplainLaws.{sequences}
 use Rattle.explain.proofs.dcs_session.explain_finish.Goals as goal
 
-pub returns-in-Refused : goal.returns-in-Refused
-returns-in-Refused c = search (rules, sequences, c.finish_refusal-verdict.ensures)
+pub returns-in-Err : goal.returns-in-Err
+returns-in-Err c = search (rules, sequences, c.finish_refusal.ensures)
 
 pub returns-in-Over : goal.returns-in-Over
-returns-in-Over c = search (rules, sequences, c.finish_refusal-verdict.ensures)
+returns-in-Over c = search (rules, sequences, c.finish_refusal.ensures)
 
 pub returns : goal.returns
-returns c = search (rules, sequences, c.finish_refusal-verdict.ensures)
+returns c = search (rules, sequences, c.finish_refusal.ensures)

@@ -7,11 +7,11 @@ use Rattle.explain.proofs.dcs_session.explain_lead.Goals as goal
 pub explain_begun-requires : goal.explain_begun-requires
 explain_begun-requires c = lead-in _ _ _ c.read_lead-lead.ensures
 
-pub returns-in-On : goal.returns-in-On
-returns-in-On c f = search (rules, sequences)
+pub returns-in-Ok-On : goal.returns-in-Ok-On
+returns-in-Ok-On c f = search (rules, sequences)
 
-pub returns-in-Begins : goal.returns-in-Begins
-returns-in-Begins c f = search (rules, sequences, c.explain_begun.ensures f)
+pub returns-in-Ok-Begins : goal.returns-in-Ok-Begins
+returns-in-Ok-Begins c f = search (rules, sequences, c.explain_begun.ensures f)
 
-pub returns-in-Refused : goal.returns-in-Refused
-returns-in-Refused c f = search (rules, sequences)
+pub returns-in-Err : goal.returns-in-Err
+returns-in-Err c f = search (rules, sequences)

@@ -1,15 +1,9 @@
--- `draw_sixel` meets its contract: the area that a sixel needs holds it, or the sixel is refused.
-use borrow.Author.Rules.{rules}
-use Rattle.explain.proofs.DryLaws.{sixels, area-holds}
+-- `draw_sixel` may draw: the area that a sixel needs holds it.
+use Rattle.std.proofs.Common.{refl}
+use Rattle.explain.proofs.DryLaws.{area-holds}
 use Rattle.explain.proofs.dry.draw_sixel.Goals as goal
 
 pub ink_sixel-requires : goal.ink_sixel-requires
 ink_sixel-requires c =
-    let held = area-holds c.args.frame c.args.ground _ _ c.sixel_area.ensures c.in-Area.is in
+    let held = area-holds c.args.frame c.args.ground c.in-Ok.area.width c.in-Ok.area.height c.in-Ok.ensures refl in
     (held.0, held.1, c.requires)
-
-pub returns-in-Area : goal.returns-in-Area
-returns-in-Area c = search (rules, sixels)
-
-pub returns-in-Refused : goal.returns-in-Refused
-returns-in-Refused c = search (rules, sixels)

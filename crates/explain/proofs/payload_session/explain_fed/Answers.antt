@@ -3,8 +3,8 @@ use borrow.Author.Rules.{rules}
 use Rattle.explain.proofs.ExplainLaws.{payloads}
 use Rattle.explain.proofs.payload_session.explain_fed.Goals as goal
 
-pub returns-in-Refused : goal.returns-in-Refused
-returns-in-Refused c = search (rules, payloads, c.feed_refusal-verdict.ensures)
+pub returns-in-Err : goal.returns-in-Err
+returns-in-Err c = search (rules, payloads, c.feed_refusal.ensures)
 
 pub returns : goal.returns
-returns c = search (rules, payloads, c.feed_refusal-verdict.ensures)
+returns c = search (rules, payloads, c.feed_refusal.ensures)

@@ -3,8 +3,8 @@ use borrow.Author.Rules.{rules}
 use Rattle.explain.proofs.ExplainLaws.{wholes}
 use Rattle.explain.proofs.whole.explain_input.Goals as goal
 
-pub returns-in-At : goal.returns-in-At
-returns-in-At c life f = search (rules, wholes, c.explain_header.ensures life f)
+pub returns-in-Some : goal.returns-in-Some
+returns-in-Some c life f = search (rules, wholes, c.explain_header.ensures life f)
 
-pub returns-in-Nowhere : goal.returns-in-Nowhere
-returns-in-Nowhere c life f = search (rules, wholes, c.explain_started.ensures life f)
+pub returns-in-None : goal.returns-in-None
+returns-in-None c life f = search (rules, wholes, c.explain_started.ensures life f)

@@ -1,16 +1,17 @@
--- `ends_argument` meets its contract: three tests, one after the other, by one law for each answer.
-use Rattle.fast.proofs.ArgumentLaws.{closings}
+-- `ends_argument` meets its contract: three tests, one after the other.
+use native.Mathlib.Omega.{arith}
 use borrow.Author.Rules.{rules}
+use Rattle.std.proofs.lemmas.Grind.{common_steps}
+use Rattle.fast.specs.Argument.{closing}
 use Rattle.fast.proofs.argument.ends_argument.Goals as goal
+use Rattle.fast.proofs.argument.ends_argument.Goals.{then-not-is_digit, else-not-is_digit}
 
-pub returns-then-is_digit : goal.returns-then-is_digit
-returns-then-is_digit c = search (rules, closings)
+pub returns-then-not-is_skipped : goal.returns-then-not-is_skipped
+unfolding closing
+returns-then-not-is_skipped c =
+    elim c.if-not-is_digit.branch [ then-not-is_digit w ↦ grind (arith, common_steps) | else-not-is_digit w ↦ search rules ]
 
-pub returns-then-is_skipped : goal.returns-then-is_skipped
-returns-then-is_skipped c = search (rules, closings)
-
-pub returns-then-byte-eq59 : goal.returns-then-byte-eq59
-returns-then-byte-eq59 c = search (rules, closings)
-
-pub returns : goal.returns
-returns c = search (rules, closings)
+pub returns-else-not-is_skipped : goal.returns-else-not-is_skipped
+unfolding closing
+returns-else-not-is_skipped c =
+    elim c.if-not-is_digit.branch [ then-not-is_digit w ↦ search rules | else-not-is_digit w ↦ search rules ]

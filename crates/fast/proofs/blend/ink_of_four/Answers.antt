@@ -1,13 +1,14 @@
 -- `ink_of_four` meets its contract: each has no more than six ones.
 use Prim.Native.Nat.{◌≤◌}
 use native.Mathlib.Omega.{arith}
+use lib.ListN.{get_or}
 use lib.Count.{ones, ones-le}
 use Rattle.fast.specs.Blend.{four_ink}
 use Rattle.fast.proofs.blend.ink_of_four.Goals as goal
 use Rattle.fast.proofs.blend.ink_of_four.Goals.{Start}
 
 -- the ink of each
-few : (c : Start) → (ones c.args.four.a ≤ 6) × (ones c.args.four.b ≤ 6) × (ones c.args.four.c ≤ 6) × (ones c.args.four.d ≤ 6)
+few : (c : Start) → (ones (get_or c.args.four 0 0) ≤ 6) × (ones (get_or c.args.four 1 0) ≤ 6) × (ones (get_or c.args.four 2 0) ≤ 6) × (ones (get_or c.args.four 3 0) ≤ 6)
 few c = (ones-le 6 _ c.requires.0, ones-le 6 _ c.requires.1, ones-le 6 _ c.requires.2, ones-le 6 _ c.requires.3)
 
 pub overflow_add-result : goal.overflow_add-result

@@ -14,17 +14,14 @@ pub overflow_sub-bits : goal.overflow_sub-bits
 overflow_sub-bits c = sixel-least _ refl c.requires.4
 
 pub overflow_cast-ones : goal.overflow_cast-ones
-overflow_cast-ones c = omega (arith, sixel-bits _ c.requires.4)
-
-pub overflow_cast-ones-2 : goal.overflow_cast-ones-2
-overflow_cast-ones-2 c = omega (arith, sixel-ones _ c.requires.4)
+overflow_cast-ones c = omega (arith, sixel-ones _ c.requires.4)
 
 pub overflow_mul-ink : goal.overflow_mul-ink
 overflow_mul-ink c =
     let a = c.args in
     let b = get_or a.bytes.now a.from 0 in
     let small : b - 63 < 256 = omega (arith, sixel-bits b c.requires.4) in
-    omega (arith, ink-room a.frame a.ground (b - 63) a.width a.height (length a.canvas.now) small c.requires.0 c.requires.1)
+    omega (arith, ink-room a.frame a.ground (b - 63) a.area.width a.area.height (length a.canvas.now) small c.requires.0 c.requires.1)
 
 pub returns-then-left-ink : goal.returns-then-left-ink
 returns-then-left-ink c =
@@ -44,13 +41,13 @@ after_sixel-requires c =
 
 pub overflow_add-from : goal.overflow_add-from
 overflow_add-from c =
-    omega (arith, c.requires.3, c.ranges.height.fits)
+    omega (arith, c.requires.3, c.ranges.left.fits)
 
 pub returns : goal.returns
 returns c =
     let a = c.args in
     λ p.
-    sixel-advances a.frame a.ground a.bytes.now a.from a.width a.height p a.canvas.now c.requires.0 c.requires.1 c.requires.2
+    sixel-advances a.frame a.ground a.bytes.now a.from a.area.width a.area.height p a.canvas.now c.requires.0 c.requires.1 c.requires.2
     c.requires.3
     c.requires.4
     c.requires.5

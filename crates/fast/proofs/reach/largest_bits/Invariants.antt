@@ -4,5 +4,5 @@ use mathlib.Core.Path.{◌≡◌}
 use Rattle.fast.specs.Run.{largest_bits}
 use Rattle.fast.proofs.reach.largest_bits.Given as goal
 
-abbrev pub invariant-loop-k : goal.invariant-loop-k
-invariant-loop-k l = (l.k ≤ l.count) × (l.most ≡ 63 + largest_bits l.bytes l.from l.k)
+abbrev pub invariant-loop-byte : goal.invariant-loop-byte
+invariant-loop-byte l = (l.byte-index ≤ l.count) × (l.most ≡ 63 + largest_bits l.bytes l.from l.byte-index)

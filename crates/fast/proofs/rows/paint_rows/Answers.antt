@@ -18,19 +18,19 @@ few c =
 -- and lies on the canvas
 room : (c : In-loop-rest)
     → 4
-    * ((c.args.row + (c.loop-rest.k + count_trailing_zeros 32 c.loop-rest.rest)) * c.args.stride + c.args.column
+    * ((c.args.brush.row + (c.loop-rest.k + count_trailing_zeros 32 c.loop-rest.rest)) * c.args.brush.stride + c.args.brush.column
     + c.args.repeat)
     ≤ length c.args.canvas.now
 room c =
     let a = c.args in
     let at = c.loop-rest in
-    sixel-room (length a.canvas.now) a.stride a.column a.row a.repeat (at.k + count_trailing_zeros 32 at.rest) c.requires.0 c.requires.1
+    sixel-room (length a.canvas.now) a.brush.stride a.brush.column a.brush.row a.repeat (at.k + count_trailing_zeros 32 at.rest) c.requires.0 c.requires.1
     (few c)
 
 pub loop-rest-init : goal.loop-rest-init
 loop-rest-init c =
     let a = c.args in
-    (sixel-none a.stride a.column a.row a.repeat a.bits a.px a.canvas.now, refl, sym (div-one a.bits), omega arith)
+    (sixel-none a.brush.stride a.brush.column a.brush.row a.repeat a.bits a.brush.px a.canvas.now, refl, sym (div-one a.bits), omega arith)
 
 pub overflow_cast-y : goal.overflow_cast-y
 overflow_cast-y c = omega (arith, few c)
@@ -46,13 +46,13 @@ overflow_add-k c = omega (arith, few c)
 
 pub overflow_add-from : goal.overflow_add-from
 overflow_add-from c =
-    omega (arith, few c, c.requires.1, rows_few (length c.args.canvas.now) c.args.stride)
+    omega (arith, few (goal.at.overflow_add-from c).In-loop-rest, c.requires.1, rows_few (length c.args.canvas.now) c.args.brush.stride)
 
 pub overflow_mul-from : goal.overflow_mul-from
-overflow_mul-from c = omega (arith, room c)
+overflow_mul-from c = omega (arith, room (goal.at.overflow_mul-from c).In-loop-rest)
 
 pub overflow_add-from-in-loop-rest : goal.overflow_add-from-in-loop-rest
-overflow_add-from-in-loop-rest c = omega (arith, room c)
+overflow_add-from-in-loop-rest c = omega (arith, room (goal.at.overflow_add-from-in-loop-rest c).In-loop-rest)
 
 pub overflow_add-from-in-loop-rest-2 : goal.overflow_add-from-in-loop-rest-2
 overflow_add-from-in-loop-rest-2 c = omega (arith, room (goal.at.overflow_add-from-in-loop-rest-2 c).In-loop-rest)
@@ -67,7 +67,7 @@ pub loop-rest-preserved : goal.loop-rest-preserved
 loop-rest-preserved c =
     let a = c.args in
     let at = c.loop-rest in (
-      row-painted a.stride a.column a.row a.repeat a.bits a.px a.canvas.now at.rest at.k at.invariant.2 c.loop-rest-test.true
+      row-painted a.brush.stride a.brush.column a.brush.row a.repeat a.bits a.brush.px a.canvas.now at.rest at.k at.invariant.2 c.loop-rest-test.true
           c.requires.2
           c.requires.0
           at.invariant.0
@@ -86,4 +86,4 @@ returns c =
     let a = c.args in
     let at = c.loop-rest in
     let none : at.rest ≡ 0 = omega (arith, c.loop-rest-test.false) in
-    rows-done a.stride a.column a.row a.repeat a.bits a.px a.canvas.now at.rest at.k at.invariant.2 none at.invariant.3 at.invariant.0
+    rows-done a.brush.stride a.brush.column a.brush.row a.repeat a.bits a.brush.px a.canvas.now at.rest at.k at.invariant.2 none at.invariant.3 at.invariant.0

@@ -10,7 +10,7 @@ use Rattle.fast.proofs.rows.paint_rows.Given as goal
 
 abbrev pub invariant-loop-rest : goal.invariant-loop-rest
 invariant-loop-rest l =
-    (l.canvas ≡ painted (grid l.stride (first_rows l.k l.column l.row l.repeat l.bits)) l.px l.initial.canvas)
+    (l.canvas ≡ painted (grid l.brush.stride (first_rows l.k l.brush.column l.brush.row l.repeat l.bits)) l.brush.px l.initial.canvas)
     × (length l.canvas ≡ length l.initial.canvas)
     × (l.rest ≡ l.bits / 2 ^ l.k)
     × (l.k ≤ 6)

@@ -20,7 +20,7 @@ shape_of-canvas c =
 pub returns : goal.returns
 returns c =
     let a = c.args in
-    painted-as a.frame a.ground a.width a.height a.bytes.now a.from a.canvas.now c.grow.ensures
+    painted-as a.frame a.ground a.area.width a.area.height a.bytes.now a.from a.canvas.now c.grow.ensures
     c.paint_sixels-ink.ensures
     c.extent_after-reached.ensures
     c.passed.ensures

@@ -1,13 +1,10 @@
--- `blend_fours` meets its contract. The loop's invariant: what was counted was painted.
-use Prim.Native.Nat.{◌-◌, ◌≤◌}
+-- `blend_fours` meets its contract. The loop's invariant: so many fours were painted.
+use Prim.Native.Nat.{◌*◌, ◌/◌, ◌≤◌}
 use mathlib.Core.Path.{◌≡◌}
 use lib.ListN.{length}
 use Rattle.fast.specs.Run.{Laid}
 use Rattle.fast.proofs.stretch.blend_fours.Given as goal
 
-abbrev pub invariant-loop-count : goal.invariant-loop-count
-invariant-loop-count l =
-    (l.count ≤ l.most) × Laid l.stride l.column l.row l.px l.bytes l.from l.count l.ink l.initial.canvas l.canvas × (length l.canvas ≡ length l.initial.canvas)
-
-abbrev pub decreases-loop-count : goal.decreases-loop-count
-decreases-loop-count l = l.most - l.count
+abbrev pub invariant-loop-quad : goal.invariant-loop-quad
+invariant-loop-quad l =
+    (l.quad ≤ l.most / 4) × Laid l.brush.stride l.brush.column l.brush.row l.brush.px l.bytes l.from (4 * l.quad) l.ink l.initial.canvas l.canvas × (length l.canvas ≡ length l.initial.canvas)

@@ -1,7 +1,7 @@
 use Prim.Native.Nat.{ℕ, ◌+◌, ◌-◌}
 use mathlib.Core.List.{List}
 use mathlib.Core.Bool.{true}
-use mathlib.Core.Path.{◌≡◌, refl, sym, ◌∙◌}
+use mathlib.Core.Path.{◌≡◌, refl, sym, subst, ◌∙◌}
 use native.Mathlib.Omega.{arith}
 use borrow.Author.Tests.{not-false, not-true}
 use lib.Count.{ones}
@@ -39,11 +39,11 @@ here c = sym c.is_sixel.ensures ∙ not-false _ c.if-not-is_sixel.false-raw
 
 -- what was painted, with this one, on whichever canvas
 longer : {ink : ℕ} {after : List ℕ} (c : Else-not-is_sixel) → ink ≡ ones (byte c - 63)
-    → after ≡ sixel_painted c.args.stride (c.args.column + c.loop-count.count) c.args.row 1
+    → after ≡ sixel_painted c.args.brush.stride (c.args.brush.column + c.loop-count.count) c.args.brush.row 1
     (byte c - 63)
-    c.args.px
+    c.args.brush.px
     c.loop-count.canvas
-    → Laid c.args.stride c.args.column c.args.row c.args.px
+    → Laid c.args.brush.stride c.args.brush.column c.args.brush.row c.args.brush.px
     c.args.bytes.now
     c.args.from
     (c.loop-count.count + 1)
@@ -65,9 +65,6 @@ overflow_add-ink c =
     let all = longer (goal.at.overflow_add-ink c).Else-not-is_sixel c.ink_of-ink.ensures refl in
     omega (arith, laid-few _ _ _ _ _ _ (length c.args.canvas.now) all (omega (arith, c.requires.1, c.loop-count-test.true)) c.requires.2)
 
-pub overflow_add-column : goal.overflow_add-column
-overflow_add-column c = omega (arith, c.requires.1)
-
 pub paint_rows-requires : goal.paint_rows-requires
 paint_rows-requires c =
     (omega (arith, c.requires.1, c.loop-count-test.true), rw c.loop-count.invariant.2 c.requires.2, sixel-bits _ (here (goal.at.paint_rows-requires c).Else-not-is_sixel))
@@ -85,4 +82,9 @@ shape_of-canvas c = c.loop-count.invariant.2
 pub returns : goal.returns
 returns c =
     let at = c.loop-count in
-    (at.invariant.0, at.invariant.1, λ less. absurd (omega (arith, less, c.loop-count-test.false)))
+    let a = c.args in
+    let all : at.count ≡ a.most = omega arith in (
+      omega arith,
+      subst (λ (n : ℕ). Laid a.brush.stride a.brush.column a.brush.row a.brush.px a.bytes.now a.from n at.ink a.canvas.now at.canvas) all at.invariant.1,
+      λ less. absurd (omega (arith, less)),
+    )

@@ -1,5 +1,5 @@
 -- `paint_sixels` meets its contract. The loop's invariant: the first `k` sixels were painted.
-use Prim.Native.Nat.{◌-◌, ◌≤◌}
+use Prim.Native.Nat.{◌≤◌}
 use mathlib.Core.Path.{◌≡◌}
 use lib.ListN.{length}
 use Rattle.fast.specs.Run.{Laid}
@@ -7,7 +7,4 @@ use Rattle.fast.proofs.stretch.paint_sixels.Given as goal
 
 abbrev pub invariant-loop-k : goal.invariant-loop-k
 invariant-loop-k l =
-    (l.k ≤ l.count) × Laid l.stride l.column l.row l.px l.bytes l.from l.k l.ink l.initial.canvas l.canvas × (length l.canvas ≡ length l.initial.canvas)
-
-abbrev pub decreases-loop-k : goal.decreases-loop-k
-decreases-loop-k l = l.count - l.k
+    (l.k ≤ l.count) × Laid l.brush.stride l.brush.column l.brush.row l.brush.px l.bytes l.from l.k l.ink l.initial.canvas l.canvas × (length l.canvas ≡ length l.initial.canvas)

@@ -1,12 +1,7 @@
-use native.Mathlib.Omega.{arith}
-use borrow.Author.Tests.{not-false}
-use Rattle.fast.proofs.RunLaws.{sixels-none, sixels-more}
+-- `run_length` meets its contract: all before the byte that is found are sixels, or all are where none is.
+use borrow.Author.Rules.{rules}
+use Rattle.fast.proofs.RunLaws.{sixels-counted}
 use Rattle.fast.proofs.stretch.run_length.Goals as goal
 
-pub loop-count-init : goal.loop-count-init
-loop-count-init c = (omega arith, sixels-none _ _ (omega arith))
-
-pub loop-count-preserved : goal.loop-count-preserved
-loop-count-preserved c =
-    let a = c.args in
-    (omega arith, sixels-more _ a.from c.loop-count.count c.loop-count.invariant.1 (omega arith) c.is_sixel.ensures (not-false _ c.if-not-is_sixel.false-raw))
+pub returns : goal.returns
+returns c = sixels-counted c.args.bytes.now c.args.from c.args.most _ c.requires (search rules) (search rules)

@@ -1,10 +1,8 @@
--- `extend_by_digit` meets its contract: a repeat's number or a value of the others, by one law for each.
+-- `extend_by_digit` meets its contract by the definitions that its clause names.
 use borrow.Author.Rules.{rules}
-use Rattle.frame.proofs.CommandLaws.{begins}
+use Rattle.frame.specs.Commands.{with_command, by_digit, by_digit_in, values_longer, number_longer}
 use Rattle.frame.proofs.commands.extend_by_digit.Goals as goal
 
-pub returns-in-Repeat : goal.returns-in-Repeat
-returns-in-Repeat c = search (rules, begins)
-
 pub returns : goal.returns
-returns c = search (rules, begins)
+unfolding with_command by_digit by_digit_in values_longer number_longer
+returns c = search rules

@@ -1,13 +1,11 @@
--- `measure` meets its contract: no size, an area or a refusal, by one law for each of the three answers.
-use borrow.Author.Rules.{rules}
-use Rattle.frame.proofs.CommandLaws.{rastered}
+-- `measure` hands a refusal on.
+use Rattle.std.proofs.Common.{rules}
+use Rattle.std.proofs.lemmas.Result.{err_from_is_err_and}
+use Rattle.frame.specs.Commands.{measured_by, measured_in}
 use Rattle.frame.proofs.rasters.measure.Goals as goal
 
-pub returns-then-sizeless : goal.returns-then-sizeless
-returns-then-sizeless c = search (rules, rastered)
-
-pub returns-in-Area : goal.returns-in-Area
-returns-in-Area c = search (rules, rastered)
-
-pub returns-in-Refused : goal.returns-in-Refused
-returns-in-Refused c = search (rules, rastered)
+pub returns-in_err-area : goal.returns-in_err-area
+unfolding measured_by measured_in
+returns-in_err-area c =
+    let p = err_from_is_err_and c.from_residual.result c.from_residual.ensures.1 in
+    rw (p.1, p.2) (search rules)

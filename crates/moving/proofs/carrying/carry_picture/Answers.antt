@@ -13,8 +13,8 @@ unfolding number_of
 returns-then-not-has_picture-2 c =
     path-second _ _ _ _ _ _ c.has_picture.ensures c.if-not-has_picture.false-raw c.has_picture-2.ensures c.if-not-has_picture-2.true-raw
 
-pub carry_rows-requires : goal.carry_rows-requires
-carry_rows-requires c = (
+pub copy_rows-requires : goal.copy_rows-requires
+copy_rows-requires c = (
   path-columns _ _ _ _ c.has_picture.ensures c.if-not-has_picture.false-raw,
   path-rows _ _ _ _ c.has_picture.ensures c.if-not-has_picture.false-raw,
   path-columns _ _ _ _ c.has_picture-2.ensures c.if-not-has_picture-2.false-raw,

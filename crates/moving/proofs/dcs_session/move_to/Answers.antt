@@ -2,9 +2,9 @@
 use Rattle.moving.proofs.MoveLaws.{dcs-refused, dcs-made}
 use Rattle.moving.proofs.dcs_session.move_to.Goals as goal
 
-pub returns-in-Refused : goal.returns-in-Refused
-returns-in-Refused c =
-    dcs-refused _ _ _ c.core_of-core.ensures c.move_answer-answer.ensures c.in-Refused.is
+pub returns-in-Err : goal.returns-in-Err
+returns-in-Err c =
+    dcs-refused _ _ _ c.core_of-core.ensures c.move_answer-answer.ensures c.in-Err.is
 
 pub returns : goal.returns
 returns c =

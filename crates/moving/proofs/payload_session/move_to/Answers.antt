@@ -2,10 +2,10 @@
 use Rattle.moving.proofs.MoveLaws.{moved-refused, moved_made}
 use Rattle.moving.proofs.payload_session.move_to.Goals as goal
 
-pub returns-in-Refused : goal.returns-in-Refused
-returns-in-Refused c =
+pub returns-in-Err : goal.returns-in-Err
+returns-in-Err c =
     moved-refused _ _ _ c.setup_of-setup.ensures c.life_of-life.ensures c.frame_of-frame.ensures
-    c.move_answer-answer.ensures c.in-Refused.is
+    c.move_answer-answer.ensures c.in-Err.is
 
 pub returns : goal.returns
 returns c =

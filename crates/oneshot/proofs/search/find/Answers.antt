@@ -3,8 +3,8 @@ use Rattle.oneshot.proofs.SearchLaws.{finds}
 use borrow.Author.Rules.{rules}
 use Rattle.oneshot.proofs.search.find.Goals as goal
 
-pub returns-in-At : goal.returns-in-At
-returns-in-At c = search (rules, finds)
+pub returns-in-Some : goal.returns-in-Some
+returns-in-Some c = search (rules, finds)
 
-pub returns-in-Nowhere : goal.returns-in-Nowhere
-returns-in-Nowhere c = search (rules, finds)
+pub returns-in-None : goal.returns-in-None
+returns-in-None c = search (rules, finds)

@@ -4,4 +4,4 @@ use Rattle.owlgantry.proofs.explaining.owlgantry_raw_dcs_explain_finish.Goals as
 
 pub returns : goal.returns
 returns c =
-    dcs-finish-told _ _ c.held_core-core.ensures _ c.explain_finish-told.ensures c.told_numbers-numbers.ensures
+    dcs-finish-told _ _ c.core_from-core.ensures _ c.explain_finish-told.ensures c.told_numbers-numbers.ensures

@@ -4,10 +4,10 @@ use Rattle.owlgantry.specs.Explaining.{told_numbers}
 use borrow.Author.Rules.{rules}
 use Rattle.owlgantry.proofs.explaining.told_numbers.Goals as goal
 
-pub returns-in-Fine : goal.returns-in-Fine
+pub returns-in-Ok : goal.returns-in-Ok
 unfolding told_numbers
-returns-in-Fine c = search (rules, by-case told_numbers)
+returns-in-Ok c = search (rules, by-case told_numbers)
 
-pub returns-in-Refused : goal.returns-in-Refused
+pub returns-in-Err : goal.returns-in-Err
 unfolding told_numbers
-returns-in-Refused c = search (rules, by-case told_numbers)
+returns-in-Err c = search (rules, by-case told_numbers)

@@ -3,8 +3,8 @@ use Rattle.owlgantry.proofs.MovingLaws.{placing}
 use borrow.Author.Rules.{rules}
 use Rattle.owlgantry.proofs.moves.place.Goals as goal
 
-pub returns-in-Refused : goal.returns-in-Refused
-returns-in-Refused c = search (rules, placing)
+pub returns-in-Err : goal.returns-in-Err
+returns-in-Err c = search (rules, placing)
 
 pub returns : goal.returns
 returns c = search (rules, placing)

@@ -6,4 +6,4 @@ pub returns : goal.returns
 returns c =
     payload-fed _ _ _ _ _ _ _ _ c.setup_from-setup.ensures c.life_from-life.ensures c.frame_from.ensures
     c.feed-fed.ensures c.setup_from-kept.ensures c.numbers_of.ensures c.payload_report.ensures
-    c.payload_number.ensures
+    c.number_or_zero.ensures

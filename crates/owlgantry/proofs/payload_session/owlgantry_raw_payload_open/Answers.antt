@@ -6,4 +6,4 @@ pub returns : goal.returns
 returns c =
     payload-opened _ _ _ _ _ _ _ _ _ _ _ _ c.given_from.ensures c.given_from-2.ensures c.begin.ensures
     c.open-opened.ensures
-    c.numbers_of.ensures c.opening_number.ensures
+    c.numbers_of.ensures c.number_or_zero.ensures

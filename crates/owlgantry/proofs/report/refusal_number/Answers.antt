@@ -5,10 +5,10 @@ use Rattle.owlgantry.specs.Reading.{refusal_number}
 use borrow.Author.Rules.{rules}
 use Rattle.owlgantry.proofs.report.refusal_number.Goals as goal
 
-pub returns-in-Picture : goal.returns-in-Picture
+pub returns-in-Ok : goal.returns-in-Ok
 unfolding refusal_number finish_meant
-returns-in-Picture c p = search (rules, refusal-as)
+returns-in-Ok c p = search (rules, refusal-as)
 
-pub returns-in-Refused : goal.returns-in-Refused
+pub returns-in-Err : goal.returns-in-Err
 unfolding refusal_number finish_meant
-returns-in-Refused c p = search (rules, refusal-as)
+returns-in-Err c p = search (rules, refusal-as)

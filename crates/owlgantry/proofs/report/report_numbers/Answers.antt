@@ -5,9 +5,9 @@ use Rattle.owlgantry.specs.Reading.{report_numbers}
 use borrow.Author.Rules.{rules}
 use Rattle.owlgantry.proofs.report.report_numbers.Goals as goal
 
-pub returns-in-Picture : goal.returns-in-Picture
-returns-in-Picture c p = search (rules, reported)
+pub returns-in-Ok : goal.returns-in-Ok
+returns-in-Ok c p = search (rules, reported)
 
-pub returns-in-Refused : goal.returns-in-Refused
+pub returns-in-Err : goal.returns-in-Err
 unfolding report_numbers finish_meant
-returns-in-Refused c p = search (rules, reported)
+returns-in-Err c p = search (rules, reported)

@@ -1,6 +1,6 @@
 -- `words::memory::refusal_from` meets its contract: in each case the refusal whose number it is. Assumes nothing.
 use borrow.Author.Rules.{rules}
-use Rattle.words.proofs.MemoryLaws.{refusal-at, last-refusal}
+use Rattle.words.proofs.MemoryLaws.{refusal-at, no-refusal_left}
 use Rattle.frame.specs.Numbers.{number_of}
 use Rattle.words.proofs.memory.refusal_from.Goals as goal
 
@@ -56,6 +56,9 @@ pub returns-in-13 : goal.returns-in-13
 unfolding number_of
 returns-in-13 c = search (rules, refusal-at)
 
-pub returns-in_default : goal.returns-in_default
+pub returns-in-14 : goal.returns-in-14
 unfolding number_of
-returns-in_default c = search (rules, last-refusal)
+returns-in-14 c = search (rules, refusal-at)
+
+pub returns-in_default : goal.returns-in_default
+returns-in_default c = search (rules, no-refusal_left)

@@ -1,7 +1,6 @@
 -- `words::memory::thing_from` meets its contract: in each case the thing whose number it is. Assumes nothing.
-use native.Mathlib.Omega.{arith}
 use borrow.Author.Rules.{rules}
-use Rattle.words.proofs.MemoryLaws.{thing-at}
+use Rattle.words.proofs.MemoryLaws.{thing-at, no-thing_left}
 use Rattle.words.specs.Memory.{thing_number}
 use Rattle.words.proofs.memory.thing_from.Goals as goal
 
@@ -17,6 +16,9 @@ pub returns-in-3 : goal.returns-in-3
 unfolding thing_number
 returns-in-3 c = search (rules, thing-at)
 
-pub returns-in_default : goal.returns-in_default
+pub returns-in-4 : goal.returns-in-4
 unfolding thing_number
-returns-in_default c = thing-at _ _ (omega arith)
+returns-in-4 c = search (rules, thing-at)
+
+pub returns-in_default : goal.returns-in_default
+returns-in_default c = search (rules, no-thing_left)

@@ -3,8 +3,8 @@ use mathlib.Core.Path.{sym, ◌∙◌}
 use Rattle.dcs.proofs.SessionLaws.{fed-refused, fed-on}
 use Rattle.dcs.proofs.kernel.feeding.feed.Goals as goal
 
-pub returns-in-Refused : goal.returns-in-Refused
-returns-in-Refused c = fed-refused _ _ _ _ (c.feed_refusal-verdict.ensures _) c.in-Refused.is
+pub returns-in-Err : goal.returns-in-Err
+returns-in-Err c = fed-refused _ _ _ _ (c.feed_refusal-verdict.ensures _) c.in-Err.is
 
 pub feed_in-requires : goal.feed_in-requires
 feed_in-requires c p =

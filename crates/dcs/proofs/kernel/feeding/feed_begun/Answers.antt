@@ -3,9 +3,9 @@ use mathlib.Core.Path.{sym, ◌∙◌}
 use Rattle.dcs.proofs.SessionLaws.{part-drop, passed-bound, payload-fed, begun-refused}
 use Rattle.dcs.proofs.kernel.feeding.feed_begun.Goals as goal
 
-pub returns-in-Refused : goal.returns-in-Refused
-returns-in-Refused c =
-    begun-refused _ _ _ c.args.bytes.now c.args.from c.args.allowance (c.feed_refusal-verdict.ensures _) c.in-Refused.is (c.tell.ensures _)
+pub returns-in-Err : goal.returns-in-Err
+returns-in-Err c =
+    begun-refused _ _ _ c.args.bytes.now c.args.from c.args.allowance (c.feed_refusal-verdict.ensures _) c.in-Err.is (c.tell.ensures _)
 
 pub feed_passed-call-requires : goal.feed_passed-call-requires
 feed_passed-call-requires c p =

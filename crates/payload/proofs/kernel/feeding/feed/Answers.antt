@@ -3,8 +3,8 @@ use mathlib.Core.Path.{sym, ◌∙◌}
 use Rattle.payload.proofs.SessionLaws.{fed-refused}
 use Rattle.payload.proofs.kernel.feeding.feed.Goals as goal
 
-pub returns-in-Refused : goal.returns-in-Refused
-returns-in-Refused c = fed-refused _ _ _ _ (c.feed_refusal-verdict.ensures _) c.in-Refused.is
+pub returns-in-Err : goal.returns-in-Err
+returns-in-Err c = fed-refused _ _ _ _ (c.feed_refusal-verdict.ensures _) c.in-Err.is
 
 pub feed_passed-requires : goal.feed_passed-requires
 feed_passed-requires c p =

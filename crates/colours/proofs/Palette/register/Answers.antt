@@ -1,6 +1,0 @@
--- `colours::Palette::register` meets its contract, by those of the functions that it calls.
--- Assumes nothing.
-use Rattle.colours.proofs.Palette.register.Goals as goal
-
-pub returns : goal.returns
-returns c = cc

@@ -1,0 +1,14 @@
+use mathlib.Core.Path.{◌∙◌}
+use native.Mathlib.Omega.{arith}
+use Rattle.text.proofs.Laws.{one_more, all-put}
+use Rattle.text.proofs.Cursor.put_words.Goals as goal
+
+pub loop-byte-preserved : goal.loop-byte-preserved
+loop-byte-preserved c =
+    let so_far = c.loop-byte in (
+      one_more _ so_far.byte-index _ _ _ c.put_byte.ensures.text so_far.invariant.0 (omega arith),
+      c.put_byte.ensures.buffer ∙ so_far.invariant.1,
+    )
+
+pub returns-clause-text : goal.returns-clause-text
+returns-clause-text c = all-put _ c.loop-byte.byte-index _ _ c.loop-byte.invariant.0 (omega arith)
