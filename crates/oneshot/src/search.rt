@@ -15,7 +15,7 @@ pub struct Found {
 }
 
 // How many bytes the introducer has that stands at a place: 90 alone, or 1B and `P`. None there is 0.
-// Kept: a length of 0 is no introducer; an Option would be opened where its length is added.
+// Kept: `oneshot/Search.introducer_at` is this length, 0 for none, and keeps its meaning.
 fn introducer_length(bytes: &[u8], at: usize) -> usize
     ensures { result ≡ introducer_at (drop at bytes.now) }
 {

@@ -10,6 +10,7 @@ use frame::{Refusal, number};
 use payload::{Ratio, Report};
 
 // 0, or the refusal's number.
+// Kept: its clause speaks of what a finish means to whoever has a palette; by `number_or_zero` it would be as long, and take a law besides.
 pub fn refusal_number(answer: Result<Report, Refusal>) -> u64
     ensures { (p : Palette) → result ≡ refusal_number (finish_meant answer p) }
 {

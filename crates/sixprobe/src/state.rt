@@ -2,6 +2,7 @@
 use colours::Palette;
 
 // The session that is open.
+// Kept: three states that an order tells apart at once; an Option of two would be matched twice.
 #[derive(Clone, Copy)]
 pub(crate) enum Open {
     Nothing,

@@ -142,6 +142,7 @@ fn put_sentence(to: &mut Cursor<'_>, refusal: Refusal, need: Option<Shortage>)
 }
 
 // Writes the line of a refusal, without a newline, and answers where the cursor stands then (rule 5.11).
+// Kept: docs/PROMISES.md names it with its buffer and place.
 #[tactic(auto, using(crate::proofs::WordLaws::refusal_put), unfolding(text::specs::Text::words))]
 pub fn put_refusal(out: &mut [u8], at: usize, telling: Telling) -> usize
     ensures { (result, out.new) ≡ put (refusal_text telling) (at, out.old) }

@@ -120,6 +120,7 @@ fn need_from(numbers: &[u64; 7]) -> Option<Shortage>
 }
 
 // Writes the line of what seven numbers tell, as `put_refusal` does; where no refusal has the first, nothing is written (rule 5.11).
+// Kept: as `put_refusal`.
 #[tactic(auto, unfolding(crate::specs::Memory::text_of, crate::specs::Memory::line_of, crate::specs::Memory::telling_from, crate::specs::Memory::told_of, text::specs::Text::put))]
 pub fn put_numbers(out: &mut [u8], at: usize, numbers: &[u64; 7]) -> usize
     ensures { (result, out.new) ≡ put (text_of numbers.now) (at, out.old) }
