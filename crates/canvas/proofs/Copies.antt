@@ -161,6 +161,15 @@ copied_packed stride width (suc y) canvas out h r =
     (copied_packed stride width y canvas out h (omega arith))
     ∙ packed_more stride width y canvas out h (omega arith)
 
+-- with the next row pasted, one row more is copied
+pub next_row : {before after : List ℕ} (stride stride' width y : ℕ) (canvas out : List ℕ) → before ≡ rows_copied stride stride' width y canvas out
+    → after ≡ paste before (4 * (y * stride')) (drop (4 * (y * stride)) canvas) (4 * width)
+    → after ≡ rows_copied stride stride' width (y + 1) canvas out
+unfolding rows_copied
+next_row stride stride' width y canvas out e f =
+    f ∙ ap (λ (l : List ℕ). paste l (4 * (y * stride')) (drop (4 * (y * stride)) canvas) (4 * width)) e
+    ∙ ap (λ (n : ℕ). rows_copied stride stride' width n canvas out) (sym (add-one y))
+
 -- a row more, written to its place
 pub copied_row : {before : List ℕ} (stride stride' width y k : ℕ) (canvas out row : List ℕ) → before ≡ rows_copied stride stride' width y canvas out
     → k ≡ 4 * width → row ≡ take k (drop (4 * (y * stride)) canvas)

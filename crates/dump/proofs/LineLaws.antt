@@ -8,6 +8,7 @@ use Rattle.text.proofs.Laws.{put_one, put_then}
 use Rattle.payload.specs.declared.Ratio.TheVariants as ratios
 use Rattle.payload.specs.declared.Report.{Report}
 use Rattle.dcs.specs.declared.Ending.{Ending}
+use Rattle.dump.specs.Fields.{fields_text}
 use Rattle.dump.specs.Dump.{count_line, pair_line, stop_line, status_line, size_line, extent_line, ratio_line, background_line, ink_line, picture_rows, picture_text}
 
 -- words, a number and a space
@@ -64,3 +65,18 @@ pub picture_put : (ending : Ending) (consumed ink : ℕ) (report : Report) (stri
 unfolding picture_text size_line extent_line ink_line
 picture_put ending consumed ink report stride canvas s₀ s₁ s₂ s₃ s₄ s₅ s₆ s₇ a b c d e f g =
     put_then _ _ s₀ (put_then _ _ s₀ (put_then _ _ s₀ (put_then _ _ s₀ (put_then _ _ s₀ (put_then _ _ s₀ a b) c) d) e) f) g
+
+pub fields_put : (ending : Ending) (consumed ink : ℕ) (report : Report) (s₀ s₁ s₂ s₃ s₄ s₅ s₆ : ℕ × List ℕ)
+    → s₁ ≡ put (status_line ending consumed) s₀ → s₂ ≡ put (pair_line (words "size ") report.width report.height) s₁
+    → s₃ ≡ put (pair_line (words "extent ") report.right report.bottom) s₂ → s₄ ≡ put (ratio_line report.ratio) s₃
+    → s₅ ≡ put (background_line report.transparent) s₄ → s₆ ≡ put (count_line (words "ink ") ink) s₅
+    → s₆ ≡ put (fields_text ending consumed ink report) s₀
+unfolding fields_text size_line extent_line ink_line
+fields_put ending consumed ink report s₀ s₁ s₂ s₃ s₄ s₅ s₆ a b c d e f =
+    put_then _ _ s₀ (put_then _ _ s₀ (put_then _ _ s₀ (put_then _ _ s₀ (put_then _ _ s₀ a b) c) d) e) f
+
+pub rows_put : (ending : Ending) (consumed ink : ℕ) (report : Report) (stride : ℕ) (canvas : List ℕ) (s₀ s₁ s₂ : ℕ × List ℕ)
+    → s₁ ≡ put (fields_text ending consumed ink report) s₀ → s₂ ≡ put (picture_rows canvas stride report.width report.height) s₁
+    → s₂ ≡ put (picture_text ending consumed ink report stride canvas) s₀
+unfolding fields_text picture_text
+rows_put ending consumed ink report stride canvas s₀ s₁ s₂ a b = put_then _ _ s₀ a b

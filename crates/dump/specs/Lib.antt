@@ -1,3 +1,4 @@
 pub mod Dump
+pub mod Fields
 pub mod Example
 pub mod Outcome

@@ -7,6 +7,7 @@ ghost use Rattle.std.specs.Prelude.{◌≡◌, ◌+◌, ◌*◌, ◌<◌, ◌≤
 ghost use Rattle.text.specs.Text.{put};
 ghost use Rattle.text.specs.Stand.{there};
 ghost use Rattle.canvas.specs.Picture.{rows_of};
+ghost use Rattle.dump.specs.Fields.{fields_text};
 ghost use Rattle.dump.specs.Dump.{count_line, pair_line, stop_line, status_line, ratio_line, background_line, pixel_text, row_text, rows_text, picture_rows, picture_text, refusal_text};
 
 use dcs::Ending;
@@ -137,8 +138,30 @@ fn put_picture(to: &mut Cursor<'_>, canvas: &[u8], stride: usize, width: usize, 
     }
 }
 
-// Writes the fields and the rows of a finished picture at the front of `out`, and answers the text's length there.
-#[tactic(auto, using(crate::proofs::LineLaws::picture_put), unfolding(text::specs::Text::words))]
+// Writes the fields of a finished picture at the front of `out`, and answers where they end.
+#[tactic(auto, using(crate::proofs::LineLaws::fields_put), unfolding(text::specs::Text::words))]
+fn write_fields(
+    out: &mut [u8],
+    ending: Ending,
+    consumed: usize,
+    ink: usize,
+    report: Report,
+) -> usize
+    ensures { (result, out.new) ≡ put (fields_text ending consumed ink report) (0, out.old) }
+{
+    let mut to = Cursor { out, at: 0 };
+    put_status(&mut to, ending, consumed);
+    put_pair(&mut to, b"size ", report.width, report.height);
+    put_pair(&mut to, b"extent ", report.right, report.bottom);
+    put_ratio(&mut to, report.ratio);
+    put_background(&mut to, report.transparent);
+    put_count(&mut to, b"ink ", ink);
+    to.at
+}
+
+// Writes the fields and the rows of a finished picture at the front of `out`, and answers the text's length there. The rows have a cursor of
+// their own, which no function that calls itself is lent, as `put_decimal` is: so its place is kept in a register.
+#[tactic(auto, using(crate::proofs::LineLaws::rows_put))]
 pub fn write_picture(
     out: &mut [u8],
     ending: Ending,
@@ -151,15 +174,10 @@ pub fn write_picture(
     ensures { (result, out.new)
         ≡ put (picture_text ending consumed ink report stride canvas.now) (0, out.old) }
 {
-    let mut to = Cursor { out, at: 0 };
-    put_status(&mut to, ending, consumed);
-    put_pair(&mut to, b"size ", report.width, report.height);
-    put_pair(&mut to, b"extent ", report.right, report.bottom);
-    put_ratio(&mut to, report.ratio);
-    put_background(&mut to, report.transparent);
-    put_count(&mut to, b"ink ", ink);
-    put_picture(&mut to, canvas, stride, report.width, report.height);
-    to.at
+    let at = write_fields(out, ending, consumed, ink, report);
+    let mut rows = Cursor { out, at };
+    put_picture(&mut rows, canvas, stride, report.width, report.height);
+    rows.at
 }
 
 // Writes a refusal at the front of `out`, and answers the text's length there.

@@ -128,7 +128,7 @@ written-more {n} {end} bytes i w more t few =
 -- ---- the paths through the functions of `argument`
 
 -- what is no digit, is not skipped and is no `;` ends an argument
-closing-other : {s t : Bool} (b : ℕ) → s ≡ digit b → s ≡ false → t ≡ skipped b → t ≡ false → (b ≡ semicolon → ⊥) → true ≡ closing b
+pub closing-other : {s t : Bool} (b : ℕ) → s ≡ digit b → s ≡ false → t ≡ skipped b → t ≡ false → (b ≡ semicolon → ⊥) → true ≡ closing b
 unfolding closing
 closing-other b e h k m q = sym (cond_no _ _ (sym e ∙ h) ∙ cond_no _ _ (sym k ∙ m) ∙ cond_no _ _ (ne_eqb _ _ q))
 

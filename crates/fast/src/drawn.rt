@@ -16,7 +16,7 @@ use frame::{Frame, Ground, Pen, VisibleArea};
 use reference::{after_sixel, grow};
 
 // Paints a repeated sixel on an area that holds it, unless its ink exceeds what is left.
-// Kept: (b) `paint` of the reference machine is its like; with one painter for both, repeats took twice as long (docs/SPEED.md, before today's compiler).
+// Kept: (b) `paint` of the reference machine is its like; with one painter for both, the loop took longer with an older compiler (docs/DECISIONS.md).
 fn paint_repeated(
     frame: Frame,
     ground: Ground,

@@ -9,6 +9,7 @@ use lib.IntN.{pos}
 use Rattle.std.specs.Prelude.{Result, Ok, Err}
 use Rattle.numbers.specs.declared.Parameters.{Parameters}
 use Rattle.numbers.specs.Step as numbers
+use Rattle.numbers.proofs.Laws.{cond_yes, cond_no}
 use Rattle.numbers.proofs.Reading.{value-small}
 use Rattle.colours.specs.declared.Palette.{Palette}
 use Rattle.colours.specs.Marks.{defining_rgb, defining_hls}
@@ -24,7 +25,7 @@ use Rattle.frame.specs.declared.Refusal.{Refusal}
 use Rattle.frame.specs.declared.VisibleArea.{VisibleArea}
 use Rattle.frame.specs.declared.rasters.Measured.{Measured}
 use Rattle.frame.specs.Sizes.{raster_area}
-use Rattle.frame.specs.Commands.{defining_by, held_by, defined_by, raster_by, measured_in, measured_by, raster_grown, raster_ended_in, raster_ended_by, finished_of, Ended, ended_in, ended}
+use Rattle.frame.specs.Commands.{defining_by, held_by, defined_by, kept_size, raster_by, measured_in, measured_by, raster_grown, raster_ended_in, raster_ended_by, finished_of, Ended, ended_in, ended}
 
 -- ---- a colour ends
 
@@ -49,6 +50,15 @@ module _ (p : Palette) (k s x y z : ℕ) {q : Palette} {t : Bool} (few : (x ≤ 
       e ∙ rw (small-passed x few.0, small-passed y few.1, small-passed z few.2, ne_eqb _ _ h, eq-eqb _ _ l) refl
 
 -- ---- a raster ends
+
+-- a size above 0 is kept, and else the old one stays
+pub kept-old : (old n : ℕ) → n ≡ 0 → old ≡ kept_size old n
+unfolding kept_size
+kept-old old n e = sym (cond_yes _ _ (eq-eqb _ _ e))
+
+pub kept_new : (old n : ℕ) → (n ≡ 0 → ⊥) → n ≡ kept_size old n
+unfolding kept_size
+kept_new old n e = sym (cond_no _ _ (ne_eqb _ _ e))
 
 raster-in : (f : Frame) (r : Raster) (n : Result VisibleArea Refusal) → raster_ended_in (measured_in r n) f ≡ raster_grown f r n
 unfolding raster_ended_in measured_in raster_grown

@@ -167,7 +167,7 @@ module _ (stride stride' width y : ℕ) (canvas other : List ℕ) (columns : wid
 -- ---- all rows
 
 -- no rows yet
-rows_none : (stride stride' width : ℕ) (canvas other : List ℕ) → other ≡ carried stride stride' (area_of width 0) canvas other
+pub rows_none : (stride stride' width : ℕ) (canvas other : List ℕ) → other ≡ carried stride stride' (area_of width 0) canvas other
 unfolding grid
 rows_none stride stride' width canvas other =
     ext_get_or 0 other (carried stride stride' (area_of width 0) canvas other) (sym (length-carried stride stride' (area_of width 0) canvas other))

@@ -12,12 +12,15 @@ mod say;
 mod sessions;
 mod state;
 
+use lines::{Block, line_room, next_line};
 use obey::obey;
 use rooms::{bytes_room, first};
 use state::State;
 use std::io;
-use std::io::{BufRead, BufReader};
+use std::io::Read;
 
+// The hint makes it part of the loop: by itself it would clear the way to its buffers on the stack for each line, an empty one too.
+#[inline(always)]
 fn run_line(rt: &impl Print, line: &[u8], state: &mut State, canvas: &mut [u8]) -> io::Result<()> {
     if line.is_empty() {
         return Ok(());
@@ -34,14 +37,15 @@ fn run_line(rt: &impl Print, line: &[u8], state: &mut State, canvas: &mut [u8]) 
 // A proved loop has to terminate, and nothing says that an input ends: the lines are counted up to a number that no run reaches.
 fn run(
     rt: &impl Print,
-    input: &mut impl BufRead,
-    line: &mut Vec<u8>,
+    input: &mut impl Read,
+    block: &mut Block,
+    line: &mut [u8],
     canvas: &mut [u8],
 ) -> io::Result<()> {
     let mut state = State::at_start();
     for _ in 0..u64::MAX {
-        let goes_on = lines::next_line(input, line);
-        run_line(rt, line, &mut state, canvas)?;
+        let (length, goes_on) = next_line(input, block, line);
+        run_line(rt, first(line, length), &mut state, canvas)?;
         if !goes_on {
             break;
         }
@@ -50,8 +54,8 @@ fn run(
 }
 
 fn main(rt: HostRuntime) -> io::Result<()> {
-    let mut input = BufReader::with_capacity(rt.alloc(), 65_536, rt.stdin())?;
-    let mut line = Vec::with_capacity(rt.alloc(), lines::LONGEST + 1)?;
+    let mut block = Block::empty();
+    let mut line = line_room();
     let mut canvas = rooms::room();
-    run(&rt, &mut input, &mut line, &mut canvas)
+    run(&rt, &mut rt.stdin(), &mut block, &mut line, &mut canvas)
 }

@@ -54,6 +54,8 @@ fn say_copied(rt: &impl Print, answer: Result<(), Uncopied>) -> io::Result<()> {
     }
 }
 
+// By itself, so that a run without a copy has no room for one.
+#[inline(never)]
 fn copy(rt: &impl Print, lent: &[u8], shape: Shape, length: usize) -> io::Result<()> {
     let mut buffer = rooms::room();
     let out = &mut buffer[..length.min(rooms::ROOM)];

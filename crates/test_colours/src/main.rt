@@ -5,13 +5,19 @@
 mod compare;
 mod hues;
 
+ghost use Rattle.std.specs.Prelude.{◌≡◌, ◌≤◌, length};
+
 use compare::Tally;
 use std::fs::File;
 use std::io;
 use std::io::Read;
 
-// How much of the file is read, which has 185,450 bytes.
-const MOST: usize = 262_144;
+// The buffer for the file, which has 185,450 bytes.
+fn room() -> [u8; 262144]
+    ensures { 262144 ≡ length result }
+{
+    [0; 262144]
+}
 
 fn report(rt: &impl Print, tally: Tally) -> io::Result<()> {
     let compared = tally.compared;
@@ -19,11 +25,24 @@ fn report(rt: &impl Print, tally: Tally) -> io::Result<()> {
     println!(rt; "colours compared {compared}, differences {differing}")
 }
 
+// Reads until the buffer is full or the input ends, and answers how many bytes came. A failed read counts as the input's end.
+fn read_full(input: &mut impl Read, buffer: &mut [u8]) -> usize
+    ensures { result ≤ length buffer.new }
+{
+    let mut done = 0;
+    while done < buffer.len() {
+        let n = input.read(&mut buffer[done..]).unwrap_or(0);
+        if n == 0 {
+            return done;
+        }
+        done += n;
+    }
+    done
+}
+
 fn main(rt: HostRuntime) -> io::Result<()> {
-    let mut stored = Vec::with_capacity(rt.alloc(), MOST)?;
-    // A failed read counts as the file's end.
-    let _ = File::open(&rt, "colours")?
-        .take(MOST as u64)
-        .read_to_end(&mut stored);
-    report(&rt, compare::all(&stored))
+    let mut file = File::open(&rt, "colours")?;
+    let mut stored = room();
+    let got = read_full(&mut file, &mut stored);
+    report(&rt, compare::all(&stored[..got]))
 }

@@ -4,6 +4,8 @@
 // sets of (x, y), and the pictures of `pieces` from the oracle and docs/RULES.md.
 #![tactic(auto)]
 
+ghost use Rattle.std.specs.Prelude.{◌≤◌, length};
+
 mod on_canvas;
 mod on_numbers;
 mod on_sessions;
@@ -35,6 +37,10 @@ fn canvas_room() -> [u8; CANVAS] {
 const INPUT: usize = 65_536;
 
 const BYTES: usize = 4_096;
+
+fn input_room() -> [u8; INPUT] {
+    [0; INPUT]
+}
 
 fn bytes_room() -> [u8; BYTES] {
     [0; BYTES]
@@ -107,10 +113,24 @@ fn run(rt: &impl Print, input: &[u8], canvas: &mut [u8]) -> io::Result<()> {
     Ok(())
 }
 
+// Reads until the buffer is full or the input ends, and answers how many bytes came. A failed read counts as the input's end.
+fn read_full(input: &mut impl Read, buffer: &mut [u8]) -> usize
+    ensures { result ≤ length buffer.new }
+{
+    let mut done = 0;
+    while done < buffer.len() {
+        let n = input.read(&mut buffer[done..]).unwrap_or(0);
+        if n == 0 {
+            return done;
+        }
+        done += n;
+    }
+    done
+}
+
 fn main(rt: HostRuntime) -> io::Result<()> {
     let mut canvas = canvas_room();
-    let mut input = Vec::with_capacity(rt.alloc(), INPUT)?;
-    // A failed read counts as the input's end.
-    let _ = rt.stdin().take(INPUT as u64).read_to_end(&mut input);
-    run(&rt, &input, &mut canvas)
+    let mut input = input_room();
+    let count = read_full(&mut rt.stdin(), &mut input);
+    run(&rt, &input[..count], &mut canvas)
 }

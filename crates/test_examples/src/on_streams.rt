@@ -148,7 +148,7 @@ fn dump_in(canvas: &mut [u8], n: Numbers, bytes: &[u8], piece: usize, text: &mut
 
 fn say_both(rt: &impl Print, text: &[u8], other: &[u8], calls: usize) -> io::Result<()> {
     say(rt, text)?;
-    if text == other {
+    if check::same(text, other) {
         say_calls(rt, b"the same in one piece, calls ", calls)
     } else {
         say_calls(rt, b"DIFFERENT in one piece, calls ", calls)

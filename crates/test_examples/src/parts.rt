@@ -1,5 +1,5 @@
 // Parts of lent bytes, and a line's text unescaped to the bytes that it stands for.
-ghost use Rattle.std.specs.Prelude.{◌<◌, IfSome, length};
+ghost use Rattle.std.specs.Prelude.{◌<◌, IfSome, IsSome, length};
 
 // The first bytes of a buffer.
 pub(crate) fn first(buffer: &[u8], count: usize) -> &[u8] {
@@ -23,7 +23,7 @@ fn digit(byte: u8) -> u8
 
 // The first byte of a text, and what follows it.
 fn take(text: &[u8]) -> Option<(u8, &[u8])>
-    ensures { IfSome result (λ t. length t.1.now < length text.now) }
+    ensures { (0 < length text.now → IsSome result) × IfSome result (λ t. length t.1.now < length text.now) }
 {
     match text {
         [b'\\', high, low, after @ ..] => Some((16 * digit(*high) + digit(*low), after)),

@@ -1,7 +1,7 @@
 -- Laws of writing at a cursor, and of decimal digits.
 -- Assumes nothing.
 use mathlib.Core.Path.{◌≡◌, refl, sym, ap, ap₂, ◌∙◌}
-use mathlib.Core.List.{List, [], ◌∷◌, ◌++◌}
+use mathlib.Core.List.{List, [], ◌∷◌, ◌++◌, append_assoc}
 use mathlib.Core.Bool.{Bool, true, false, cond}
 use Prim.Native.Nat.{ℕ, zero, suc, ◌+◌, ◌*◌, ◌/◌, ◌%◌, ◌^◌, ◌<◌, ◌≤◌}
 use native.Mathlib.Nat.{pow-suc}
@@ -9,7 +9,8 @@ use native.Mathlib.Numerals.{add-one}
 use native.Mathlib.Omega.{arith}
 use lib.Dec.{ltb}
 use lib.ListN.{length, take, drop, get_or, set, length-set, drop_of_length-le}
-use lib.Seq.{drop-cons, sets, sets-eq}
+use lib.Seq.{drop-cons, drop-drop, sets, sets-eq}
+use borrow.Rule.Slice.PartMut.{put_mid}
 use borrow.Author.Tests.{lt-ltb, le-ltb, ltb-false}
 use Rattle.text.specs.Text.{put_byte, put, digits, decimal}
 
@@ -38,6 +39,16 @@ put-sets (x ∷ xs) at out h =
 pub put-room : (xs : List ℕ) (at : ℕ) (out : List ℕ) → at + length xs ≤ length out
     → put xs (at, out) ≡ (at + length xs, take at out ++ xs ++ drop (at + length xs) out)
 put-room xs at out h = put-sets xs at out h ∙ ap (λ (l : List ℕ). (at + length xs, l)) (sets-eq xs out at h)
+
+-- and so they stand where a part of the buffer was filled with them
+pub put_whole : (xs row : List ℕ) (at n : ℕ) (out : List ℕ) → at + length xs ≤ length out → row ≡ xs → n ≡ length xs
+    → (at + length xs, put_mid at n out row) ≡ put xs (at, out)
+put_whole xs row at n out h e m =
+    rw (e, m)
+    (ap (λ (l : List ℕ). (at + length xs, l))
+    (sym (append_assoc (take at out) xs (drop (length xs) (drop at out)))
+    ∙ ap (λ (l : List ℕ). take at out ++ xs ++ l) (drop-drop (length xs) at out))
+    ∙ sym (put-room xs at out h))
 
 -- one byte is a text
 pub put_one : (byte : ℕ) (before : ℕ × List ℕ) {after : ℕ × List ℕ} → after ≡ put_byte byte before → after ≡ put (byte ∷ []) before

@@ -28,6 +28,13 @@ impl Cursor<'_> {
         ensures buffer { self.new.out.ghost_name ≡ self.old.out.ghost_name }
         ensures text { there self.new ≡ put words.now (there self.old) }
     {
+        // At once where there is room for all: byte by byte the place would go through memory.
+        if self.at <= self.out.len() && words.len() <= self.out.len() - self.at {
+            let end = self.at + words.len();
+            self.out[self.at..end].copy_from_slice(words);
+            self.at = end;
+            return;
+        }
         for &byte in words {
             self.put_byte(byte);
         }

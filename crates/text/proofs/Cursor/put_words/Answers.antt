@@ -1,6 +1,6 @@
 use mathlib.Core.Path.{◌∙◌}
 use native.Mathlib.Omega.{arith}
-use Rattle.text.proofs.Laws.{one_more, all-put}
+use Rattle.text.proofs.Laws.{put_whole, one_more, all-put}
 use Rattle.text.proofs.Cursor.put_words.Goals as goal
 
 pub loop-byte-preserved : goal.loop-byte-preserved
@@ -12,3 +12,7 @@ loop-byte-preserved c =
 
 pub returns-clause-text : goal.returns-clause-text
 returns-clause-text c = all-put _ c.loop-byte.byte-index _ _ c.loop-byte.invariant.0 (omega arith)
+
+pub returns-then-words-self-clause-text : goal.returns-then-words-self-clause-text
+returns-then-words-self-clause-text c =
+    put_whole c.args.words.now _ c.args.self.now.at _ c.args.self.now.out.now (omega (arith, c.if-self.true, c.if-words-self.true)) c.copy_from_slice.ensures.after (omega arith)
