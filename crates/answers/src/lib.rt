@@ -23,8 +23,8 @@ pub fn with_bytes(start: u32, bytes: &[u8]) -> u32
     ensures { result ≡ with_bytes start bytes.now }
 {
     let mut sum = start;
-    for &byte in bytes {
-        sum = with_byte(sum, byte);
+    for i in 0..bytes.len() {
+        sum = with_byte(sum, bytes[i]);
     }
     sum
 }

@@ -4,13 +4,12 @@ use mathlib.Core.Path.{◌≡◌, refl, sym, ap, ap₂, ◌∙◌}
 use mathlib.Core.Bool.{Bool, true, false, cond, ◌||◌, true≢false}
 use mathlib.Core.Option.{Option, none, some}
 use mathlib.Core.List.{List}
-use Prim.Native.Nat.{ℕ, zero, suc, ◌+◌, ◌≤◌, ◌<◌}
+use Prim.Native.Nat.{ℕ, zero, suc, ◌+◌, ◌-◌, ◌≤◌, ◌<◌}
 use native.Mathlib.Numerals.{add-one}
 use native.Mathlib.Omega.{arith}
 use Rattle.canvas.proofs.Covers.{by-test, or_left, or_right, or_case, split}
-use Rattle.std.specs.List.{list_any, range_with_len, find}
+use Rattle.std.specs.List.{list_any, range_with_len}
 use Rattle.bins.specs.Bins.{same, row_has, first_from}
-use Rattle.bins.specs.Told.{row_told}
 
 -- ---- the first number for which a test holds
 
@@ -123,9 +122,8 @@ row-alike r q colour first (suc count) e =
     ap₂ (λ (a b : Bool). a || b) (ap (λ (p : List ℕ). same p colour) (e first (omega arith) (omega arith)))
     (row-alike r q colour (suc first) count (λ x l h. e x (omega arith) (omega arith)))
 
--- ---- the code's searches through a range
+-- ---- the code's search through a row, by `any`
 
--- `any`
 pub row_any : (row : ℕ → List ℕ) (colour : List ℕ) (first count : ℕ)
     → list_any (λ x. same (row x) colour) (range_with_len first count) ≡ row_has row first count colour
 unfolding row_has
@@ -134,11 +132,24 @@ row_any row colour first (suc count) =
     ap (λ (b : Bool). same (row first) colour || b)
     (row_any row colour (first + 1) count ∙ ap (λ (n : ℕ). row_has row n count colour) (add-one first))
 
--- `find`
-pub first_find : (test : ℕ → Bool) (n count : ℕ) → row_told (find test (range_with_len n count)) ≡ first_from test n count
-unfolding row_told first_from
-first_find test n zero = refl
-first_find test n (suc count) =
-    by-test (test n)
-    (λ t. rw t refl)
-    (λ t. rw t (first_find test (n + 1) count ∙ ap (λ (k : ℕ). first_from test k count) (add-one n)))
+-- ---- the search for a row, on its way: what is left of it decides
+
+module _ (test : ℕ → Bool) (end n : ℕ) (whole : Option ℕ) (e : first_from test n (end - n) ≡ whole) where
+  pub first_done : end ≤ n → none ≡ whole
+  unfolding first_from
+  first_done h = let none_left : end - n ≡ 0 = omega arith in sym (ap (λ (k : ℕ). first_from test n k) none_left) ∙ e
+
+  module _ (h : n < end) where
+    rest : cond (test n) (some n) (first_from test (n + 1) (end - (n + 1))) ≡ whole
+    unfolding first_from
+    rest =
+        let one_less : end - n ≡ suc (end - (n + 1)) = omega arith in
+        ap (λ (k : ℕ). cond (test n) (some n) (first_from test k (end - (n + 1)))) (add-one n)
+        ∙ sym (ap (λ (k : ℕ). first_from test n k) one_less)
+        ∙ e
+
+    pub first-here : test n ≡ true → some n ≡ whole
+    first-here t = sym (ap (λ (b : Bool). cond b (some n) (first_from test (n + 1) (end - (n + 1)))) t) ∙ rest
+
+    pub first_next : test n ≡ false → first_from test (n + 1) (end - (n + 1)) ≡ whole
+    first_next t = sym (ap (λ (b : Bool). cond b (some n) (first_from test (n + 1) (end - (n + 1)))) t) ∙ rest

@@ -155,7 +155,12 @@ fn top_row(
     requires { (first + count ≤ stride) × (height ≤ rows_of (length canvas.now) stride) }
     ensures { row_told result ≡ (first_from (λ y. row_has (λ x. pixel_at stride canvas.now x y) first count colour) 0 height) }
 {
-    (0..height).find(|y| row_has(canvas, *y * stride, first, count, colour))
+    for y in 0..height {
+        if row_has(canvas, y * stride, first, count, colour) {
+            return Some(y);
+        }
+    }
+    None
 }
 
 // The topmost row of the picture in which one of a bin's columns holds a colour; all four bytes are compared.

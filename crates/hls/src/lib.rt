@@ -2,9 +2,10 @@
 #![tactic(auto)]
 
 ghost use Rattle.std.specs.Prelude.{◌≡◌};
+ghost use Rattle.std.specs.Float.Ieee.{to_unsigned};
 ghost use Rattle.hls.specs.Percent.{held, outside, percent_byte, percent_of};
 ghost use Rattle.hls.specs.Turn.{modulo360};
-ghost use Rattle.hls.specs.Hls.{raised, lowered, hue_to_rgb, upper, channel_byte, hls_bytes};
+ghost use Rattle.hls.specs.Hls.{raised, lowered, hue_to_rgb, upper, hls_bytes};
 ghost use Rattle.hls.specs.Exact.{exact_hls, AllBeside};
 
 // Clamps a percent to 0 to 100.
@@ -99,11 +100,11 @@ fn upper_end(lum: f64, sat: f64) -> f64
     lum + sat - lum * sat
 }
 
-// A channel's byte: the Rust's `(c * 255.0 + 0.5).floor().clamp(0.0, 255.0) as u8`.
-fn channel_byte(c: f64) -> u8
-    ensures { result ≡ channel_byte c }
+// The Rust's `.floor().clamp(0.0, 255.0) as u8`.
+fn floor_to_byte(w: f64) -> u8
+    ensures { result ≡ to_unsigned 8 w }
 {
-    std::num::saturating_f64_to_u8(c * 255.0 + 0.5)
+    std::num::saturating_f64_to_u8(w)
 }
 
 // Two promises: the bytes are those of the f64 steps in the Rust's order, and each stands beside the
@@ -126,5 +127,9 @@ pub fn hls_to_rgb(h: i32, l: i32, s: i32) -> [u8; 3]
     let r = hue_to_rgb(p, q, hue + 1.0 / 3.0);
     let g = hue_to_rgb(p, q, hue);
     let b = hue_to_rgb(p, q, hue - 1.0 / 3.0);
-    [channel_byte(r), channel_byte(g), channel_byte(b)]
+    [
+        floor_to_byte(r * 255.0 + 0.5),
+        floor_to_byte(g * 255.0 + 0.5),
+        floor_to_byte(b * 255.0 + 0.5),
+    ]
 }

@@ -1,5 +1,5 @@
 -- Laws of the loop: two advances are one, and how reading goes on after one.
-use Prim.Native.Nat.{ℕ, ◌+◌, ◌-◌, ◌*◌, ◌≤◌}
+use Prim.Native.Nat.{ℕ, ◌+◌, ◌-◌, ◌*◌, ◌≤◌, ◌<◌}
 use mathlib.Core.Bool.{Bool, true, false, cond, ◌||◌}
 use mathlib.Core.List.{List}
 use mathlib.Core.Path.{◌≡◌, refl, sym, ap, ◌∙◌, subst}
@@ -90,6 +90,19 @@ module _ {g : Ground} {bytes : List ℕ} {i left : ℕ} {f now : Frame} {p q q' 
 
 -- ---- the loop over all bytes
 
+-- the loop's turn where the reference machine takes a byte: the invariant, a byte, and no more to do than when the turn began
+pub record AtByte (g : Ground) (allowance : ℕ) (bytes : List ℕ) (whole : Reached) (room before : ℕ) (p : Palette) (l : List ℕ) (f : Frame)
+    (consumed ink : ℕ) : Type 0 where
+  pub going : Going g allowance bytes whole room p l f consumed ink
+  pub more : consumed < length bytes
+  pub left : left_over bytes consumed f ≤ before
+
+-- a command is pending: nothing was read before the byte
+pub at_pending : {g : Ground} {allowance : ℕ} {bytes : List ℕ} {whole : Reached} {room : ℕ} {p : Palette} {l : List ℕ} {f : Frame} {consumed ink : ℕ}
+    → Going g allowance bytes whole room p l f consumed ink → consumed < length bytes
+    → AtByte g allowance bytes whole room (left_over bytes consumed f) p l f consumed ink
+at_pending going more = record { going = going; more = more; left = omega arith }
+
 module _ {g : Ground} {allowance : ℕ} {bytes : List ℕ} {whole : Reached} {room : ℕ} {p q : Palette} {l m : List ℕ} {f next : Frame} {i spent : ℕ}
     {r : Advance} (going : Going g allowance bytes whole room p l f i spent) (advances : Advances g bytes i (allowance - spent) f p l r q m)
     (after : next ≡ after_advance f r) where
@@ -117,6 +130,11 @@ module _ {g : Ground} {allowance : ℕ} {bytes : List ℕ} {whole : Reached} {ro
       go : (t : Bool) → 2 * (length bytes - r.end) + pending (cond t no_command f.command).kind ≤ left_over bytes i f
       go true = omega (arith, advances.onward)
       go false = omega (arith, advances.onward)
+
+  -- where bytes are left after it
+  pub at_byte : length m ≡ length l → r.end < length bytes
+      → AtByte g allowance bytes whole room (left_over bytes i f) q m next r.end (spent + r.ink)
+  at_byte kept more = record { going = going-advanced kept; more = more; left = advance-left }
 
 -- ---- a frame made anew
 

@@ -35,8 +35,8 @@ impl Cursor<'_> {
             self.at = end;
             return;
         }
-        for &byte in words {
-            self.put_byte(byte);
+        for i in 0..words.len() {
+            self.put_byte(words[i]);
         }
     }
 

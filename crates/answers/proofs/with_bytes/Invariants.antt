@@ -5,5 +5,5 @@ use lib.ListN.{drop}
 use Rattle.answers.specs.Adler.{with_bytes}
 use Rattle.answers.proofs.with_bytes.Given as goal
 
-abbrev pub invariant-loop-byte : goal.invariant-loop-byte
-invariant-loop-byte l = with_bytes l.sum (drop l.byte-index l.bytes) ≡ with_bytes l.start l.bytes
+abbrev pub invariant-loop-i : goal.invariant-loop-i
+invariant-loop-i l = with_bytes l.sum (drop l.i l.bytes) ≡ with_bytes l.start l.bytes

@@ -6,6 +6,6 @@ use Rattle.text.specs.Text.{put}
 use Rattle.text.specs.Stand.{there}
 use Rattle.text.proofs.Cursor.put_words.Given as goal
 
-abbrev pub invariant-loop-byte : goal.invariant-loop-byte
-invariant-loop-byte l =
-    (put (drop l.byte-index l.words) (there l.self) ≡ put l.words (there l.initial.self)) × (l.self.out.ghost_name ≡ l.initial.self.out.ghost_name)
+abbrev pub invariant-loop-i : goal.invariant-loop-i
+invariant-loop-i l =
+    (put (drop l.i l.words) (there l.self) ≡ put l.words (there l.initial.self)) × (l.self.out.ghost_name ≡ l.initial.self.out.ghost_name)

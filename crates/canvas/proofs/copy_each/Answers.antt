@@ -5,7 +5,7 @@ use native.Mathlib.Numerals.{add-one}
 use native.Mathlib.Omega.{arith}
 use lib.ListN.{length, drop, set, length-set, length-drop}
 use lib.Seq.{paste, paste-zero, paste-suc, get_or-drop}
-use Rattle.canvas.proofs.copy_bytes.Goals as goal
+use Rattle.canvas.proofs.copy_each.Goals as goal
 
 pub loop-j-init : goal.loop-j-init
 loop-j-init c = (paste-zero c.args.out.now c.args.at (drop c.args.from c.args.canvas.now), refl, zero-le)
